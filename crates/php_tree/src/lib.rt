@@ -1,0 +1,12 @@
+//! Tokens and trees of PHP sources. No byte is lost: a token carries the trivia before it.
+#![tactic(auto)]
+
+mod kind;
+mod node;
+mod token;
+mod version;
+
+pub use kind::NodeKind;
+pub use node::{Node, Part};
+pub use token::{Token, TokenKind};
+pub use version::Version;
