@@ -1,5 +1,5 @@
 -- Where tokens and nodes stand, in bytes from the file's front.
-use Rattle.std.specs.Prelude.{◌≡◌, ℕ, ◌+◌, List, [], ◌∷◌, length}
+use Rattle.std.specs.Prelude.{◌≡◌, Bool, true, nat_eq, ◌&&◌, ℕ, ◌+◌, List, [], ◌∷◌, length}
 use Rattle.php_tree.specs.declared.token.Token.{Token}
 use Rattle.php_tree.specs.Tree.{Forest, none, leaf, node, File}
 
@@ -34,6 +34,11 @@ placed_file f = record {
 abbrev pub ArePlaced : ℕ → List Token → Type 0
 ArePlaced at [] = Unit {0}
 ArePlaced at (t ∷ ts) = (t.start ≡ at + length t.lead) × ArePlaced (behind at t) ts
+
+-- the same as a test
+abbrev pub are_placed : ℕ → List Token → Bool
+are_placed at [] = true
+are_placed at (t ∷ ts) = nat_eq t.start (at + length t.lead) && are_placed (behind at t) ts
 
 -- the place of a node with these tokens, where this token follows: from its first token's text to its last one's, or
 -- the empty place before the next token

@@ -1,11 +1,13 @@
 //! Tokens and trees of PHP sources. No byte is lost: a token carries the trivia before it.
 #![tactic(auto)]
 
+mod file;
 mod kind;
 mod node;
 mod token;
 mod version;
 
+pub use file::FileTree;
 pub use kind::NodeKind;
 pub use node::{Node, Part};
 pub use token::{Token, TokenKind};
