@@ -39,14 +39,3 @@ ArePlaced at (t ∷ ts) = (t.start ≡ at + length t.lead) × ArePlaced (behind 
 abbrev pub are_placed : ℕ → List Token → Bool
 are_placed at [] = true
 are_placed at (t ∷ ts) = nat_eq t.start (at + length t.lead) && are_placed (behind at t) ts
-
--- the place of a node with these tokens, where this token follows: from its first token's text to its last one's, or
--- the empty place before the next token
-abbrev pub start_of : List Token → Token → ℕ
-start_of [] next = next.start
-start_of (t ∷ ts) next = t.start
-
-abbrev pub stop_of : List Token → Token → ℕ
-stop_of [] next = next.start
-stop_of (t ∷ []) next = t.start + length t.text
-stop_of (t ∷ u ∷ ts) next = stop_of (u ∷ ts) next
