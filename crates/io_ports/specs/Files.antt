@@ -1,7 +1,8 @@
 -- Files by path, and what the calls on them do.
-use Rattle.std.specs.Prelude.{◌≡◌, ◌≢◌, ℕ, List, [], ◌∷◌, ◌++◌, length, take, if◌then◌else◌, nat_lt, Option, Some, None, Result, OnOk, IsErrOf}
+use Rattle.std.specs.Prelude.{◌≡◌, ◌≢◌, ℕ, List, [], ◌∷◌, ◌++◌, length, take, if◌then◌else◌, nat_eq, nat_lt, IsTrue, All, codes, Option, Some, None, Result, OnOk, IsErrOf}
 use Rattle.std.specs.Ordering.{nat_cmp}
 use Rattle.std.specs.declared.cmp.Ordering.TheVariants.{Less}
+use Rattle.std.specs.List.{ends_with}
 use Rattle.std.specs.Str.{bytes_eq}
 use Rattle.std.specs.Cmp.Lexicographic.{slice_cmp}
 use Rattle.std.specs.BTreeMap.{insert_entry}
@@ -58,3 +59,11 @@ abbrev pub IsTree : List File → Type 0
 IsTree [] = Unit {0}
 IsTree (f ∷ []) = Unit {0}
 IsTree (f ∷ g ∷ fs) = (slice_cmp nat_cmp f.0 g.0 ≡ Less) × IsTree (g ∷ fs)
+
+-- a path whose name ends in `.php`
+abbrev pub EndsInPhp : List ℕ → Type 0
+EndsInPhp path = IsTrue (ends_with nat_eq path (codes ".php"))
+
+-- the files of a tree of sources
+abbrev pub IsSources : List File → Type 0
+IsSources files = IsTree files × All (λ f. EndsInPhp f.0) files

@@ -1,0 +1,50 @@
+// Sources in memory, of which no call fails.
+ghost use Rattle.std.specs.Prelude.{◌≡◌};
+ghost use Rattle.io_ports.specs.Files.{IsSources};
+ghost use Rattle.io_ports.specs.Memory.{calm_source_files};
+
+use crate::fault::PortFault;
+use crate::memory::files;
+use crate::source::{Found, SourceTree};
+use span_edits::{Bytes, PathText};
+use std::alloc::Global;
+
+/// Sources in memory, of which no call fails. Contracts see `calm_source_files`.
+#[derive(Drop)]
+pub struct CalmSource {
+    files: Vec<(PathText, Bytes)>,
+}
+
+impl CalmSource {
+    /// These files, whose paths strictly ascend and end in `.php`.
+    pub fn new(files: Vec<(PathText, Bytes)>) -> CalmSource
+        requires { IsSources files.items }
+        ensures { calm_source_files result ≡ files.items }
+    {
+        CalmSource { files }
+    }
+
+    /// The files.
+    pub fn files(&self) -> &[(PathText, Bytes)]
+        ensures { result.now ≡ calm_source_files self.now }
+    {
+        self.files.as_slice()
+    }
+}
+
+impl SourceTree for CalmSource {
+    ghost use Rattle.std.specs.Prelude.{Some};
+    ghost use Rattle.io_ports.specs.Memory.{calm_source_files};
+
+    ghost files = { λ s. Some (calm_source_files s) };
+
+    ghost faults = { λ _. 0 };
+
+    fn paths(&mut self, alloc: Global) -> Result<Vec<PathText>, PortFault> {
+        Ok(files::paths_of(alloc, self.files.as_slice())?)
+    }
+
+    fn read(&mut self, path: &str, max: u64, into: &mut Vec<u8>) -> Result<Found, PortFault> {
+        Ok(files::read_of(self.files.as_slice(), path, max, into)?)
+    }
+}

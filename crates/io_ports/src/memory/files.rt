@@ -1,0 +1,95 @@
+// Files in memory: looking one up, reading it, setting it.
+ghost use Rattle.std.specs.Prelude.{◌≡◌, ◌<◌, ◌≤◌, ℕ, List, length, insert, map, Some, slice_get, slice_set, OnOk, OnErr, IfOk, IfErr, MatchResult};
+ghost use Rattle.std.specs.Option.{option_copied};
+ghost use Rattle.io_ports.specs.Files.{File, content, Reads, put_file};
+
+use crate::source::Found;
+use span_edits::{Bytes, PathText};
+use std::alloc::{AllocError, Global};
+use std::cmp::Ordering;
+
+// The bytes of a path.
+fn find<'a>(files: &'a [(PathText, Bytes)], path: &str) -> Option<&'a Bytes>
+    ensures { option_copied result ≡ content path.now files.now }
+{
+    for file in files {
+        if file.0.as_str() == path {
+            return Some(&file.1);
+        }
+    }
+    None
+}
+
+/// The paths, in the order of the files.
+pub fn paths_of(alloc: Global, files: &[(PathText, Bytes)]) -> Result<Vec<PathText>, AllocError>
+    ensures { IfOk result (λ ps. ps.items ≡ map (λ f. f.0) files.now) }
+{
+    let mut paths = Vec::new(alloc);
+    for file in files {
+        paths.push(file.0.copy(alloc)?)?;
+    }
+    Ok(paths)
+}
+
+/// Appends a file of at most `max` bytes.
+pub fn read_of(
+    files: &[(PathText, Bytes)],
+    path: &str,
+    max: u64,
+    into: &mut Vec<u8>,
+) -> Result<Found, AllocError>
+    ensures told { IfOk result (λ came. Reads files.now path.now max came into.old.items into.new.items) }
+    ensures err { OnErr result (into.new.items ≡ into.old.items) }
+{
+    match find(files, path) {
+        None => Ok(Found::Absent),
+        Some(bytes) => {
+            let bytes = bytes.as_slice();
+            if bytes.len() as u64 > max {
+                return Ok(Found::Longer);
+            }
+            into.extend_from_slice(bytes)?;
+            Ok(Found::Whole)
+        }
+    }
+}
+
+// Where a path stands, or where it goes.
+fn place_of(files: &[(PathText, Bytes)], path: &str) -> Result<usize, usize>
+    ensures within { MatchResult result (λ at. at < length files.now) (λ at. at ≤ length files.now) }
+    ensures found { IfOk result (λ at. (bytes : List ℕ) (f : File) → slice_get files.now at ≡ Some f → put_file path.now bytes files.now ≡ slice_set files.now at (f.0, bytes)) }
+    ensures absent { IfErr result (λ at. (bytes : List ℕ) → put_file path.now bytes files.now ≡ insert files.now at (path.now, bytes)) }
+{
+    for at in 0..files.len() {
+        match path.cmp(files[at].0.as_str()) {
+            Ordering::Less => return Err(at),
+            Ordering::Equal => return Ok(at),
+            Ordering::Greater => {}
+        }
+    }
+    Err(files.len())
+}
+
+/// Sets a file among these, which stand in byte order of their paths.
+pub fn put_into(
+    alloc: Global,
+    files: &mut Vec<(PathText, Bytes)>,
+    path: &str,
+    bytes: &[u8],
+) -> Result<(), AllocError>
+    ensures ok { OnOk result (files.new.items ≡ put_file path.now bytes.now files.old.items) }
+    ensures err { OnErr result (files.new.items ≡ files.old.items) }
+{
+    let bytes = Bytes::new(Vec::from_slice(alloc, bytes)?);
+    match place_of(files.as_slice(), path) {
+        Ok(at) => {
+            files[at].1 = bytes;
+            Ok(())
+        }
+        Err(at) => {
+            let path = PathText::new(String::from_str(alloc, path)?);
+            files.insert(at, (path, bytes))?;
+            Ok(())
+        }
+    }
+}

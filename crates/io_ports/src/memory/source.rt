@@ -1,0 +1,63 @@
+// Sources in memory.
+ghost use Rattle.std.specs.Prelude.{◌≡◌};
+ghost use Rattle.io_ports.specs.Files.{IsSources};
+ghost use Rattle.io_ports.specs.Memory.{memory_source_files, memory_source_faults};
+
+use crate::fault::PortFault;
+use crate::memory::files;
+use crate::memory::tally::Tally;
+use crate::source::{Found, SourceTree};
+use span_edits::{Bytes, PathText};
+use std::alloc::Global;
+
+/// Sources in memory. Contracts see `memory_source_files` and `memory_source_faults`.
+#[derive(Drop)]
+pub struct MemorySource {
+    files: Vec<(PathText, Bytes)>,
+    tally: Tally,
+}
+
+impl MemorySource {
+    /// These files, whose paths strictly ascend and end in `.php`. `failing` has the numbers, from
+    /// 1, of the calls that fail.
+    pub fn new(files: Vec<(PathText, Bytes)>, failing: Vec<u64>) -> MemorySource
+        requires { IsSources files.items }
+        ensures files { memory_source_files result ≡ files.items }
+        ensures faults { memory_source_faults result ≡ 0 }
+    {
+        MemorySource {
+            files,
+            tally: Tally::new(failing),
+        }
+    }
+
+    /// The files.
+    pub fn files(&self) -> &[(PathText, Bytes)]
+        ensures { result.now ≡ memory_source_files self.now }
+    {
+        self.files.as_slice()
+    }
+}
+
+impl SourceTree for MemorySource {
+    ghost use Rattle.std.specs.Prelude.{Some};
+    ghost use Rattle.io_ports.specs.Memory.{memory_source_files, memory_source_faults};
+
+    ghost files = { λ s. Some (memory_source_files s) };
+
+    ghost faults = { memory_source_faults };
+
+    fn paths(&mut self, alloc: Global) -> Result<Vec<PathText>, PortFault> {
+        if self.tally.fails() {
+            return Err(PortFault::Failed);
+        }
+        Ok(files::paths_of(alloc, self.files.as_slice())?)
+    }
+
+    fn read(&mut self, path: &str, max: u64, into: &mut Vec<u8>) -> Result<Found, PortFault> {
+        if self.tally.fails() {
+            return Err(PortFault::Failed);
+        }
+        Ok(files::read_of(self.files.as_slice(), path, max, into)?)
+    }
+}
