@@ -1,2 +1,15 @@
 pub mod Value
 pub mod Cause
+pub mod Ints
+pub mod Text
+pub mod Differences
+pub mod Convert
+pub mod Keys
+pub mod Compare
+pub mod Cells
+pub mod Identical
+pub mod Bits
+pub mod Arrays
+pub mod Copies
+pub mod Arithmetic
+pub mod Offsets
