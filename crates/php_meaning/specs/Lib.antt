@@ -13,3 +13,12 @@ pub mod Arrays
 pub mod Copies
 pub mod Arithmetic
 pub mod Offsets
+pub mod Literals
+pub mod World
+pub mod Script
+pub mod Statements
+pub mod Rules
+pub mod Input
+pub mod Run
+pub mod Laws
+pub mod Examples

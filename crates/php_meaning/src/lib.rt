@@ -1,2 +1,9 @@
-//! The two meanings of PHP sources, 7.4's and 8.3's, as definitions, and laws over them.
+//! The two meanings of PHP sources, 7.4's and 8.3's, as definitions, and laws over them. No program runs this crate's
+//! functions: each carries a law as its contract.
 #![tactic(auto)]
+
+mod runs;
+
+pub use runs::{
+    parens_keep_meaning, same_where_unasked, three_ternaries_echo_4, two_ternaries_echo_b,
+};

@@ -1,0 +1,58 @@
+-- Laws of runs.
+use Rattle.std.specs.Prelude.{◌≡◌, ℕ, List, [], ◌∷◌}
+use Rattle.php_tree.specs.declared.token.Token.{Token}
+use Rattle.php_tree.specs.declared.version.Version.TheVariants.{V74, V83}
+use Rattle.php_tree.specs.declared.kind.NodeKind.TheVariants.{Paren}
+use Rattle.php_tree.specs.declared.kind.NodeKind.{NodeKind}
+use Rattle.php_tree.specs.Tree.{Forest, none, leaf, node}
+use Rattle.php_meaning.specs.World.{Bytes, End, Going, Ended, Threw, Outside}
+use Rattle.php_meaning.specs.Input.{Input}
+use Rattle.php_meaning.specs.Run.{Program, Mark, Answer, run}
+
+-- the run stays inside the profile and reaches no mark
+abbrev pub IsInside : End → Type 0
+IsInside Going = Unit {0}
+IsInside (Ended status) = Unit {0}
+IsInside (Threw class) = Unit {0}
+IsInside (Outside place cause) = ⊥
+
+-- the same echo and the same end
+pub record SameRun (a b : Answer) : Type 0 where
+  pub echo : b.echo ≡ a.echo
+  pub end : b.end ≡ a.end
+
+-- a 7.4 run that asks at no point where the versions differ is the 8.3 run
+abbrev pub SameWhereUnasked : Type 0
+SameWhereUnasked =
+    (p : Program) (marks : List Mark) (entry : Bytes) (input : Input) (n : ℕ)
+    → (run V74 p marks entry input n).asked ≡ [] → run V83 p marks entry input n ≡ run V74 p marks entry input n
+
+-- What the second program does in 8.3 is what the first one does in 7.4: from every entry, on every input and for every
+-- bound, where the first run stays inside, the second one has the same echo and the same end.
+abbrev pub KeepsMeaning : Program → List Mark → Program → Type 0
+KeepsMeaning source marks written =
+    (entry : Bytes) (input : Input) (n : ℕ)
+    → IsInside (run V74 source marks entry input n).end
+    → SameRun (run V74 source marks entry input n) (run V83 written [] entry input n)
+
+-- ---- parentheses
+
+-- The second forest is the first one with some nodes in parentheses. Trivia and places of tokens don't count.
+pub data Parenthesized : Forest → Forest → Type 0 where
+  ends : Parenthesized none none
+  token : {t u : Token} {f g : Forest} → u.text ≡ t.text → Parenthesized f g → Parenthesized (leaf t f) (leaf u g)
+  inner : {k : NodeKind} {c d f g : Forest} → Parenthesized c d → Parenthesized f g → Parenthesized (node k c f) (node k d g)
+  parens : {k j : NodeKind} {c d f g : Forest} {o p : Token}
+      → Parenthesized (node k c none) (node j d none) → Parenthesized f g
+      → Parenthesized (node k c f) (node Paren (leaf o (node j d (leaf p none))) g)
+
+-- the same of the files of two programs, under the same paths
+pub data AreParenthesized : List (Bytes × Forest) → List (Bytes × Forest) → Type 0 where
+  no_files : AreParenthesized [] []
+  file : {path : Bytes} {f g : Forest} {fs gs : List (Bytes × Forest)} → Parenthesized f g → AreParenthesized fs gs → AreParenthesized ((path, f) ∷ fs) ((path, g) ∷ gs)
+
+-- Parentheses change no run of these kinds of nodes.
+abbrev pub ParensKeepMeaning : Type 0
+ParensKeepMeaning =
+    (source written : Program) (marks : List Mark)
+    → AreParenthesized source.files written.files → written.prepend ≡ source.prepend → KeepsMeaning source marks written

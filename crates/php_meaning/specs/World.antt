@@ -1,0 +1,76 @@
+-- What a run changes and leaves behind: its store, its echo, and what it tells of itself.
+use Rattle.std.specs.Prelude.{ℕ, ℤ, List, Option}
+use Rattle.php_meaning.specs.Value.{Value, Cell}
+use Rattle.php_meaning.specs.Cause.{Cause}
+use Rattle.php_meaning.specs.Differences.{Difference}
+
+-- a path, and other texts, by their bytes
+abbrev pub Bytes : Type 0
+Bytes = List ℕ
+
+-- a declaration of a tree: its file, and its number among the declarations there
+pub record Declared : Type 0 where
+  pub file : Bytes
+  pub number : ℕ
+
+-- An object: its class, and the cells of its properties by name.
+pub record Object : Type 0 where
+  pub class : Bytes
+  pub properties : List (Bytes × Cell)
+
+-- A body that runs: the function or method, or none for a file's own statements; its variables by name; its object;
+-- and the class that its code stands in.
+pub record Frame : Type 0 where
+  pub body : Option Declared
+  pub variables : List (Bytes × Cell)
+  pub this : Option ℕ
+  pub class : Option Bytes
+
+-- The store: what each cell holds, how many cells were made, the body that runs and those that wait for it (the last
+-- one is the file's), the cells of statics and static properties by slot, the objects by number, the constants by
+-- name, and what was declared and which files were started.
+pub record Store : Type 0 where
+  pub held : Cell → Value
+  pub made : ℕ
+  pub here : Frame
+  pub waiting : List Frame
+  pub statics : List (ℕ × Cell)
+  pub objects : List Object
+  pub constants : List (Bytes × Value)
+  pub declared : List Declared
+  pub started : List Bytes
+
+-- a node of a file by its number, or the file as a whole
+pub record Place : Type 0 where
+  pub file : Bytes
+  pub node : Option ℕ
+
+-- How a run stands in the end: it goes on, it ended with a status, it ended by an exception of a class that nothing
+-- caught, or it has no meaning from a place on.
+pub data End : Type 0 where
+  Going : End
+  Ended : ℤ → End
+  Threw : Bytes → End
+  Outside : Place → Cause → End
+
+-- when a node is visited: before it, after it, or while an exception goes through it
+pub data Moment : Type 0 where
+  Before : Moment
+  After : Moment
+  Thrown : Moment
+
+-- a visit of a node: where and when, with its value after it, and the store
+pub record Visit : Type 0 where
+  pub place : Place
+  pub body : Option Declared
+  pub moment : Moment
+  pub value : Option Value
+  pub store : Store
+
+-- The world of a run. `visits` and `asked` only tell of the run, the newest first: the program doesn't see them.
+pub record World : Type 0 where
+  pub store : Store
+  pub echo : Bytes
+  pub turns : ℕ
+  pub visits : List Visit
+  pub asked : List Difference
