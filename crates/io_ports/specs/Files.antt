@@ -1,5 +1,5 @@
 -- Files by path, and what the calls on them do.
-use Rattle.std.specs.Prelude.{◌≡◌, ◌≢◌, ℕ, List, [], ◌∷◌, ◌++◌, length, take, if◌then◌else◌, nat_eq, nat_lt, IsTrue, All, codes, Option, Some, None, Result, OnOk, IsErrOf}
+use Rattle.std.specs.Prelude.{◌≡◌, ◌≢◌, ℕ, List, [], ◌∷◌, ◌++◌, length, take, if◌then◌else◌, nat_eq, nat_lt, IsTrue, codes, Option, Some, None, Result, OnOk, IsErrOf}
 use Rattle.std.specs.Ordering.{nat_cmp}
 use Rattle.std.specs.declared.cmp.Ordering.TheVariants.{Less}
 use Rattle.std.specs.List.{ends_with}
@@ -60,10 +60,20 @@ IsTree [] = Unit {0}
 IsTree (f ∷ []) = Unit {0}
 IsTree (f ∷ g ∷ fs) = (slice_cmp nat_cmp f.0 g.0 ≡ Less) × IsTree (g ∷ fs)
 
+-- all these paths are below a path
+abbrev pub AllBelow : List ℕ → List (List ℕ) → Type 0
+AllBelow path [] = Unit {0}
+AllBelow path (p ∷ ps) = (slice_cmp nat_cmp p path ≡ Less) × AllBelow path ps
+
 -- a path whose name ends in `.php`
 abbrev pub EndsInPhp : List ℕ → Type 0
 EndsInPhp path = IsTrue (ends_with nat_eq path (codes ".php"))
 
+-- each path ends in `.php`
+abbrev pub ArePhp : List File → Type 0
+ArePhp [] = Unit {0}
+ArePhp (f ∷ fs) = EndsInPhp f.0 × ArePhp fs
+
 -- the files of a tree of sources
 abbrev pub IsSources : List File → Type 0
-IsSources files = IsTree files × All (λ f. EndsInPhp f.0) files
+IsSources files = IsTree files × ArePhp files
