@@ -10,6 +10,8 @@ mod report;
 mod sink;
 mod source;
 mod target;
+#[cfg(test)]
+mod tests;
 
 pub use calm::{CalmSink, CalmSource, CalmTarget};
 pub use fault::PortFault;

@@ -1,7 +1,7 @@
 // A tree of sources.
-ghost use Rattle.std.specs.Prelude.{◌≡◌, ℕ, List, Option, map, IfSome, IfOk, OnErr, IsSome};
+ghost use Rattle.std.specs.Prelude.{◌≡◌, ℕ, List, Option, map, IfSome, IfOk, OnOk, OnErr, IsSome};
 ghost use Rattle.io_ports.specs.Causes.{HasCause};
-ghost use Rattle.io_ports.specs.Files.{Reads};
+ghost use Rattle.io_ports.specs.Files.{IsSources, Reads};
 
 use crate::fault::PortFault;
 use span_edits::PathText;
@@ -29,6 +29,7 @@ pub trait SourceTree {
     /// The paths of the files whose names end in `.php`, with `/` between folders, in byte order.
     fn paths(&mut self, alloc: Global) -> Result<Vec<PathText>, PortFault>
         ensures told { IfSome (files self.old) (λ fs. IfOk result (λ ps. ps.items ≡ map (λ f. f.0) fs)) }
+        ensures order { IfSome (files self.old) (λ fs. OnOk result (IsSources fs)) }
         ensures same { files self.new ≡ files self.old }
         ensures cause { HasCause (faults self.old) (faults self.new) result };
 

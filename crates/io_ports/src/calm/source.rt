@@ -1,7 +1,7 @@
 // Sources in memory, of which no call fails.
 ghost use Rattle.std.specs.Prelude.{◌≡◌};
+ghost use Rattle.io_ports.specs.Props.{sources_prop};
 ghost use Rattle.io_ports.specs.Files.{IsSources};
-ghost use Rattle.io_ports.specs.Memory.{calm_source_files};
 
 use crate::fault::PortFault;
 use crate::memory::files;
@@ -13,9 +13,12 @@ use std::alloc::Global;
 #[derive(Drop)]
 pub struct CalmSource {
     files: Vec<(PathText, Bytes)>,
+    ghost ordered: { IsSources files.items } by { sources_prop files.items },
 }
 
 impl CalmSource {
+    ghost use Rattle.io_ports.specs.Memory.{calm_source_files};
+
     /// These files, whose paths strictly ascend and end in `.php`.
     pub fn new(files: Vec<(PathText, Bytes)>) -> CalmSource
         requires { IsSources files.items }

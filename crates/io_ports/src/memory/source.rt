@@ -1,7 +1,7 @@
 // Sources in memory.
 ghost use Rattle.std.specs.Prelude.{◌≡◌};
+ghost use Rattle.io_ports.specs.Props.{sources_prop};
 ghost use Rattle.io_ports.specs.Files.{IsSources};
-ghost use Rattle.io_ports.specs.Memory.{memory_source_files, memory_source_faults};
 
 use crate::fault::PortFault;
 use crate::memory::files;
@@ -15,9 +15,12 @@ use std::alloc::Global;
 pub struct MemorySource {
     files: Vec<(PathText, Bytes)>,
     tally: Tally,
+    ghost ordered: { IsSources files.items } by { sources_prop files.items },
 }
 
 impl MemorySource {
+    ghost use Rattle.io_ports.specs.Memory.{memory_source_files, memory_source_faults};
+
     /// These files, whose paths strictly ascend and end in `.php`. `failing` has the numbers, from
     /// 1, of the calls that fail.
     pub fn new(files: Vec<(PathText, Bytes)>, failing: Vec<u64>) -> MemorySource
