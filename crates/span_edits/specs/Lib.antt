@@ -1,0 +1,4 @@
+pub mod Crosses
+pub mod EditList
+pub mod Places
+pub mod Splice
