@@ -1,0 +1,6 @@
+pub mod Job
+pub mod Jobs
+pub mod Keeper
+pub mod Machine
+pub mod OwnerJobs
+pub mod Work
