@@ -1,0 +1,4 @@
+pub mod Patches
+pub mod Rewritten
+pub mod Changes
+pub mod Laws
