@@ -1,2 +1,3 @@
+pub mod LawLemmas
 pub mod PlaceLemmas
 pub mod SpliceLemmas

@@ -47,7 +47,7 @@ is_replaced-none place from to (e ∷ edits) h a =
     is_replaced-other place e edits (inr (omega (arith, a.0))) ∙ is_replaced-none place e.span.end to edits (omega (arith, a.0, e.span.ordered)) a.1
 
 -- one place of a splice
-step : (place : ℕ) (b : ℕ) (bytes : List ℕ) (edits : List Edit) (texts : List ℕ) (replaced : Bool) (rest : List ℕ) → texts_at place edits ≡ texts → is_replaced place edits ≡ replaced → spliced_from (place + 1) bytes edits ≡ rest → spliced_from place (b ∷ bytes) edits ≡ texts ++ cond replaced [] (b ∷ []) ++ rest
+pub step : (place : ℕ) (b : ℕ) (bytes : List ℕ) (edits : List Edit) (texts : List ℕ) (replaced : Bool) (rest : List ℕ) → texts_at place edits ≡ texts → is_replaced place edits ≡ replaced → spliced_from (place + 1) bytes edits ≡ rest → spliced_from place (b ∷ bytes) edits ≡ texts ++ cond replaced [] (b ∷ []) ++ rest
 step place b bytes edits texts replaced rest t r s = rw (t, r, s) refl
 
 -- an edit that lies before a place changes nothing from there on
@@ -76,7 +76,8 @@ spliced_from-inside (suc n) place to (b ∷ bytes) e edits low eq h a =
     step place b bytes (e ∷ edits) [] true _ (texts_at-other place e edits (λ same. omega arith) ∙ texts_at-none place e.span.end to edits (omega arith) a) (is_replaced-here place e edits (omega arith) (omega arith))
     (spliced_from-inside n (place + 1) to bytes e edits (omega arith) (omega arith) (omega arith) a)
 
-regroup : (a b c d : List ℕ) → ((a ++ b) ++ c) ++ d ≡ a ++ ((b ++ c) ++ d)
+-- a bracket moves
+pub regroup : (a b c d : List ℕ) → ((a ++ b) ++ c) ++ d ≡ a ++ ((b ++ c) ++ d)
 regroup a b c d = simp append_assoc
 
 -- from the first edit's start on: its text, then what comes behind its span
