@@ -1,1 +1,3 @@
+pub mod JobsLemmas
+pub mod JobsMapLemmas
 pub mod OwnerJobsLemmas

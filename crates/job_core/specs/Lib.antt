@@ -1,5 +1,6 @@
 pub mod Job
 pub mod Jobs
+pub mod JobsMap
 pub mod Keeper
 pub mod Machine
 pub mod OwnerJobs

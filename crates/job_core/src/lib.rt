@@ -4,6 +4,7 @@
 mod command;
 mod fault;
 mod job;
+mod jobs;
 mod keeper;
 mod owner_jobs;
 mod work;
@@ -12,5 +13,6 @@ pub use command::{Command, Reply};
 pub use fault::{KeepFault, WorkFault};
 pub use io_ports::{Bytes, PathText, Report, Span, Weight};
 pub use job::{Job, JobFile, JobHead, Judged, Made, Verdict};
+pub use jobs::Jobs;
 pub use keeper::Keeper;
 pub use work::Work;
