@@ -73,13 +73,13 @@ next_key (Some (pos n)) = Alike (key_within (pos n +ℤ pos 1))
 next_key (Some (negsuc n)) = by_version_map key_within (key_after_negative (negsuc n))
 
 -- the greater of two ints
-abbrev pub greater : ℤ → ℤ → ℤ
-greater i j = if int_lt i j then j else i
+abbrev pub greater_of : ℤ → ℤ → ℤ
+greater_of i j = if int_lt i j then j else i
 
 -- the largest int key, once this one is used too
 abbrev pub raised : Key → Option ℤ → Option ℤ
 raised (IntKey i) None = Some i
-raised (IntKey i) (Some j) = Some (greater i j)
+raised (IntKey i) (Some j) = Some (greater_of i j)
 raised (TextKey t) largest = largest
 
 -- ---- writing

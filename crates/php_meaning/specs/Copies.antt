@@ -7,24 +7,24 @@ use Rattle.php_meaning.specs.Cause.{Outcome, Gives, Outside, Reference, and_then
 use Rattle.php_meaning.specs.Cells.{Cells}
 use Rattle.php_meaning.specs.Arrays.{count}
 
--- A value copied: `go` copies what lies in a cell, and the entries of each array are numbered from `first` on.
+-- A value copied: `in_cell` copies what lies in a cell, and the entries of each array are numbered from `first` on.
 abbrev mutual
   pub copied_by : Cells → (Value → Outcome Value) → ℕ → Value → Outcome Value
-  copied_by cells go first Null = Gives Null
-  copied_by cells go first (Truth b) = Gives (Truth b)
-  copied_by cells go first (Int i) = Gives (Int i)
-  copied_by cells go first (Text t) = Gives (Text t)
-  copied_by cells go first (Object n) = Gives (Object n)
-  copied_by cells go first (Arr largest next es) =
-      outcome_map (Arr largest (first + count es)) (copied_entries cells go first first es)
+  copied_by cells in_cell first Null = Gives Null
+  copied_by cells in_cell first (Truth b) = Gives (Truth b)
+  copied_by cells in_cell first (Int i) = Gives (Int i)
+  copied_by cells in_cell first (Text t) = Gives (Text t)
+  copied_by cells in_cell first (Object n) = Gives (Object n)
+  copied_by cells in_cell first (Arr largest next es) =
+      outcome_map (Arr largest (first + count es)) (copied_entries cells in_cell first first es)
 
   pub copied_entries : Cells → (Value → Outcome Value) → ℕ → ℕ → Entries → Outcome Entries
-  copied_entries cells go first n none = Gives none
-  copied_entries cells go first n (own k m v rest) =
-      and_then (copied_by cells go first v) (λ w. outcome_map (own k n w) (copied_entries cells go first (suc n) rest))
-  copied_entries cells go first n (shared k m c rest) =
+  copied_entries cells in_cell first n none = Gives none
+  copied_entries cells in_cell first n (own k m v rest) =
+      and_then (copied_by cells in_cell first v) (λ w. outcome_map (own k n w) (copied_entries cells in_cell first (suc n) rest))
+  copied_entries cells in_cell first n (shared k m c rest) =
       if cells.has_one_holder c
-      then and_then (go (cells.value_in c)) (λ w. outcome_map (own k n w) (copied_entries cells go first (suc n) rest))
+      then and_then (in_cell (cells.value_in c)) (λ w. outcome_map (own k n w) (copied_entries cells in_cell first (suc n) rest))
       else Outside Reference
 
 -- a value with at most so many cells in one another, copied

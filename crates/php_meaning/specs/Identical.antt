@@ -38,26 +38,26 @@ against cells around k (own l n w others) found after =
 against cells around k (shared l n c others) found after =
     and_also (Gives (is_same_key k l)) (and_also (inside c around (λ more. found more (cells.value_in c))) (after others))
 
--- Two values, where `go` compares what lies in a cell of the left one.
+-- Two values, where `in_cell` compares what lies in a cell of the left one.
 abbrev mutual
   pub same_values : Cells → Comparing → List Cell → List Cell → Value → Value → Outcome Bool
-  same_values cells go left right Null Null = Gives true
-  same_values cells go left right (Truth a) (Truth b) = Gives (beq a b)
-  same_values cells go left right (Int i) (Int j) = Gives (is_same_int i j)
-  same_values cells go left right (Text s) (Text t) = Gives (is_same_text s t)
-  same_values cells go left right (Object m) (Object n) = Gives (m == n)
-  same_values cells go left right (Arr largest next es) (Arr largest' next' fs) = same_entries cells go left right es fs
-  same_values cells go left right a b = Gives false
+  same_values cells in_cell left right Null Null = Gives true
+  same_values cells in_cell left right (Truth a) (Truth b) = Gives (beq a b)
+  same_values cells in_cell left right (Int i) (Int j) = Gives (is_same_int i j)
+  same_values cells in_cell left right (Text s) (Text t) = Gives (is_same_text s t)
+  same_values cells in_cell left right (Object m) (Object n) = Gives (m == n)
+  same_values cells in_cell left right (Arr largest next es) (Arr largest' next' fs) = same_entries cells in_cell left right es fs
+  same_values cells in_cell left right a b = Gives false
 
   pub same_entries : Cells → Comparing → List Cell → List Cell → Entries → Entries → Outcome Bool
-  same_entries cells go left right none none = Gives true
-  same_entries cells go left right none (own l n w others) = Gives false
-  same_entries cells go left right none (shared l n c others) = Gives false
-  same_entries cells go left right (own k n v rest) fs =
-      against cells right k fs (λ right' w. same_values cells go left right' v w) (λ others. same_entries cells go left right rest others)
-  same_entries cells go left right (shared k n c rest) fs =
-      against cells right k fs (λ right' w. inside c left (λ left'. go left' right' (cells.value_in c) w))
-      (λ others. same_entries cells go left right rest others)
+  same_entries cells in_cell left right none none = Gives true
+  same_entries cells in_cell left right none (own l n w others) = Gives false
+  same_entries cells in_cell left right none (shared l n c others) = Gives false
+  same_entries cells in_cell left right (own k n v rest) fs =
+      against cells right k fs (λ right' w. same_values cells in_cell left right' v w) (λ others. same_entries cells in_cell left right rest others)
+  same_entries cells in_cell left right (shared k n c rest) fs =
+      against cells right k fs (λ right' w. inside c left (λ left'. in_cell left' right' (cells.value_in c) w))
+      (λ others. same_entries cells in_cell left right rest others)
 
 -- Two values, of which the left one has at most so many cells in one another.
 abbrev pub same_within : ℕ → Cells → Comparing

@@ -22,3 +22,5 @@ pub mod Input
 pub mod Run
 pub mod Laws
 pub mod Examples
+pub mod Classes
+pub mod ValueLaws

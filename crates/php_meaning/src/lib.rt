@@ -3,6 +3,7 @@
 #![tactic(auto)]
 
 mod runs;
+pub mod values;
 
 pub use runs::{
     parens_keep_meaning, same_where_unasked, three_ternaries_echo_4, two_ternaries_echo_b,

@@ -1,0 +1,45 @@
+// The laws of values.
+ghost use Rattle.std.specs.Prelude.{◌≡◌, ◌≢◌, ◌↔◌, ℕ, ℤ, List, IsTrue};
+ghost use Rattle.php_tree.specs.declared.version.Version.{Version};
+ghost use Rattle.php_tree.specs.declared.version.Version.TheVariants.{V74, V83};
+ghost use Rattle.php_meaning.specs.Value.{Value, IntKey};
+ghost use Rattle.php_meaning.specs.Ints.{fits};
+ghost use Rattle.php_meaning.specs.Text.{Fraction, class};
+ghost use Rattle.php_meaning.specs.Keys.{text_key};
+ghost use Rattle.php_meaning.specs.Compare.{compare};
+ghost use Rattle.php_meaning.specs.ValueLaws.{OneClass, IsAntisymmetric, IsPlain, IsIntText, TextOfInt, CastCompares, NullCastCompares};
+
+/// Every text has exactly one of the five classes.
+pub fn texts_have_one_class()
+    ensures { (t : List ℕ) → OneClass t }
+{}
+
+/// Two values that are compared give the opposite the other way round, in each version.
+pub fn comparison_is_antisymmetric()
+    ensures { (v : Version) (a b : Value) → IsAntisymmetric v a b }
+{}
+
+/// Values of which none is a text of class Lead, Word or WholeTail compare alike in both versions.
+pub fn plain_values_compare_alike()
+    ensures { (a b : Value) → IsPlain a → IsPlain b → compare V74 a b ≡ compare V83 a b }
+{}
+
+/// A text makes an int key exactly where it is that int's text.
+pub fn int_keys_are_texts_of_ints()
+    ensures { (t : List ℕ) (i : ℤ) → (text_key t ≡ IntKey i) ↔ IsIntText t i }
+{}
+
+/// The text of an int is of class Whole, and its number is that int.
+pub fn texts_of_ints_read_back()
+    ensures { (i : ℤ) → IsTrue (fits i) → TextOfInt i }
+{}
+
+/// A text of any class but Fraction that is cast to int meets an int in 8.3 as it did in 7.4 without the cast.
+pub fn cast_texts_compare_as_before()
+    ensures { (t : List ℕ) (i : ℤ) → class t ≢ Fraction → CastCompares t i }
+{}
+
+/// null that is cast to int is equal to an int in 8.3 exactly where it was in 7.4 without the cast.
+pub fn cast_null_compares_as_before()
+    ensures { (i : ℤ) → NullCastCompares i }
+{}
