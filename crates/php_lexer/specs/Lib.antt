@@ -1,0 +1,11 @@
+pub mod Bytes
+pub mod Heredocs
+pub mod Tails
+pub mod Shapes
+pub mod Words
+pub mod Rules
+pub mod RulesCode
+pub mod RulesQuoted
+pub mod Modes
+pub mod Lexed
+pub mod Scan
