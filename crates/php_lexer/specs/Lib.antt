@@ -9,3 +9,4 @@ pub mod RulesQuoted
 pub mod Modes
 pub mod Lexed
 pub mod Scan
+pub mod Views

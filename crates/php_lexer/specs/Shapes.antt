@@ -17,17 +17,18 @@ is_hex_digit b = is_digit b || nat_le 97 (lower b) && nat_le (lower b) 102
 
 -- ---- whole numbers: digits, and one `_` between two of them (PHP manual, "Integers"; RFC "Numeric Literal Separator")
 
-abbrev pub digits_step : (ℕ → Bool) → Spot → ℕ → Spot
-digits_step p Begin b = cond (p b) Whole Stuck
-digits_step p Whole b = cond (p b) Whole (cond (nat_eq b 95) WholeGap Stuck)
-digits_step p WholeGap b = cond (p b) Whole Stuck
-digits_step p _ b = Stuck
+-- where a byte leads, by whether it is a digit of the base
+abbrev pub digits_step : Bool → Spot → ℕ → Spot
+digits_step digit Begin b = cond digit Whole Stuck
+digits_step digit Whole b = cond digit Whole (cond (nat_eq b 95) WholeGap Stuck)
+digits_step digit WholeGap b = cond digit Whole Stuck
+digits_step digit _ b = Stuck
 
 -- a decimal number has no leading 0
 abbrev pub decimal_step : Spot → ℕ → Spot
 decimal_step Begin b = cond (is_digit b && not (nat_eq b 48)) Whole Stuck
-decimal_step Whole b = digits_step is_digit Whole b
-decimal_step WholeGap b = digits_step is_digit WholeGap b
+decimal_step Whole b = digits_step (is_digit b) Whole b
+decimal_step WholeGap b = digits_step (is_digit b) WholeGap b
 decimal_step _ b = Stuck
 
 -- ---- numbers with a point or an exponent (PHP manual, "Floating point numbers")
@@ -85,10 +86,10 @@ heredoc_step _ b = Stuck
 -- where a byte leads
 abbrev pub step : Shape → Spot → ℕ → Spot
 step shape.Decimal s b = decimal_step s b
-step shape.Octal s b = digits_step is_octal_digit s b
-step shape.Hexadecimal s b = digits_step is_hex_digit s b
-step shape.Binary s b = digits_step is_binary_digit s b
-step shape.Digits s b = digits_step is_digit s b
+step shape.Octal s b = digits_step (is_octal_digit b) s b
+step shape.Hexadecimal s b = digits_step (is_hex_digit b) s b
+step shape.Binary s b = digits_step (is_binary_digit b) s b
+step shape.Digits s b = digits_step (is_digit b) s b
 step shape.Float s b = float_step s b
 step shape.Name s b = name_step s b
 step shape.HeredocLine s b = heredoc_step s b

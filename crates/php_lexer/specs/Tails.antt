@@ -86,10 +86,14 @@ cast_words =
     codes "int" ∷ codes "integer" ∷ codes "bool" ∷ codes "boolean" ∷ codes "string" ∷ codes "array" ∷ codes "object"
     ∷ codes "float" ∷ codes "double" ∷ codes "binary" ∷ codes "real" ∷ codes "unset" ∷ []
 
+-- whether the bytes begin with the word, and no byte of a label follows it
+abbrev pub word_alone : List ℕ → List ℕ → Bool
+word_alone w bs = starts_word w bs && no_label (drop (length w) bs)
+
 -- whether the bytes begin with one of the words, and no byte of a label follows it
 abbrev pub begins_word : List (List ℕ) → List ℕ → Bool
 begins_word [] bs = false
-begins_word (w ∷ ws) bs = starts_word w bs && no_label (drop (length w) bs) || begins_word ws bs
+begins_word (w ∷ ws) bs = word_alone w bs || begins_word ws bs
 
 abbrev pub begins_type : List ℕ → Bool
 begins_type bs = begins_word cast_words bs

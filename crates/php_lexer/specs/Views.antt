@@ -1,0 +1,88 @@
+-- The modes of the code, seen as those of the definition, and what the lexer has read so far.
+use Rattle.std.specs.Prelude.{◌≡◌, ◌≤◌, ◌+◌, ◌++◌, ◌∷◌, ℕ, ◌&&◌, cond, nat_le, List, [], length, slice_range, drop, map, reverse, Option, Some, None}
+use Rattle.php_tree.specs.declared.version.Version.{Version}
+use Rattle.php_tree.specs.declared.token.Token.{Token}
+use Rattle.php_tree.specs.declared.token.TokenKind.{TokenKind}
+use Rattle.php_tree.specs.Places.{ArePlaced}
+use Rattle.php_lexer.specs.declared.fault.LexFault.{LexFault}
+use Rattle.php_lexer.specs.declared.modes.Mode.{Mode as CodeMode}
+use Rattle.php_lexer.specs.declared.modes.Mode.TheVariants.{Html, Code, Named, Quoted, Offset, Property}
+use Rattle.php_lexer.specs.declared.modes.Turn.{Turn as CodeTurn}
+use Rattle.php_lexer.specs.declared.modes.Turn.TheVariants.{Stay, Enter, Leave}
+use Rattle.php_lexer.specs.Modes.{Mode, html, code, named, quoted, offset, property, Turn, stay, enter, leave}
+use Rattle.php_lexer.specs.Lexed.{Lexeme, Stack, start, left_top, left_below, opened_by, Lexed, Stops, lexeme, TokensOf}
+
+-- the bytes of a range, or none
+abbrev pub cut : List ℕ → ℕ → ℕ → List ℕ
+cut bytes from to = cond (nat_le from to && nat_le to (length bytes)) (slice_range bytes from to) []
+
+-- a mode, where the label of a heredoc is a range of the bytes
+abbrev pub mode_of : List ℕ → CodeMode → Mode
+mode_of bytes Html = html
+mode_of bytes Code = code
+mode_of bytes Named = named
+mode_of bytes (Quoted mark from to fresh) = quoted mark (cut bytes from to) fresh
+mode_of bytes Offset = offset
+mode_of bytes Property = property
+
+abbrev pub turn_seen : List ℕ → CodeTurn → Turn
+turn_seen bytes (Stay m) = stay (mode_of bytes m)
+turn_seen bytes (Enter m n) = enter (mode_of bytes m) (mode_of bytes n)
+turn_seen bytes Leave = leave
+
+-- ---- the stack
+
+-- the modes below, the nearest first
+abbrev pub below_of : List ℕ → List CodeMode → List Mode
+below_of bytes ms = reverse (map (mode_of bytes) ms)
+
+abbrev pub stack_of : List ℕ → CodeMode → List CodeMode → List LexFault → Stack
+stack_of bytes m ms fs = record { top = mode_of bytes m; below = below_of bytes ms; depth = length (reverse fs) }
+
+abbrev pub top_after : Turn → List Mode → Mode
+top_after (stay m) ms = m
+top_after (enter above under) ms = above
+top_after leave ms = left_top ms
+
+abbrev pub below_after : Turn → List Mode → List Mode
+below_after (stay m) ms = ms
+below_after (enter above under) ms = under ∷ ms
+below_after leave ms = left_below ms
+
+-- the mode and those below it are what a turn makes of them
+abbrev pub IsAfter : CodeTurn → List CodeMode → CodeMode → List CodeMode → Type 0
+IsAfter turn ms m ms' =
+    (bytes : List ℕ) →
+    (mode_of bytes m ≡ top_after (turn_seen bytes turn) (below_of bytes ms))
+    × (below_of bytes ms' ≡ below_after (turn_seen bytes turn) (below_of bytes ms))
+
+-- the faults of the open quoted texts are what a turn makes of them
+abbrev pub IsNoted : CodeMode → CodeTurn → ℕ → List LexFault → List LexFault → Type 0
+IsNoted m turn at fs fs' =
+    (bytes : List ℕ) → reverse fs' ≡ opened_by (mode_of bytes m) (turn_seen bytes turn) at (reverse fs)
+
+abbrev pub first_fault : List LexFault → Option LexFault
+first_fault [] = None
+first_fault (f ∷ fs) = Some f
+
+-- ---- the tokens
+
+-- the token whose trivia and text are these ranges
+abbrev pub token_cut : List ℕ → TokenKind → ℕ → ℕ → ℕ → Token
+token_cut bytes kind lead at end = record {
+  kind = kind;
+  lead = slice_range bytes lead at;
+  text = slice_range bytes at end;
+  start = at;
+}
+
+abbrev pub lexemes : List Token → List Lexeme
+lexemes ts = map lexeme ts
+
+-- What was read so far: the tokens of the rest make it those of the whole.
+pub record Front (version : Version) (bytes : List ℕ) (front : List Token) (m : CodeMode) (ms : List CodeMode) (fs : List LexFault) (lead at : ℕ) : Type 0 where
+  pub order : lead ≤ at
+  pub within : at ≤ length bytes
+  pub placed : (ts : List Token) → ArePlaced lead ts → ArePlaced 0 (front ++ ts)
+  pub tokens : (ts : List Lexeme) → Lexed version (stack_of bytes m ms fs) (slice_range bytes lead at) (drop at bytes) ts → Lexed version start [] bytes (lexemes front ++ ts)
+  pub stops : (f : LexFault) → Stops version (stack_of bytes m ms fs) (reverse fs) at (drop at bytes) f → Stops version start [] 0 bytes f
