@@ -61,7 +61,7 @@ body_step label fresh b bs d true e = same_fronts (is_body label fresh) (is_end_
     same (suc m) = rw (take-append-drop m bs) (rw e refl)
 body_step label fresh b bs d false e = shift (is_body label fresh) (is_body label (is_line_end b)) b bs (body_len label (is_line_end b) bs) refl (λ m. rw (take-append-drop m bs) (rw e refl)) d
 
-describes_body : (label : List ℕ) (fresh : Bool) (bs : List ℕ) → Describes (is_body label fresh) bs (body_len label fresh bs)
+pub describes_body : (label : List ℕ) (fresh : Bool) (bs : List ℕ) → Describes (is_body label fresh) bs (body_len label fresh bs)
 describes_body label fresh [] = front
   where
     front : (m : ℕ) → m ≤ 0 → is_body label fresh (take m []) (drop m []) ≡ false

@@ -112,3 +112,25 @@ fn longer_by(n: usize, len: Option<usize>) -> Option<usize>
         Some(m) => Some(n + m),
     }
 }
+
+// The label of a nowdoc, behind `<<<`.
+fn quoted_label(bytes: &[u8]) -> &[u8]
+    ensures { result.now ≡ nowdoc_label bytes.now }
+{
+    let quoted = past_quote(bytes);
+    let (label, _) = quoted.split_at(label_bytes(quoted));
+    label
+}
+
+// The length of a whole nowdoc, behind `<<<`.
+pub fn nowdoc_length(bytes: &[u8]) -> Option<usize>
+    ensures { result ≡ nowdoc_len bytes.now }
+{
+    if !opens_nowdoc(bytes) {
+        return None;
+    }
+    let label = quoted_label(bytes);
+    let head = blanks(bytes) + label.len() + 2;
+    let (_, body) = bytes.split_at(head);
+    longer_by(head, body_length(label, body))
+}

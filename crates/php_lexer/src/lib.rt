@@ -5,6 +5,7 @@ mod classes;
 mod fault;
 mod heredocs;
 mod modes;
+mod rows;
 mod shapes;
 mod table;
 mod walks;
