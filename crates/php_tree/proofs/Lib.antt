@@ -1,3 +1,4 @@
 pub mod Placed
+pub mod PlaceLemmas
 pub mod Preorder
 pub mod Trees

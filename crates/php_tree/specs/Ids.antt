@@ -1,7 +1,13 @@
 -- The numbers of nodes: preorder, from 0. What each number stands for, and where.
-use Rattle.std.specs.Prelude.{ℕ, ◌+◌, List, [], ◌∷◌, ◌++◌, length, Option, slice_get}
+use Rattle.std.specs.Prelude.{ℕ, ◌+◌, List, [], ◌∷◌, ◌++◌, length, Option, Some, None, slice_get}
+use Rattle.span_edits.specs.declared.span.Span.{Span}
 use Rattle.php_tree.specs.declared.token.Token.{Token}
 use Rattle.php_tree.specs.Tree.{Forest, none, leaf, node, Tree, File, leaves}
+
+-- the first of some tokens, if any
+abbrev pub first_of : List Token → Option Token
+first_of [] = None
+first_of (t ∷ ts) = Some t
 
 -- the first of some tokens, or else this one
 abbrev pub first_or : List Token → Token → Token
@@ -17,6 +23,10 @@ stop_or (t ∷ ts) at = stop_or ts (t.start + length t.text)
 -- one's, or the empty place before the token that follows.
 abbrev pub place_of : List Token → Token → ℕ × ℕ
 place_of ts next = ((first_or ts next).start, stop_or ts next.start)
+
+-- the bounds of a span
+abbrev pub bounds : Span → ℕ × ℕ
+bounds s = (s.start, s.end)
 
 -- the nodes in preorder
 abbrev pub preorder : Forest → List Tree

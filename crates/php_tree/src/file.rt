@@ -6,9 +6,11 @@ ghost use Rattle.php_tree.specs.Places.{ArePlaced, are_placed};
 use crate::clone::clone_node;
 use crate::measure::{count_inside, deeper, depth_inside};
 use crate::node::Node;
+use crate::place::place_among;
 use crate::search::found_inside;
 use crate::token::Token;
 use crate::version::Version;
+use span_edits::Span;
 use sqlite_items::Items;
 use std::alloc::{AllocError, Global};
 
@@ -24,7 +26,7 @@ pub struct FileTree {
 }
 
 impl FileTree {
-    ghost use Rattle.php_tree.specs.Ids.{node_at};
+    ghost use Rattle.php_tree.specs.Ids.{bounds, node_at, span_at};
     ghost use Rattle.php_tree.specs.Whole.{file, version as version_of};
 
     /// A file of these statements.
@@ -103,6 +105,14 @@ impl FileTree {
             }
         }
         None
+    }
+
+    /// The place of the node with a number: from its first token's text to the end of its last one's, or the empty
+    /// place before the next token; none exactly where the number is `nodes()` or more. It takes no memory.
+    pub fn span(&self, id: u32) -> Option<Span>
+        ensures { option_map bounds result ≡ span_at (file self.now) id }
+    {
+        place_among(self.statements.as_slice(), id, &self.end)
     }
 
     /// An equal tree. The only error is want of memory.

@@ -6,6 +6,7 @@ mod file;
 mod kind;
 mod measure;
 mod node;
+mod place;
 mod search;
 mod token;
 mod version;

@@ -11,6 +11,7 @@ use Rattle.php_tree.specs.declared.kind.NodeKind.{NodeKind}
 use Rattle.php_tree.specs.Tree.{Forest, none, leaf, node, leaves, count, printed, token_bytes, file_printed}
 use Rattle.php_tree.specs.Places.{ArePlaced, behind, end_of, placed}
 use Rattle.php_tree.specs.Ids.{first_or, stop_or, place_of}
+use Rattle.php_tree.proofs.Placed.{ends_at, ends-append, placed-front, placed-back, stop_is}
 use Rattle.tree_patches.specs.Patches.{Patches, Wrapping, opening, closing}
 use Rattle.tree_patches.specs.Rewritten.{has_none, first_lead, without_lead, wrapped, rewritten}
 use Rattle.tree_patches.specs.Changes.{insertion, openings, closings, edits_of, edits}
@@ -19,31 +20,10 @@ use Rattle.tree_patches.proofs.Leads.{clash, none_append, lead_append, is_empty,
 
 -- ---- places
 
--- the place behind some tokens that begin at a place
-abbrev ends_at : ℕ → List Token → ℕ
-ends_at at [] = at
-ends_at at (t ∷ ts) = ends_at (behind at t) ts
-
-ends-append : (at : ℕ) (ts us : List Token) → ends_at at (ts ++ us) ≡ ends_at (ends_at at ts) us
-ends-append at [] us = refl
-ends-append at (t ∷ ts) us = ends-append (behind at t) ts us
-
 ends-leaves : (at : ℕ) (f : Forest) → ends_at at (leaves f) ≡ end_of at f
 ends-leaves at none = refl
 ends-leaves at (leaf t f) = ends-leaves (behind at t) f
 ends-leaves at (node k c f) = ends-append at (leaves c) (leaves f) ∙ rw (ends-leaves at c) (ends-leaves (end_of at c) f)
-
-placed-front : (at : ℕ) (ts us : List Token) → ArePlaced at (ts ++ us) → ArePlaced at ts
-placed-front at [] us h = tt
-placed-front at (t ∷ ts) us h = (h.0, placed-front (behind at t) ts us h.1)
-
-placed-back : (at : ℕ) (ts us : List Token) → ArePlaced at (ts ++ us) → ArePlaced (ends_at at ts) us
-placed-back at [] us h = h
-placed-back at (t ∷ ts) us h = placed-back (behind at t) ts us h.1
-
-stop_is : (at : ℕ) (ts : List Token) → ArePlaced at ts → stop_or ts at ≡ ends_at at ts
-stop_is at [] h = refl
-stop_is at (t ∷ ts) h = ap (λ x. stop_or ts (x + length t.text)) h.0 ∙ stop_is (behind at t) ts h.1
 
 -- the place of a node with tokens
 start_is : (at : ℕ) (ts : List Token) (next : Token) → has_none ts ≡ false → ArePlaced at ts → (place_of ts next).0 ≡ at + length (first_lead ts)
@@ -53,14 +33,6 @@ start_is at (t ∷ ts) next e h = h.0
 stop_at : (at : ℕ) (ts : List Token) (next : Token) → has_none ts ≡ false → ArePlaced at ts → (place_of ts next).1 ≡ ends_at at ts
 stop_at at [] next e h = cc
 stop_at at (t ∷ ts) next e h = ap (λ x. stop_or ts (x + length t.text)) h.0 ∙ stop_is (behind at t) ts h.1
-
-ends_later : (at : ℕ) (ts : List Token) → at ≤ ends_at at ts
-ends_later at [] = omega arith
-ends_later at (t ∷ ts) = let h : behind at t ≤ ends_at (behind at t) ts = ends_later (behind at t) ts in omega arith
-
-ends_past_lead : (at : ℕ) (ts : List Token) → at + length (first_lead ts) ≤ ends_at at ts
-ends_past_lead at [] = omega arith
-ends_past_lead at (t ∷ ts) = let h : behind at t ≤ ends_at (behind at t) ts = ends_later (behind at t) ts in omega arith
 
 -- ---- edits that lie apart
 
