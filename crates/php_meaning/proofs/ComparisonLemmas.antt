@@ -4,6 +4,7 @@ use Rattle.std.specs.Prelude.{◌≢◌, ⊤, nat_lt}
 use Rattle.std.specs.declared.cmp.Ordering.{Ordering}
 use Rattle.std.specs.declared.cmp.Ordering.TheVariants.{Less, Equal, Greater}
 use Rattle.std.specs.Ordering.{nat_cmp, ordering_reverse}
+use Rattle.std.proofs.lemmas.Bool.{false≢true}
 use Rattle.std.proofs.lemmas.Bool.Decides.{nat_tests}
 use Rattle.php_tree.specs.declared.version.Version.{Version}
 use Rattle.php_tree.specs.declared.version.Version.TheVariants.{V74, V83}
@@ -13,7 +14,7 @@ use Rattle.php_meaning.specs.Text.{Class, Whole, WholeTail, Fraction, Lead, Word
 use Rattle.php_meaning.specs.Differences.{ByVersion, Alike, Differs, in_version, by_version_map, Meeting, AsNumbers, AsTexts, NotCompared, int_with_text, texts_as_numbers}
 use Rattle.php_meaning.specs.Convert.{to_truth}
 use Rattle.php_meaning.specs.Compare.{compare_ints, compare_truths, first_unequal, compare_texts, int_meets_text, int_against_text, text_meets_text, compare}
-use Rattle.php_meaning.specs.ValueLaws.{IsAntisymmetric, IsPlainClass, IsPlain, CastCompares}
+use Rattle.php_meaning.specs.ValueLaws.{IsAntisymmetric, IsPlainClass, IsPlain, CastCompares, int_may_differ, texts_may_differ, may_differ}
 
 -- ---- values of one kind, the other way round
 
@@ -255,3 +256,51 @@ cast_compares t i h = record {
       ∙ sym (map_in_version V74 (outcome_map ordering_reverse) (int_against_text i t));
   on_the_right = cast_right (number t) i ∙ sym (old_int_text t i h);
 }
+
+-- ---- where values compare alike, to the letter
+
+meets_int_alike : (c : Class) → int_may_differ c ≡ false → in_version V74 (int_with_text c) ≡ in_version V83 (int_with_text c)
+meets_int_alike Whole h = refl
+meets_int_alike WholeTail h = refl
+meets_int_alike Fraction h = refl
+meets_int_alike Lead h = absurd (false≢true (sym h))
+meets_int_alike Word h = absurd (false≢true (sym h))
+
+meet_alike : (c d : Class) → texts_may_differ c d ≡ false
+    → in_version V74 (texts_as_numbers c d) ≡ in_version V83 (texts_as_numbers c d)
+meet_alike Whole Whole h = refl
+meet_alike Whole WholeTail h = absurd (false≢true (sym h))
+meet_alike Whole Fraction h = refl
+meet_alike Whole Lead h = refl
+meet_alike Whole Word h = refl
+meet_alike WholeTail Whole h = absurd (false≢true (sym h))
+meet_alike WholeTail WholeTail h = absurd (false≢true (sym h))
+meet_alike WholeTail Fraction h = refl
+meet_alike WholeTail Lead h = refl
+meet_alike WholeTail Word h = refl
+meet_alike Fraction Whole h = refl
+meet_alike Fraction WholeTail h = refl
+meet_alike Fraction Fraction h = refl
+meet_alike Fraction Lead h = refl
+meet_alike Fraction Word h = refl
+meet_alike Lead d h = refl
+meet_alike Word d h = refl
+
+int_text_same : (i : ℤ) (t : List ℕ) → int_may_differ (class t) ≡ false
+    → in_version V74 (int_against_text i t) ≡ in_version V83 (int_against_text i t)
+int_text_same i t h = alike_map (int_meets_text i t) (int_with_text (class t)) (meets_int_alike (class t) h)
+
+pub compare_alike : (a b : Value) → may_differ a b ≡ false → compare V74 a b ≡ compare V83 a b
+compare_alike Null (Text t) h = refl
+compare_alike Null b h = refl
+compare_alike (Truth a) b h = refl
+compare_alike (Int i) (Text t) h = int_text_same i t h
+compare_alike (Int i) b h = refl
+compare_alike (Text s) (Int j) h = alike_map (outcome_map ordering_reverse) (int_against_text j s) (int_text_same j s h)
+compare_alike (Text s) (Text t) h =
+    alike_map (text_meets_text s t) (texts_as_numbers (class s) (class t)) (meet_alike (class s) (class t) h)
+compare_alike (Text s) b h = refl
+compare_alike (Object n) Null h = refl
+compare_alike (Object n) b h = refl
+compare_alike (Arr l m es) Null h = refl
+compare_alike (Arr l m es) b h = refl

@@ -14,3 +14,4 @@ pub mod ClassLemmas
 pub mod ComparisonLemmas
 pub mod DecimalLemmas
 pub mod KeyLemmas
+pub mod ArithmeticLemmas

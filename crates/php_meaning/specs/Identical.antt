@@ -29,35 +29,41 @@ Comparing = List Cell → List Cell → Value → Value → Outcome Bool
 abbrev pub and_also : Outcome Bool → Outcome Bool → Outcome Bool
 and_also first second = and_then first (λ same. if same then second else Gives false)
 
+-- What is compared inside the cells that the right value lies in.
+abbrev pub Found : Type 0
+Found = List Cell → Value → Outcome Bool
+
 -- An entry against the right entries: these begin with the same key, `found` holds of their first value, and `after`
 -- of the others.
-abbrev pub against : Cells → List Cell → Key → Entries → (List Cell → Value → Outcome Bool) → (Entries → Outcome Bool) → Outcome Bool
-against cells around k none found after = Gives false
-against cells around k (own l n w others) found after =
-    and_also (Gives (is_same_key k l)) (and_also (found around w) (after others))
-against cells around k (shared l n c others) found after =
-    and_also (Gives (is_same_key k l)) (and_also (inside c around (λ more. found more (cells.value_in c))) (after others))
+abbrev pub against : Cells → List Cell → Key → Entries → Found → (Entries → Outcome Bool) → Outcome Bool
+against cells right k none found after = Gives false
+against cells right k (own l n w others) found after =
+    and_also (Gives (is_same_key k l)) (and_also (found right w) (after others))
+against cells right k (shared l n c others) found after =
+    and_also (Gives (is_same_key k l))
+      (and_also (inside c right (λ right'. found right' (cells.value_in c))) (after others))
 
 -- Two values, where `in_cell` compares what lies in a cell of the left one.
-abbrev mutual
-  pub same_values : Cells → Comparing → List Cell → List Cell → Value → Value → Outcome Bool
-  same_values cells in_cell left right Null Null = Gives true
-  same_values cells in_cell left right (Truth a) (Truth b) = Gives (beq a b)
-  same_values cells in_cell left right (Int i) (Int j) = Gives (is_same_int i j)
-  same_values cells in_cell left right (Text s) (Text t) = Gives (is_same_text s t)
-  same_values cells in_cell left right (Object m) (Object n) = Gives (m == n)
-  same_values cells in_cell left right (Arr largest next es) (Arr largest' next' fs) = same_entries cells in_cell left right es fs
-  same_values cells in_cell left right a b = Gives false
+module _ (cells : Cells) (in_cell : Comparing) where
+  abbrev mutual
+    pub same_values : List Cell → List Cell → Value → Value → Outcome Bool
+    same_values left right Null Null = Gives true
+    same_values left right (Truth a) (Truth b) = Gives (beq a b)
+    same_values left right (Int i) (Int j) = Gives (is_same_int i j)
+    same_values left right (Text s) (Text t) = Gives (is_same_text s t)
+    same_values left right (Object m) (Object n) = Gives (m == n)
+    same_values left right (Arr largest next es) (Arr largest' next' fs) = same_entries left right es fs
+    same_values left right a b = Gives false
 
-  pub same_entries : Cells → Comparing → List Cell → List Cell → Entries → Entries → Outcome Bool
-  same_entries cells in_cell left right none none = Gives true
-  same_entries cells in_cell left right none (own l n w others) = Gives false
-  same_entries cells in_cell left right none (shared l n c others) = Gives false
-  same_entries cells in_cell left right (own k n v rest) fs =
-      against cells right k fs (λ right' w. same_values cells in_cell left right' v w) (λ others. same_entries cells in_cell left right rest others)
-  same_entries cells in_cell left right (shared k n c rest) fs =
-      against cells right k fs (λ right' w. inside c left (λ left'. in_cell left' right' (cells.value_in c) w))
-      (λ others. same_entries cells in_cell left right rest others)
+    pub same_entries : List Cell → List Cell → Entries → Entries → Outcome Bool
+    same_entries left right none none = Gives true
+    same_entries left right none (own l n w others) = Gives false
+    same_entries left right none (shared l n c others) = Gives false
+    same_entries left right (own k n v rest) fs =
+        against cells right k fs (λ right' w. same_values left right' v w) (λ others. same_entries left right rest others)
+    same_entries left right (shared k n c rest) fs =
+        against cells right k fs (λ right' w. inside c left (λ left'. in_cell left' right' (cells.value_in c) w))
+          (λ others. same_entries left right rest others)
 
 -- Two values, of which the left one has at most so many cells in one another.
 abbrev pub same_within : ℕ → Cells → Comparing

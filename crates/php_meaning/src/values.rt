@@ -1,13 +1,16 @@
 // The laws of values.
-ghost use Rattle.std.specs.Prelude.{◌≡◌, ◌≢◌, ◌↔◌, ℕ, ℤ, List, IsTrue};
+ghost use Rattle.std.specs.Prelude.{◌≡◌, ◌≢◌, ◌↔◌, ℕ, ℤ, List, IsTrue, IsFalse};
 ghost use Rattle.php_tree.specs.declared.version.Version.{Version};
 ghost use Rattle.php_tree.specs.declared.version.Version.TheVariants.{V74, V83};
 ghost use Rattle.php_meaning.specs.Value.{Value, IntKey};
+ghost use Rattle.php_meaning.specs.Cause.{Outcome, Gives, Came};
 ghost use Rattle.php_meaning.specs.Ints.{fits};
 ghost use Rattle.php_meaning.specs.Text.{Fraction, class};
 ghost use Rattle.php_meaning.specs.Keys.{text_key};
+ghost use Rattle.php_meaning.specs.Differences.{in_version};
 ghost use Rattle.php_meaning.specs.Compare.{compare};
-ghost use Rattle.php_meaning.specs.ValueLaws.{OneClass, IsAntisymmetric, IsPlain, IsIntText, TextOfInt, CastCompares, NullCastCompares};
+ghost use Rattle.php_meaning.specs.Arithmetic.{of_numbers};
+ghost use Rattle.php_meaning.specs.ValueLaws.{OneClass, IsAntisymmetric, IsPlain, IsIntText, TextOfInt, CastCompares, NullCastCompares, may_differ, is_word, IsCarried};
 
 /// Every text has exactly one of the five classes.
 pub fn texts_have_one_class()
@@ -23,6 +26,13 @@ pub fn comparison_is_antisymmetric()
 pub fn plain_values_compare_alike()
     ensures { (a b : Value) → IsPlain a → IsPlain b → compare V74 a b ≡ compare V83 a b }
 {}
+
+/// Values compare alike in both versions, but for an int with a text of class Lead or Word, and for two numbers as texts
+/// of which one has white space behind it.
+pub fn other_values_compare_alike()
+    ensures { (a b : Value) → IsFalse (may_differ a b) → compare V74 a b ≡ compare V83 a b }
+{
+}
 
 /// A text makes an int key exactly where it is that int's text.
 pub fn int_keys_are_texts_of_ints()
@@ -43,3 +53,18 @@ pub fn cast_texts_compare_as_before()
 pub fn cast_null_compares_as_before()
     ensures { (i : ℤ) → NullCastCompares i }
 {}
+
+/// An operation on ints has the same answer in both versions where no operand is a text of class Word.
+pub fn operations_without_words_are_alike()
+    ensures { (on_ints : ℤ → ℤ → Outcome Came) (a b : Value) → IsFalse (is_word a) → IsFalse (is_word b)
+        → in_version V74 (of_numbers on_ints a b) ≡ in_version V83 (of_numbers on_ints a b) }
+{
+}
+
+/// Where an operation on ints has an answer in 7.4, it has the same one in 8.3 once each operand that is a text of class
+/// Word is cast to int, whatever else is.
+pub fn cast_operands_compute_as_before()
+    ensures { (on_ints : ℤ → ℤ → Outcome Came) (a b c d : Value) (r : Came) → IsCarried a c → IsCarried b d
+        → in_version V74 (of_numbers on_ints a b) ≡ Gives r → in_version V83 (of_numbers on_ints c d) ≡ Gives r }
+{
+}
