@@ -1,5 +1,5 @@
 -- The laws of operations on ints.
-use Rattle.std.proofs.Common.{◌≡◌, ℕ, Bool, true, false, List, ℤ, pos, refl, sym, ap, ◌∙◌, subst}
+use Rattle.std.proofs.Common.{◌≡◌, ℕ, false, List, ℤ, pos, refl, sym, ap, ◌∙◌, subst}
 use Rattle.std.specs.Prelude.{⊤}
 use Rattle.std.proofs.lemmas.Bool.{false≢true}
 use Rattle.php_tree.specs.declared.version.Version.{Version}
@@ -14,7 +14,8 @@ use Rattle.php_meaning.specs.ValueLaws.{class_is_word, is_word, IsCarried, kept,
 
 -- ---- an operation in one version
 
-map_in_version : {A B : Type 0} (v : Version) (f : A → B) (x : ByVersion A) → in_version v (by_version_map f x) ≡ f (in_version v x)
+map_in_version : {A B : Type 0} (v : Version) (f : A → B) (x : ByVersion A)
+    → in_version v (by_version_map f x) ≡ f (in_version v x)
 map_in_version v f (Alike a) = refl
 map_in_version V74 f (Differs point old new) = refl
 map_in_version V83 f (Differs point old new) = refl
@@ -85,7 +86,8 @@ same_given : {i j : ℤ} → ◌≡◌ {A = Outcome ℤ} (Gives i) (Gives j) →
 unfolding given_or
 same_given e = ap (given_or (pos 0)) e
 
-text_number_is_cast : (c : Class) (t : List ℕ) (n : ℤ) → in_version V74 (number_in_arithmetic c t) ≡ Gives n → class t ≡ c → number t ≡ Gives n
+text_number_is_cast : (c : Class) (t : List ℕ) (n : ℤ) → in_version V74 (number_in_arithmetic c t)
+    ≡ Gives n → class t ≡ c → number t ≡ Gives n
 text_number_is_cast Whole t n e h = e
 text_number_is_cast WholeTail t n e h = e
 text_number_is_cast Fraction t n e h = e
@@ -101,11 +103,13 @@ number_is_cast (Text t) n e = text_number_is_cast (class t) t n e refl
 number_is_cast (Object m) n e = absurd (not_given e)
 number_is_cast (Arr l m es) n e = absurd (not_given e)
 
-carried_number : {a c : Value} → IsCarried a c → (n : ℤ) → in_version V74 (to_number a) ≡ Gives n → in_version V83 (to_number c) ≡ Gives n
+carried_number : {a c : Value} → IsCarried a c → (n : ℤ) → in_version V74 (to_number a) ≡ Gives n
+    → in_version V83 (to_number c) ≡ Gives n
 carried_number (kept {a = a} h) n e = sym (number_alike a h) ∙ e
 carried_number (cast {a = a} {n = m} h) n e = sym h ∙ number_is_cast a n e
 
-answer_given : (on_ints : ℤ → ℤ → Outcome Came) (x y u w : Outcome ℤ) (r : Came) → ((n : ℤ) → x ≡ Gives n → u ≡ Gives n)
+answer_given : (on_ints : ℤ → ℤ → Outcome Came) (x y u w : Outcome ℤ) (r : Came)
+    → ((n : ℤ) → x ≡ Gives n → u ≡ Gives n)
     → ((n : ℤ) → y ≡ Gives n → w ≡ Gives n) → answer on_ints x y ≡ Gives r → answer on_ints u w ≡ Gives r
 unfolding answer
 answer_given on_ints (Gives i) (Gives j) u w r h k e = rw (h i refl, k j refl) e
@@ -116,5 +120,6 @@ pub carried_operands : (on_ints : ℤ → ℤ → Outcome Came) (a b c d : Value
     → in_version V74 (of_numbers on_ints a b) ≡ Gives r → in_version V83 (of_numbers on_ints c d) ≡ Gives r
 carried_operands on_ints a b c d r h k e =
     numbers_in_version V83 on_ints c d
-    ∙ answer_given on_ints (in_version V74 (to_number a)) (in_version V74 (to_number b)) (in_version V83 (to_number c)) (in_version V83 (to_number d)) r
-      (carried_number h) (carried_number k) (sym (numbers_in_version V74 on_ints a b) ∙ e)
+    ∙ answer_given on_ints (in_version V74 (to_number a)) (in_version V74 (to_number b))
+    (in_version V83 (to_number c)) (in_version V83 (to_number d)) r
+    (carried_number h) (carried_number k) (sym (numbers_in_version V74 on_ints a b) ∙ e)

@@ -55,11 +55,13 @@ sum_past_greatest : Row (sum (int 9223372036854775807) (int 1)) (Outside Overflo
 sum_past_greatest = (refl, refl)
 
 -- PHP_INT_MAX + -1
-sum_below_greatest : Row (sum (int 9223372036854775807) (minus 1)) (gives (int 9223372036854775806)) (gives (int 9223372036854775806))
+sum_below_greatest : Row (sum (int 9223372036854775807) (minus 1)) (gives (int 9223372036854775806))
+    (gives (int 9223372036854775806))
 sum_below_greatest = (refl, refl)
 
 -- -1 - PHP_INT_MAX
-difference_to_least : Row (subtract (minus 1) (int 9223372036854775807)) (gives (minus 9223372036854775808)) (gives (minus 9223372036854775808))
+difference_to_least : Row (subtract (minus 1) (int 9223372036854775807))
+    (gives (minus 9223372036854775808)) (gives (minus 9223372036854775808))
 difference_to_least = (refl, refl)
 
 difference_past_least : Row (subtract (minus 2) (int 9223372036854775807)) (Outside Overflow) (Outside Overflow)
@@ -74,14 +76,16 @@ product : Row (times (minus 4) (text "3")) (gives (minus 12)) (gives (minus 12))
 product = (refl, refl)
 
 -- 3037000499 * 3037000499
-product_of_great_ints : Row (times (int 3037000499) (int 3037000499)) (gives (int 9223372030926249001)) (gives (int 9223372030926249001))
+product_of_great_ints : Row (times (int 3037000499) (int 3037000499)) (gives (int 9223372030926249001))
+    (gives (int 9223372030926249001))
 product_of_great_ints = (refl, refl)
 
 product_past_greatest : Row (times (int 3037000500) (int 3037000500)) (Outside Overflow) (Outside Overflow)
 product_past_greatest = (refl, refl)
 
 -- -PHP_INT_MAX
-negative_greatest : Row (negative (int 9223372036854775807)) (gives (minus 9223372036854775807)) (gives (minus 9223372036854775807))
+negative_greatest : Row (negative (int 9223372036854775807)) (gives (minus 9223372036854775807))
+    (gives (minus 9223372036854775807))
 negative_greatest = (refl, refl)
 
 negative_least : Row (negative (minus 9223372036854775808)) (Outside Overflow) (Outside Overflow)
@@ -152,11 +156,13 @@ left_three : Row (left_shift (int 1) (int 3)) (gives (int 8)) (gives (int 8))
 left_three = (refl, refl)
 
 -- 1 << 63
-left_sixty_three : Row (left_shift (int 1) (int 63)) (gives (minus 9223372036854775808)) (gives (minus 9223372036854775808))
+left_sixty_three : Row (left_shift (int 1) (int 63)) (gives (minus 9223372036854775808))
+    (gives (minus 9223372036854775808))
 left_sixty_three = (refl, refl)
 
 -- 3 << 63
-left_bits_lost : Row (left_shift (int 3) (int 63)) (gives (minus 9223372036854775808)) (gives (minus 9223372036854775808))
+left_bits_lost : Row (left_shift (int 3) (int 63)) (gives (minus 9223372036854775808))
+    (gives (minus 9223372036854775808))
 left_bits_lost = (refl, refl)
 
 -- 1 << 64
@@ -202,7 +208,8 @@ and_ints : Row (bits_and (int 12) (int 10)) (gives (int 8)) (gives (int 8))
 and_ints = (refl, refl)
 
 -- -1 & PHP_INT_MIN
-and_negative : Row (bits_and (minus 1) (minus 9223372036854775808)) (gives (minus 9223372036854775808)) (gives (minus 9223372036854775808))
+and_negative : Row (bits_and (minus 1) (minus 9223372036854775808)) (gives (minus 9223372036854775808))
+    (gives (minus 9223372036854775808))
 and_negative = (refl, refl)
 
 -- "12" & "9"

@@ -62,7 +62,8 @@ item_behind_removed : Row (appended (Own (int 9)) (used (Some (pos 5))))
     (Gives (record { largest = Some (pos 6); next = 5; entries = own (at 6) 4 (int 9) none }))
 item_behind_removed = (refl, refl)
 
-item_behind_texts : Row (appended (Own (int 9)) (record { largest = None; next = 1; entries = own (named "x") 0 Null none }))
+item_behind_texts : Row
+    (appended (Own (int 9)) (record { largest = None; next = 1; entries = own (named "x") 0 Null none }))
     (Gives (record { largest = Some (pos 0); next = 2; entries = own (named "x") 0 Null (own (at 0) 1 (int 9) none) }))
     (Gives (record { largest = Some (pos 0); next = 2; entries = own (named "x") 0 Null (own (at 0) 1 (int 9) none) }))
 item_behind_texts = (refl, refl)
@@ -73,7 +74,8 @@ item_behind_negative : Row (appended (Own (int 9)) (used (Some (neg_ℤ (pos 5))
     (Gives (record { largest = Some (neg_ℤ (pos 4)); next = 5; entries = own (IntKey (neg_ℤ (pos 4))) 4 (int 9) none }))
 item_behind_negative = (refl, refl)
 
-item_behind_greatest : Row (appended (Own (int 9)) (used (Some (pos 9223372036854775807)))) (Outside Offset) (Outside Offset)
+item_behind_greatest : Row (appended (Own (int 9)) (used (Some (pos 9223372036854775807))))
+    (Outside Offset) (Outside Offset)
 item_behind_greatest = (refl, refl)
 
 -- ---- writing and unsetting
@@ -160,7 +162,8 @@ union_largest : union a_b (record { largest = Some (pos 9); next = 1; entries = 
 union_largest = refl
 
 -- `+` gives the union of the copies
-plus_arrays : Row (plus (copied (holding Null true) 0) (array a_b) (array b_a)) (gives (array a_b)) (gives (array a_b))
+plus_arrays : Row (plus (copied (holding Null true) 0) (array a_b) (array b_a)) (gives (array a_b))
+    (gives (array a_b))
 plus_arrays = (refl, refl)
 
 plus_shared : Row (plus (copied (holding Null false) 0) empty with_seven) (Outside Reference) (Outside Reference)
@@ -366,7 +369,8 @@ write_to_text = refl
 write_to_object : array_to_write (Object 1) ≡ throws Error
 write_to_object = refl
 
-unset_of_array : without_offset (array one_two) (text "0") ≡ gives (Arr (Some (pos 1)) 2 (own (at 1) 1 (int 2) none))
+unset_of_array : without_offset (array one_two) (text "0")
+    ≡ gives (Arr (Some (pos 1)) 2 (own (at 1) 1 (int 2) none))
 unset_of_array = refl
 
 unset_of_null : without_offset Null (int 0) ≡ gives Null

@@ -15,3 +15,4 @@ pub mod ComparisonLemmas
 pub mod DecimalLemmas
 pub mod KeyLemmas
 pub mod ArithmeticLemmas
+pub mod ArrayLemmas

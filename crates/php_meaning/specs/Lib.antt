@@ -24,3 +24,4 @@ pub mod Laws
 pub mod Examples
 pub mod Classes
 pub mod ValueLaws
+pub mod ArrayLaws

@@ -2,7 +2,7 @@
 ghost use Rattle.std.specs.Prelude.{◌≡◌, ◌≢◌, ◌↔◌, ℕ, ℤ, List, IsTrue, IsFalse};
 ghost use Rattle.php_tree.specs.declared.version.Version.{Version};
 ghost use Rattle.php_tree.specs.declared.version.Version.TheVariants.{V74, V83};
-ghost use Rattle.php_meaning.specs.Value.{Value, IntKey};
+ghost use Rattle.php_meaning.specs.Value.{Value, Key, IntKey};
 ghost use Rattle.php_meaning.specs.Cause.{Outcome, Gives, Came};
 ghost use Rattle.php_meaning.specs.Ints.{fits};
 ghost use Rattle.php_meaning.specs.Text.{Fraction, class};
@@ -10,6 +10,10 @@ ghost use Rattle.php_meaning.specs.Keys.{text_key};
 ghost use Rattle.php_meaning.specs.Differences.{in_version};
 ghost use Rattle.php_meaning.specs.Compare.{compare};
 ghost use Rattle.php_meaning.specs.Arithmetic.{of_numbers};
+ghost use Rattle.php_meaning.specs.Cells.{Cells};
+ghost use Rattle.php_meaning.specs.Arrays.{Array, Own, element_at, written, Changed, union};
+ghost use Rattle.php_meaning.specs.Copies.{copied};
+ghost use Rattle.php_meaning.specs.ArrayLaws.{DiffersAt, either, HoldsNoCell};
 ghost use Rattle.php_meaning.specs.ValueLaws.{OneClass, IsAntisymmetric, IsPlain, IsIntText, TextOfInt, CastCompares, NullCastCompares, may_differ, is_word, IsCarried};
 
 /// Every text has exactly one of the five classes.
@@ -31,8 +35,7 @@ pub fn plain_values_compare_alike()
 /// of which one has white space behind it.
 pub fn other_values_compare_alike()
     ensures { (a b : Value) → IsFalse (may_differ a b) → compare V74 a b ≡ compare V83 a b }
-{
-}
+{}
 
 /// A text makes an int key exactly where it is that int's text.
 pub fn int_keys_are_texts_of_ints()
@@ -58,13 +61,27 @@ pub fn cast_null_compares_as_before()
 pub fn operations_without_words_are_alike()
     ensures { (on_ints : ℤ → ℤ → Outcome Came) (a b : Value) → IsFalse (is_word a) → IsFalse (is_word b)
         → in_version V74 (of_numbers on_ints a b) ≡ in_version V83 (of_numbers on_ints a b) }
-{
-}
+{}
 
 /// Where an operation on ints has an answer in 7.4, it has the same one in 8.3 once each operand that is a text of class
 /// Word is cast to int, whatever else is.
 pub fn cast_operands_compute_as_before()
     ensures { (on_ints : ℤ → ℤ → Outcome Came) (a b c d : Value) (r : Came) → IsCarried a c → IsCarried b d
         → in_version V74 (of_numbers on_ints a b) ≡ Gives r → in_version V83 (of_numbers on_ints c d) ≡ Gives r }
-{
-}
+{}
+
+/// Writing a value at a key changes what is there, and nothing at another key.
+pub fn written_elements_are_read()
+    ensures { (k : Key) (v : Value) (a b : Array) → written k v a ≡ Changed b → DiffersAt k (Own v) a b }
+{}
+
+/// The union of two arrays has the left one's element where there is one, and else the right one's.
+pub fn union_keeps_the_left()
+    ensures { (k : Key) (a b : Array)
+        → element_at k (union a b).entries ≡ either (element_at k a.entries) (element_at k b.entries) }
+{}
+
+/// No part of a copy lies in a cell.
+pub fn copies_hold_no_cell()
+    ensures { (cells : Cells) (first : ℕ) (v w : Value) → copied cells first v ≡ Gives w → HoldsNoCell w }
+{}
