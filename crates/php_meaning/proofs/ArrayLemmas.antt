@@ -5,11 +5,13 @@ use Rattle.std.proofs.lemmas.Bool.{false≢true, and_parts, and_from, eqb-true, 
 use Rattle.std.proofs.lemmas.Bool.Decides.{nat_tests}
 use Rattle.php_meaning.specs.Value.{Cell, Key, IntKey, TextKey, Value, Null, Truth, Int, Text, Object, Arr, Entries, none, own, shared}
 use Rattle.php_meaning.specs.Cause.{Outcome, Gives, Outside, Cause, Reference, outcome_map}
+use Rattle.php_tree.specs.declared.version.Version.TheVariants.{V74, V83}
+use Rattle.php_meaning.specs.Differences.{in_version}
 use Rattle.php_meaning.specs.Cells.{Cells}
 use Rattle.php_meaning.specs.Identical.{is_same_int, is_same_text, is_same_key}
-use Rattle.php_meaning.specs.Arrays.{Element, Own, Shared, Array, element_at, entry, behind, added, replaced, Written, Changed, IntoCell, written, written_over, added_if_missing, with_missing, union, count}
+use Rattle.php_meaning.specs.Arrays.{Element, Own, Shared, Array, element_at, entry, behind, added, replaced, Written, Changed, IntoCell, written, written_over, added_if_missing, with_missing, union, count, next_key}
 use Rattle.php_meaning.specs.Copies.{copied_entry, copied_by, copied_entries, copied_within, copied}
-use Rattle.php_meaning.specs.ArrayLaws.{DiffersAt, either, HoldsNoCell, HoldNoCell}
+use Rattle.php_meaning.specs.ArrayLaws.{DiffersAt, either, HoldsNoCell, HoldNoCell, is_negative}
 
 -- ---- keys
 
@@ -255,3 +257,11 @@ within_holds (suc more) cells first v =
 pub copy_holds_none : (cells : Cells) (first : ℕ) (v w : Value) → copied cells first v ≡ Gives w → HoldsNoCell w
 copy_holds_none cells first v w e =
     of_given HoldsNoCell (copied cells first v) w (within_holds (suc cells.count) cells first v) e
+
+-- ---- the next key
+
+pub next_key_alike : (largest : Option ℤ) → is_negative largest ≡ false
+    → in_version V74 (next_key largest) ≡ in_version V83 (next_key largest)
+next_key_alike None h = refl
+next_key_alike (Some (pos n)) h = refl
+next_key_alike (Some (negsuc n)) h = absurd (false≢true (sym h))

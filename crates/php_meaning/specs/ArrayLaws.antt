@@ -1,5 +1,5 @@
 -- The laws of arrays.
-use Rattle.std.specs.Prelude.{◌≡◌, Option, Some, None, IsFalse, ⊤}
+use Rattle.std.specs.Prelude.{◌≡◌, Bool, true, false, ℤ, pos, negsuc, Option, Some, None, IsFalse, ⊤}
 use Rattle.php_meaning.specs.Value.{Key, Value, Null, Truth, Int, Text, Object, Arr, Entries, none, own, shared}
 use Rattle.php_meaning.specs.Identical.{is_same_key}
 use Rattle.php_meaning.specs.Arrays.{Element, Array, element_at}
@@ -28,3 +28,9 @@ abbrev mutual
   HoldNoCell none = ⊤
   HoldNoCell (own k n v rest) = HoldsNoCell v × HoldNoCell rest
   HoldNoCell (shared k n c rest) = ⊥
+
+-- whether a largest int key is there and negative
+abbrev pub is_negative : Option ℤ → Bool
+is_negative None = false
+is_negative (Some (pos n)) = false
+is_negative (Some (negsuc n)) = true

@@ -1,19 +1,19 @@
 // The laws of values.
-ghost use Rattle.std.specs.Prelude.{◌≡◌, ◌≢◌, ◌↔◌, ℕ, ℤ, List, IsTrue, IsFalse};
+ghost use Rattle.std.specs.Prelude.{◌≡◌, ◌≢◌, ◌↔◌, ℕ, ℤ, List, Option, IsTrue, IsFalse};
 ghost use Rattle.php_tree.specs.declared.version.Version.{Version};
 ghost use Rattle.php_tree.specs.declared.version.Version.TheVariants.{V74, V83};
 ghost use Rattle.php_meaning.specs.Value.{Value, Key, IntKey};
-ghost use Rattle.php_meaning.specs.Cause.{Outcome, Gives, Came};
+ghost use Rattle.php_meaning.specs.Cause.{Cause, Outcome, Gives, Outside, Came};
 ghost use Rattle.php_meaning.specs.Ints.{fits};
 ghost use Rattle.php_meaning.specs.Text.{Fraction, class};
 ghost use Rattle.php_meaning.specs.Keys.{text_key};
 ghost use Rattle.php_meaning.specs.Differences.{in_version};
 ghost use Rattle.php_meaning.specs.Compare.{compare};
-ghost use Rattle.php_meaning.specs.Arithmetic.{of_numbers};
+ghost use Rattle.php_meaning.specs.Arithmetic.{of_numbers, left_of_arithmetic};
 ghost use Rattle.php_meaning.specs.Cells.{Cells};
-ghost use Rattle.php_meaning.specs.Arrays.{Array, Own, element_at, written, Changed, union};
+ghost use Rattle.php_meaning.specs.Arrays.{Array, Own, element_at, written, Changed, union, next_key};
 ghost use Rattle.php_meaning.specs.Copies.{copied};
-ghost use Rattle.php_meaning.specs.ArrayLaws.{DiffersAt, either, HoldsNoCell};
+ghost use Rattle.php_meaning.specs.ArrayLaws.{DiffersAt, either, HoldsNoCell, is_negative};
 ghost use Rattle.php_meaning.specs.ValueLaws.{OneClass, IsAntisymmetric, IsPlain, IsIntText, TextOfInt, CastCompares, NullCastCompares, may_differ, is_word, IsCarried};
 
 /// Every text has exactly one of the five classes.
@@ -84,4 +84,17 @@ pub fn union_keeps_the_left()
 /// No part of a copy lies in a cell.
 pub fn copies_hold_no_cell()
     ensures { (cells : Cells) (first : ℕ) (v w : Value) → copied cells first v ≡ Gives w → HoldsNoCell w }
+{}
+
+/// A left operand that ends the run before the right one is evaluated would end an operation on ints with the same
+/// cause, in both versions.
+pub fn left_operands_end_alike()
+    ensures { (v : Version) (on_ints : ℤ → ℤ → Outcome Came) (a b : Value) (c : Cause)
+        → left_of_arithmetic a ≡ Outside c → in_version v (of_numbers on_ints a b) ≡ Outside c }
+{}
+
+/// An item without a key gets the same key in both versions where the largest int key is not negative.
+pub fn next_keys_are_alike()
+    ensures { (largest : Option ℤ) → IsFalse (is_negative largest)
+        → in_version V74 (next_key largest) ≡ in_version V83 (next_key largest) }
 {}
