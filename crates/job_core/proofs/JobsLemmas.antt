@@ -1,5 +1,5 @@
 -- One owner's jobs in a list of many owners' jobs, after a job is added or changed.
-use Rattle.std.proofs.Common.{◌≡◌, ◌==◌, ℕ, Bool, true, false, ◌&&◌, cond, List, [], ◌∷◌, ◌++◌, map, if◌then◌else◌, refl, sym, ap, subst, ◌∙◌}
+use Rattle.std.proofs.Common.{◌≡◌, ◌==◌, ℕ, Bool, true, false, ◌&&◌, cond, List, [], ◌∷◌, ◌++◌, map, find, Option, None, Some, if◌then◌else◌, refl, sym, ap, subst, ◌∙◌}
 use Rattle.std.specs.Str.{bytes_eq}
 use Rattle.std.specs.Cmp.Lexicographic.{nat_list_eq_equiv, bytes_decides}
 use Rattle.std.proofs.lemmas.Bool.{false≢true}
@@ -73,3 +73,21 @@ module _ (f : StoredJob → StoredJob) (keeps_owner : (j : StoredJob) → (f j).
           ap (λ t. cond t (x ∷ jobs_of o (with_job owner n f js)) (jobs_of o (with_job owner n f js))) (same_owner ∙ p) ∙ ap (λ t. (if t && (n == j.head.job) then f j else j) ∷ jobs_of o (with_job owner n f js)) (left p) ∙ ap (λ xs. j ∷ xs) rest
       by false p rest =
           ap (λ t. cond t (x ∷ jobs_of o (with_job owner n f js)) (jobs_of o (with_job owner n f js))) (same_owner ∙ p) ∙ rest
+
+-- a job that the owner doesn't have isn't changed
+pub with_job-absent : (f : StoredJob → StoredJob) (owner : List ℕ) (n : ℕ) (js : List StoredJob) → find (λ j. n == j.head.job) (jobs_of owner js) ≡ None → with_job owner n f js ≡ js
+with_job-absent f owner n [] none = refl
+with_job-absent f owner n (j ∷ js) none = by (bytes_eq owner j.owner) refl none (with_job-absent f owner n js)
+  where
+    x : StoredJob
+    x = if bytes_eq owner j.owner && (n == j.head.job) then f j else j
+
+    number : (u : Bool) → cond u (Some j) (find (λ j. n == j.head.job) (jobs_of owner js)) ≡ None → (find (λ j. n == j.head.job) (jobs_of owner js) ≡ None → with_job owner n f js ≡ js) → (if u then f j else j) ∷ with_job owner n f js ≡ j ∷ js
+    number true none rest = cc
+    number false none rest = ap (λ xs. j ∷ xs) (rest none)
+
+    by : (t : Bool) → bytes_eq owner j.owner ≡ t → find (λ j. n == j.head.job) (cond t (j ∷ jobs_of owner js) (jobs_of owner js)) ≡ None → (find (λ j. n == j.head.job) (jobs_of owner js) ≡ None → with_job owner n f js ≡ js) → x ∷ with_job owner n f js ≡ j ∷ js
+    by true p none rest =
+        ap (λ t. (if t && (n == j.head.job) then f j else j) ∷ with_job owner n f js) p ∙ number (n == j.head.job) none rest
+    by false p none rest =
+        ap (λ t. (if t && (n == j.head.job) then f j else j) ∷ with_job owner n f js) p ∙ ap (λ xs. j ∷ xs) (rest none)

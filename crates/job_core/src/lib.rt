@@ -6,6 +6,7 @@ mod fault;
 mod job;
 mod jobs;
 mod keeper;
+mod machine;
 mod owner_jobs;
 mod work;
 
@@ -15,4 +16,5 @@ pub use io_ports::{Bytes, PathText, Report, Span, Weight};
 pub use job::{Job, JobFile, JobHead, Judged, Made, Verdict};
 pub use jobs::Jobs;
 pub use keeper::Keeper;
+pub use machine::MAX_JOBS;
 pub use work::Work;
