@@ -26,21 +26,21 @@ pub trait Keeper {
         key: &str,
     ) -> Result<Option<JobHead>, KeepFault>
         ensures told { IfSome (jobs self.old) (λ js. IfOk result (λ head. head ≡ option_map (λ j. j.head) (keyed_job owner.now key.now js))) }
-        ensures kept { IfSome (jobs self.old) IsKept }
+        ensures kept { IfSome (jobs self.old) (λ js. OnOk result (IsKept js)) }
         ensures same { jobs self.new ≡ jobs self.old }
         ensures cause { HasCause (faults self.old) (faults self.new) result };
 
     /// The head of the owner's job with this number.
     fn head(&mut self, alloc: Global, owner: &str, job: u32) -> Result<Option<JobHead>, KeepFault>
         ensures told { IfSome (jobs self.old) (λ js. IfOk result (λ head. head ≡ option_map (λ j. j.head) (job_of owner.now job js))) }
-        ensures kept { IfSome (jobs self.old) IsKept }
+        ensures kept { IfSome (jobs self.old) (λ js. OnOk result (IsKept js)) }
         ensures same { jobs self.new ≡ jobs self.old }
         ensures cause { HasCause (faults self.old) (faults self.new) result };
 
     /// How many jobs the owner has.
     fn count(&mut self, owner: &str) -> Result<u32, KeepFault>
         ensures told { IfSome (jobs self.old) (λ js. IfOk result (λ n. n ≡ count_of owner.now js)) }
-        ensures kept { IfSome (jobs self.old) IsKept }
+        ensures kept { IfSome (jobs self.old) (λ js. OnOk result (IsKept js)) }
         ensures same { jobs self.new ≡ jobs self.old }
         ensures cause { HasCause (faults self.old) (faults self.new) result };
 
@@ -50,7 +50,7 @@ pub trait Keeper {
         requires next { IfSome (jobs self.old) (IsNext (stored job.now)) }
         requires reports { job.now.head.reports ≡ vec_len job.now.reports }
         ensures added { IfSome (jobs self.old) (λ js. OnOk result (Tells (jobs self.new) (js ++ stored job.now ∷ []))) }
-        ensures kept { IfSome (jobs self.new) IsKept }
+        ensures kept { IfSome (jobs self.new) (λ js. OnOk result (IsKept js)) }
         ensures err { OnErr result (jobs self.new ≡ jobs self.old) }
         ensures cause { HasCause (faults self.old) (faults self.new) result };
 
@@ -63,7 +63,7 @@ pub trait Keeper {
         n: u32,
     ) -> Result<Option<JobFile>, KeepFault>
         ensures told { IfSome (jobs self.old) (λ js. IfOk result (λ file. file ≡ file_of owner.now job n js)) }
-        ensures kept { IfSome (jobs self.old) IsKept }
+        ensures kept { IfSome (jobs self.old) (λ js. OnOk result (IsKept js)) }
         ensures same { jobs self.new ≡ jobs self.old }
         ensures cause { HasCause (faults self.old) (faults self.new) result };
 
@@ -75,7 +75,7 @@ pub trait Keeper {
         job: u32,
     ) -> Result<Option<Vec<Judged>>, KeepFault>
         ensures told { IfSome (jobs self.old) (λ js. IfOk result (λ reports. listed reports ≡ option_map (λ j. j.reports) (job_of owner.now job js))) }
-        ensures kept { IfSome (jobs self.old) IsKept }
+        ensures kept { IfSome (jobs self.old) (λ js. OnOk result (IsKept js)) }
         ensures same { jobs self.new ≡ jobs self.old }
         ensures cause { HasCause (faults self.old) (faults self.new) result };
 
@@ -92,7 +92,7 @@ pub trait Keeper {
     ) -> Result<bool, KeepFault>
         ensures told { IfSome (jobs self.old) (λ js. IfOk result (λ done. done ≡ is_some (report_of owner.now job n js))) }
         ensures judged { IfSome (jobs self.old) (λ js. OnOk result (Tells (jobs self.new) (judged owner.now job n verdict note.now js))) }
-        ensures kept { IfSome (jobs self.new) IsKept }
+        ensures kept { IfSome (jobs self.new) (λ js. OnOk result (IsKept js)) }
         ensures err { OnErr result (jobs self.new ≡ jobs self.old) }
         ensures cause { HasCause (faults self.old) (faults self.new) result };
 
@@ -100,7 +100,7 @@ pub trait Keeper {
     fn close(&mut self, owner: &str, job: u32) -> Result<bool, KeepFault>
         ensures told { IfSome (jobs self.old) (λ js. IfOk result (λ done. done ≡ is_some (job_of owner.now job js))) }
         ensures closed { IfSome (jobs self.old) (λ js. OnOk result (Tells (jobs self.new) (closed owner.now job js))) }
-        ensures kept { IfSome (jobs self.new) IsKept }
+        ensures kept { IfSome (jobs self.new) (λ js. OnOk result (IsKept js)) }
         ensures err { OnErr result (jobs self.new ≡ jobs self.old) }
         ensures cause { HasCause (faults self.old) (faults self.new) result };
 }

@@ -1,15 +1,19 @@
 //! The jobs of a review: what is stored of an upgrade, the machine that stores it, and its keepers.
 #![tactic(auto)]
 
+mod calm;
 mod command;
 mod fault;
 mod job;
 mod jobs;
 mod keeper;
 mod machine;
+mod memory;
 mod owner_jobs;
+mod reads;
 mod work;
 
+pub use calm::CalmKeeper;
 pub use command::{Command, Reply};
 pub use fault::{KeepFault, WorkFault};
 pub use io_ports::{Bytes, PathText, Report, Span, Weight};
@@ -17,4 +21,5 @@ pub use job::{Job, JobFile, JobHead, Judged, Made, Verdict};
 pub use jobs::Jobs;
 pub use keeper::Keeper;
 pub use machine::MAX_JOBS;
+pub use memory::MemoryKeeper;
 pub use work::Work;
