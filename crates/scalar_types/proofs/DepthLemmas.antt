@@ -1,18 +1,17 @@
 -- Meets, flattening and elements.
-use Rattle.std.proofs.Common.{◌≡◌, ℕ, zero, suc, ◌+◌, ◌<◌, ◌≤◌, ◌^◌, Bool, true, false, ◌&&◌, List, [], ◌∷◌, ◌⊎◌, inl, inr, refl, sym, ap, subst, ◌∙◌, arith, bit_and, ◌≢◌}
-use Rattle.std.specs.Int.{bit_at}
+use Rattle.std.proofs.Common.{◌≡◌, ℕ, zero, suc, false, List, [], refl, sym, ap, subst, ◌∙◌, arith}
 use Rattle.std.specs.List.Sorted.{IsStrictlyIncreasing}
-use Rattle.std.proofs.lemmas.Bool.{and_from, and_parts, false≢true}
+use Rattle.std.proofs.lemmas.Bool.{and_from, false≢true}
 use Rattle.std.proofs.lemmas.List.Kept.{IsStrictlyIncreasing-filter}
 use Rattle.std.proofs.lemmas.Nat.Bits.{bit_at_and, bit_at-zero}
 use lib.Bits.{and_lt}
 use Rattle.scalar_types.specs.Sets.{IsSubset, union, intersection}
 use Rattle.scalar_types.specs.Terms.{Facts, TypeTerm, any, plain, array, with_labels, AreFactsWellFormed, IsWellFormed, NoLabelsAtAny}
-use Rattle.scalar_types.specs.Order.{BitsAmong, FactsAmong, LabelsAmong, Below}
-use Rattle.scalar_types.specs.Join.{labels_beside, joined_facts, joined_array, join_of, common_facts, meet_of, flattened, NestsTo, element_of, nothing, HasNoLabelsAlone}
-use Rattle.scalar_types.proofs.SetLemmas.{Has, Has-subset, subset_from_Has, Has-intersection}
+use Rattle.scalar_types.specs.Order.{FactsAmong, LabelsAmong, Below}
+use Rattle.scalar_types.specs.Join.{join_of, common_facts, meet_of, flattened, NestsTo, element_of, nothing, HasNoLabelsAlone}
+use Rattle.scalar_types.proofs.SetLemmas.{Has-subset, subset_from_Has, Has-intersection}
 use Rattle.scalar_types.proofs.BitLemmas.{BitsAmong-and}
-use Rattle.scalar_types.proofs.OrderLemmas.{IsSubset-refl, IsSubset-trans, IsSubset-nil, FactsAmong-refl, FactsAmong-trans, LabelsAmong-subset, LabelsAmong-after, Below-any, Below-refl, Below-trans}
+use Rattle.scalar_types.proofs.OrderLemmas.{IsSubset-refl, IsSubset-trans, IsSubset-nil, FactsAmong-refl, LabelsAmong-subset, Below-any, Below-refl}
 use Rattle.scalar_types.proofs.JoinLemmas.{IsSubset-union_left, IsSubset-union_right, increasing-union}
 
 -- ---- meets
@@ -23,8 +22,8 @@ FactsAmong-common k f g xs h l = record {
   neg = λ e. and_from f.neg g.neg (h.neg e) (l.neg e);
   text_keys = λ e. and_from f.text_keys g.text_keys (h.text_keys e) (l.text_keys e);
   classes =
-    subset_from_Has k.classes (intersection f.classes g.classes)
-    (λ z p. Has-intersection f.classes g.classes z (Has-subset k.classes f.classes h.classes z p) (Has-subset k.classes g.classes l.classes z p));
+      subset_from_Has k.classes (intersection f.classes g.classes)
+      (λ z p. Has-intersection f.classes g.classes z (Has-subset k.classes f.classes h.classes z p) (Has-subset k.classes g.classes l.classes z p));
 }
 
 -- labels among those of one or of the other stand beside the meet of the elements
@@ -91,12 +90,12 @@ IsWellFormed-meet (array f d) any v w = v
 IsWellFormed-meet (plain f) (plain g) v w = (well_formed-common f g [] v.0 w.0 increasing-nil, omega (arith, bit_at_and f.bits g.bits 9, v.1, w.1))
 IsWellFormed-meet (plain f) (array g e) v w = (well_formed-common f g [] v.0 w.0 increasing-nil, omega (arith, bit_at_and f.bits g.bits 9, v.1, w.1))
 IsWellFormed-meet (array f d) (plain g) v w = (well_formed-common f g [] v.0 w.0 increasing-nil, omega (arith, bit_at_and f.bits g.bits 9, v.1, w.1))
-IsWellFormed-meet (array f d) (array g e) v w =
-    ( well_formed-common f g _ v.0 w.0 (increasing-union f.shared g.shared w.0.labels_ascend)
-    , omega (arith, bit_at_and f.bits g.bits 9, v.1, w.1)
-    , NoLabelsAtAny-meet f.shared g.shared d e v.2 w.2
-    , IsWellFormed-meet d e v.3 w.3
-    )
+IsWellFormed-meet (array f d) (array g e) v w = (
+  well_formed-common f g _ v.0 w.0 (increasing-union f.shared g.shared w.0.labels_ascend),
+  omega (arith, bit_at_and f.bits g.bits 9, v.1, w.1),
+  NoLabelsAtAny-meet f.shared g.shared d e v.2 w.2,
+  IsWellFormed-meet d e v.3 w.3,
+)
 
 -- ---- flattening
 

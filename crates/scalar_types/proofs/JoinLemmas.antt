@@ -1,17 +1,16 @@
 -- The join is the least type above both.
-use Rattle.std.proofs.Common.{◌≡◌, ℕ, ◌+◌, ◌<◌, ◌≤◌, ◌^◌, Bool, true, false, ◌||◌, List, [], ◌∷◌, ◌⊎◌, inl, inr, refl, sym, ap, subst, ◌∙◌, arith, bit_or}
-use Rattle.std.specs.Int.{bit_at}
+use Rattle.std.proofs.Common.{ℕ, List, inl, inr, refl, arith}
 use Rattle.std.specs.List.Sorted.{IsStrictlyIncreasing}
 use Rattle.std.proofs.lemmas.Bool.{or_left, or_right, or_cases}
 use Rattle.std.proofs.lemmas.Nat.Bits.{bit_at_or}
 use lib.Bits.{or_lt}
 use Rattle.scalar_types.specs.Sets.{IsSubset, union}
 use Rattle.scalar_types.specs.Terms.{Facts, TypeTerm, any, plain, array, AreFactsWellFormed, IsWellFormed, NoLabelsAtAny}
-use Rattle.scalar_types.specs.Order.{BitsAmong, FactsAmong, LabelsAmong, Below}
-use Rattle.scalar_types.specs.Join.{labels_beside, joined_facts, joined_array, join_of}
-use Rattle.scalar_types.proofs.SetLemmas.{Has, Has-subset, subset_from_Has, Ascends-from_increasing, increasing_from_Ascends, Has-union, Has-from_union, Ascends-union}
+use Rattle.scalar_types.specs.Order.{FactsAmong, LabelsAmong, Below}
+use Rattle.scalar_types.specs.Join.{labels_beside, joined_facts, join_of}
+use Rattle.scalar_types.proofs.SetLemmas.{Has-subset, subset_from_Has, Ascends-from_increasing, increasing_from_Ascends, Has-union, Has-from_union, Ascends-union}
 use Rattle.scalar_types.proofs.BitLemmas.{BitsAmong-or_left, BitsAmong-or_right, BitsAmong-or}
-use Rattle.scalar_types.proofs.OrderLemmas.{IsSubset-refl, IsSubset-trans, IsSubset-nil, LabelsAmong-subset, LabelsAmong-after, Below-any, Below-refl}
+use Rattle.scalar_types.proofs.OrderLemmas.{IsSubset-refl, IsSubset-nil, LabelsAmong-after, Below-refl}
 
 -- ---- sets
 

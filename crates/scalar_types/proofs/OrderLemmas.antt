@@ -1,11 +1,10 @@
 -- The laws of the order of types.
-use Rattle.std.proofs.Common.{◌≡◌, ℕ, ◌+◌, ◌<◌, ◌≤◌, ◌^◌, Bool, true, false, List, [], ◌∷◌, ◌⊎◌, inl, inr, refl, sym, ap, subst, ◌∙◌, arith}
+use Rattle.std.proofs.Common.{◌≡◌, ℕ, Bool, true, false, List, [], refl, sym, ap, ◌∙◌}
 use Rattle.std.specs.List.Sorted.{IsStrictlyIncreasing}
-use Rattle.std.proofs.lemmas.Bool.{true≢false}
 use Rattle.scalar_types.specs.Sets.{IsSubset}
 use Rattle.scalar_types.specs.Terms.{Facts, TypeTerm, any, plain, array, AreFactsWellFormed, IsWellFormed, NoLabelsAtAny}
-use Rattle.scalar_types.specs.Order.{BitsAmong, FactsAmong, LabelsAmong, Below}
-use Rattle.scalar_types.proofs.SetLemmas.{Has, Has-subset, subset_from_Has, Ascends-from_increasing, same_from_members}
+use Rattle.scalar_types.specs.Order.{FactsAmong, LabelsAmong, Below}
+use Rattle.scalar_types.proofs.SetLemmas.{Has-subset, subset_from_Has, Ascends-from_increasing, same_from_members}
 use Rattle.scalar_types.proofs.BitLemmas.{BitsAmong-refl, BitsAmong-trans, same_from_BitsAmong}
 
 -- ---- sets

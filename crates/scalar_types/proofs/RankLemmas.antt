@@ -1,16 +1,15 @@
 -- The rank rises with each strict step up the order.
-use Rattle.std.proofs.Common.{◌≡◌, ℕ, zero, suc, ◌+◌, ◌<◌, ◌≤◌, ◌^◌, Bool, true, false, List, [], ◌∷◌, length, ◌⊎◌, inl, inr, refl, sym, ap, subst, ◌∙◌, arith}
+use Rattle.std.proofs.Common.{◌≡◌, ℕ, zero, suc, ◌+◌, ◌<◌, ◌≤◌, ◌^◌, Bool, true, false, List, [], ◌∷◌, length, ◌⊎◌, inl, inr, refl, sym, subst, ◌∙◌, arith}
 use Rattle.std.specs.Int.{bit_at}
 use Rattle.std.specs.List.Sorted.{IsStrictlyIncreasing}
-use Rattle.std.proofs.lemmas.Bool.{cases_lt, cases_order, cases_eq, true≢false}
+use Rattle.std.proofs.lemmas.Bool.{cases_lt, cases_eq, true≢false}
 use Rattle.std.proofs.lemmas.Nat.Bits.{bit_at-lt, bit_at_above}
 use Rattle.scalar_types.specs.Sets.{IsSubset}
-use Rattle.scalar_types.specs.Terms.{Facts, TypeTerm, any, plain, array, AreFactsWellFormed, IsWellFormed, NoLabelsAtAny}
-use Rattle.scalar_types.specs.Order.{BitsAmong, FactsAmong, LabelsAmong, Below}
+use Rattle.scalar_types.specs.Terms.{Facts, TypeTerm, any, plain, array, AreFactsWellFormed, IsWellFormed}
+use Rattle.scalar_types.specs.Order.{BitsAmong, FactsAmong, Below}
 use Rattle.scalar_types.specs.Join.{NestsTo}
 use Rattle.scalar_types.specs.Rank.{set_bits, flag_count, fact_count, top_rank, rank, UsesOnly}
 use Rattle.scalar_types.proofs.SetLemmas.{Has, Ascends, Has-subset, subset_from_Has, Ascends-from_increasing}
-use Rattle.scalar_types.proofs.OrderLemmas.{IsSubset-nil, LabelsAmong-subset, Below-any}
 
 -- a number rises, or it stays and P holds
 abbrev Rises : ℕ → ℕ → Type 0 → Type 0
@@ -95,5 +94,112 @@ facts_rise f g v w h =
     let text_keys = flags_rise f.text_keys g.text_keys h.text_keys in
     let classes = subset_rises f.classes g.classes v.classes_ascend w.classes_ascend h.classes in
     both _ _ _ _ _ _ _ (both _ _ _ _ _ _ (BitsAmong g.bits f.bits × (g.neg ≡ true → f.neg ≡ true) × (g.text_keys ≡ true → f.text_keys ≡ true))
-        (both _ _ _ _ _ _ (BitsAmong g.bits f.bits × (g.neg ≡ true → f.neg ≡ true)) bits neg (λ p q. (p, q))) text_keys (λ p q. (p.0, p.1, q))) classes
+    (both _ _ _ _ _ _ (BitsAmong g.bits f.bits × (g.neg ≡ true → f.neg ≡ true)) bits neg (λ p q. (p, q))) text_keys (λ p q. (p.0, p.1, q))) classes
     (λ p q. record { bits = p.0; neg = p.1; text_keys = p.2; classes = q })
+
+-- ---- bounds
+
+set_bits_le : (k b : ℕ) → set_bits k b ≤ k
+set_bits_le zero b = omega arith
+set_bits_le (suc k) b = omega (arith, bit_at-lt b k, set_bits_le k b)
+
+flag_count_le : (a : Bool) → flag_count a ≤ 1
+flag_count_le true = omega arith
+flag_count_le false = omega arith
+
+-- an array's facts are more than those of a type without an array that is below it
+array_facts_rise : (f g : Facts) → AreFactsWellFormed f → AreFactsWellFormed g → bit_at f.bits 9 ≡ 0 → bit_at g.bits 9 ≡ 1 → FactsAmong f g → fact_count f < fact_count g
+array_facts_rise f g v w p q h = by (facts_rise f g v w h)
+  where
+    by : Rises (fact_count f) (fact_count g) (FactsAmong g f) → fact_count f < fact_count g
+    by (inl l) = l
+    by (inr r) = absurd (let m = r.1.bits.each 9 in omega (arith, m, p, q))
+
+module _ (labels classes : List ℕ) (labels_ascend : IsStrictlyIncreasing labels) (classes_ascend : IsStrictlyIncreasing classes) where
+  abbrev at : ℕ → TypeTerm → ℕ
+  at n a = rank (length labels) (length classes) n a
+
+  abbrev top : ℕ → ℕ
+  top n = top_rank (length labels) (length classes) n
+
+  fact_count_le : (f : Facts) → AreFactsWellFormed f → IsSubset f.classes classes → fact_count f ≤ 13 + length classes
+  fact_count_le f v s =
+      let l = Rises-le _ _ _ (subset_rises f.classes classes v.classes_ascend classes_ascend s) in
+      omega (arith, set_bits_le 11 f.bits, flag_count_le f.neg, flag_count_le f.text_keys)
+
+  labels_le : (f : Facts) → AreFactsWellFormed f → IsSubset f.shared labels → length f.shared ≤ length labels
+  labels_le f v s = Rises-le _ _ _ (subset_rises f.shared labels v.labels_ascend labels_ascend s)
+
+  top_least : (n : ℕ) → 14 + length labels + length classes ≤ top n
+  top_least zero = omega arith
+  top_least (suc n) = omega arith
+
+  plain_below_top : (n : ℕ) (f : Facts) → IsWellFormed (plain f) → UsesOnly labels classes (plain f) → at n (plain f) < top n
+  plain_below_top n f v u = omega (arith, fact_count_le f v.0 u.1, labels_le f v.0 u.0, top_least n)
+
+  array_below_top : (n : ℕ) (f : Facts) (e : TypeTerm) → IsWellFormed (array f e) → UsesOnly labels classes (array f e) → NestsTo n (array f e) → at n (array f e) < top n
+  array_below_top zero f any v u h = omega (arith, fact_count_le f v.0 u.1)
+  array_below_top zero f (plain g) v u h = absurd h
+  array_below_top zero f (array g e) v u h = absurd h
+  array_below_top (suc n) f any v u h = omega (arith, fact_count_le f v.0 u.1)
+  array_below_top (suc n) f (plain g) v u h = omega (arith, fact_count_le f v.0 u.1, labels_le f v.0 u.0, plain_below_top n g v.3 u.2)
+  array_below_top (suc n) f (array g e) v u h = omega (arith, fact_count_le f v.0 u.1, labels_le f v.0 u.0, array_below_top n g e v.3 u.2 h)
+
+  -- no rank is above that of Any
+  pub rank_le_top : (n : ℕ) (a : TypeTerm) → IsWellFormed a → UsesOnly labels classes a → NestsTo n a → at n a ≤ top n
+  rank_le_top n any v u h = omega arith
+  rank_le_top n (plain f) v u h = omega (arith, plain_below_top n f v u)
+  rank_le_top n (array f e) v u h = omega (arith, array_below_top n f e v u h)
+
+  -- a type that is below another has a lower rank, or it is above it too
+  pub rank_rises : (n : ℕ) (a b : TypeTerm) → IsWellFormed a → IsWellFormed b → UsesOnly labels classes a → UsesOnly labels classes b → NestsTo n a → NestsTo n b → Below a b
+      → (at n a < at n b) ⊎ ((at n a ≡ at n b) × Below b a)
+  rank_rises n any any v w t u p q h = inr (refl, tt)
+  rank_rises n any (plain g) v w t u p q h = absurd h
+  rank_rises n any (array g e) v w t u p q h = absurd h
+  rank_rises n (plain f) any v w t u p q h = inl (plain_below_top n f v t)
+  rank_rises n (array f d) any v w t u p q h = inl (array_below_top n f d v t p)
+  rank_rises n (plain f) (plain g) v w t u p q h =
+      both _ _ _ _ _ _ _ (facts_rise f g v.0 w.0 h.0) (subset_rises f.shared g.shared v.0.labels_ascend w.0.labels_ascend h.1) (λ k l. (k, l))
+  rank_rises zero (plain f) (array g e) v w t u p q h =
+      inl (omega (arith, array_facts_rise f g v.0 w.0 v.1 w.1 h.0, labels_le f v.0 t.0))
+  rank_rises (suc n) (plain f) (array g any) v w t u p q h =
+      inl (omega (arith, array_facts_rise f g v.0 w.0 v.1 w.1 h.0, labels_le f v.0 t.0))
+  rank_rises (suc n) (plain f) (array g (plain k)) v w t u p q h =
+      inl
+      (omega (arith, array_facts_rise f g v.0 w.0 v.1 w.1 h.0, Rises-le _ _ _ (subset_rises f.shared g.shared v.0.labels_ascend w.0.labels_ascend h.1)))
+  rank_rises (suc n) (plain f) (array g (array k e)) v w t u p q h =
+      inl
+      (omega (arith, array_facts_rise f g v.0 w.0 v.1 w.1 h.0, Rises-le _ _ _ (subset_rises f.shared g.shared v.0.labels_ascend w.0.labels_ascend h.1)))
+  rank_rises n (array f d) (plain g) v w t u p q h = absurd h
+  rank_rises zero (array f any) (array g any) v w t u p q h =
+      both _ _ _ _ _ (Unit {0}) _ (facts_rise f g v.0 w.0 h.0) (inr (refl, tt)) (λ k l. (k, tt, tt))
+  rank_rises zero (array f any) (array g (plain k)) v w t u p q h = absurd q
+  rank_rises zero (array f any) (array g (array k e)) v w t u p q h = absurd q
+  rank_rises zero (array f (plain m)) (array g e) v w t u p q h = absurd p
+  rank_rises zero (array f (array m d)) (array g e) v w t u p q h = absurd p
+  rank_rises (suc n) (array f any) (array g any) v w t u p q h =
+      both _ _ _ _ _ (Unit {0}) _ (both _ _ _ _ _ (Unit {0}) (FactsAmong g f) (facts_rise f g v.0 w.0 h.0) (inr (refl, tt)) (λ k l. k)) (inr (refl, tt))
+      (λ k l. (k, tt, tt))
+  rank_rises (suc n) (array f any) (array g (plain k)) v w t u p q h = absurd h.1
+  rank_rises (suc n) (array f any) (array g (array k e)) v w t u p q h = absurd h.1
+  rank_rises (suc n) (array f (plain m)) (array g any) v w t u p q h =
+      inl (omega (arith, Rises-le _ _ _ (facts_rise f g v.0 w.0 h.0), labels_le f v.0 t.0, plain_below_top n m v.3 t.2))
+  rank_rises (suc n) (array f (array m d)) (array g any) v w t u p q h =
+      inl (omega (arith, Rises-le _ _ _ (facts_rise f g v.0 w.0 h.0), labels_le f v.0 t.0, array_below_top n m d v.3 t.2 p))
+  rank_rises (suc n) (array f (plain m)) (array g (plain k)) v w t u p q h =
+      both _ _ _ _ _ _ _
+      (both _ _ _ _ _ _ (FactsAmong g f × IsSubset g.shared f.shared) (facts_rise f g v.0 w.0 h.0)
+      (subset_rises f.shared g.shared v.0.labels_ascend w.0.labels_ascend h.2) (λ x y. (x, y)))
+      (rank_rises n (plain m) (plain k) v.3 w.3 t.2 u.2 p q h.1) (λ x y. (x.0, y, x.1))
+  rank_rises (suc n) (array f (plain m)) (array g (array k e)) v w t u p q h =
+      both _ _ _ _ _ _ _
+      (both _ _ _ _ _ _ (FactsAmong g f × IsSubset g.shared f.shared) (facts_rise f g v.0 w.0 h.0)
+      (subset_rises f.shared g.shared v.0.labels_ascend w.0.labels_ascend h.2) (λ x y. (x, y)))
+      (rank_rises n (plain m) (array k e) v.3 w.3 t.2 u.2 p q h.1) (λ x y. (x.0, y, x.1))
+  rank_rises (suc n) (array f (array m d)) (array g (plain k)) v w t u p q h = absurd h.1
+  rank_rises (suc n) (array f (array m d)) (array g (array k e)) v w t u p q h =
+      both _ _ _ _ _ _ _
+      (both _ _ _ _ _ _ (FactsAmong g f × IsSubset g.shared f.shared) (facts_rise f g v.0 w.0 h.0)
+      (subset_rises f.shared g.shared v.0.labels_ascend w.0.labels_ascend h.2) (λ x y. (x, y)))
+      (rank_rises n (array m d) (array k e) v.3 w.3 t.2 u.2 p q h.1) (λ x y. (x.0, y, x.1))

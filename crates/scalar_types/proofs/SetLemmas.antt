@@ -1,5 +1,5 @@
 -- Lemmas about sets of numbers as ascending lists.
-use Rattle.std.proofs.Common.{◌≡◌, ℕ, ◌+◌, ◌<◌, ◌≤◌, suc, zero, Bool, true, false, cond, eqb, ltb, ◌||◌, List, [], ◌∷◌, length, get_or, filter, ◌⊎◌, inl, inr, refl, sym, ap, subst, ◌∙◌, arith, rules}
+use Rattle.std.proofs.Common.{◌≡◌, ℕ, ◌+◌, ◌<◌, ◌≤◌, suc, zero, Bool, true, false, cond, eqb, ltb, List, [], ◌∷◌, length, get_or, filter, ◌⊎◌, inl, inr, refl, sym, ap, subst, ◌∙◌, arith}
 use Rattle.std.proofs.Common.{Result, Ok, Err, is_ok, MatchResult, ◌++◌}
 use Rattle.std.specs.List.{list_any, list_all, Contains, dedup}
 use Rattle.std.specs.Ordering.{nat_cmp}
@@ -9,7 +9,7 @@ use Rattle.std.proofs.lemmas.List.Sorted.{searched, IsPermutation-sym, Contains-
 use Rattle.std.proofs.lemmas.Map.Keys.{IsStrictlyIncreasing-dedup}
 use Rattle.std.specs.List.Sorted.{IsStrictlyIncreasing, IsSorted, IsPermutation, IsBinarySearchResult}
 use Rattle.std.proofs.lemmas.List.Kept.{AllPairs-from_increasing, Contains-dedup_nat, Contains-from_dedup}
-use Rattle.std.proofs.lemmas.Bool.{cond_both, ltb-true, ltb-false, eqb-true, eqb-false, eq-eqb, false≢true, or_cases, or_left, or_right, cases_Bool, cases_lt, cases_eq, and_parts, and_from, false_from_ne_true, true≢false}
+use Rattle.std.proofs.lemmas.Bool.{cond_both, ltb-true, ltb-false, eqb-true, eqb-false, eq-eqb, false≢true, or_cases, or_left, or_right, cases_lt, cases_eq, and_parts, and_from, false_from_ne_true, true≢false}
 use native.Mathlib.Numerals.{unary_clauses}
 use Rattle.scalar_types.specs.Sets.{IsSubset, insert_number, union, intersection}
 

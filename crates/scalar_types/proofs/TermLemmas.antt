@@ -1,9 +1,9 @@
 -- Types of the code and their terms.
-use Rattle.std.proofs.Common.{◌≡◌, ℕ, Bool, List, Box, Option, Some, None, refl, sym, ap, ◌∙◌, rules}
+use Rattle.std.proofs.Common.{◌≡◌, ℕ, Bool, List, Box, Some, ◌∙◌, rules}
 use Rattle.std.specs.declared.alloc.Global.{Global}
 use Rattle.scalar_types.specs.declared.php_type.PhpType.{PhpType, the_lemmas}
 use Rattle.scalar_types.specs.declared.php_type.PhpType.TheViews.{Known, roll-Parts}
-use Rattle.scalar_types.specs.Terms.{term, array, plain, Facts}
+use Rattle.scalar_types.specs.Terms.{term, array}
 
 -- a known type with an element
 pub term-array : (bits : ℕ) (neg text_keys : Bool) (shared classes xs ys : List ℕ) (b : Box PhpType Global) (e : PhpType)

@@ -1,5 +1,5 @@
 -- The order of types: this project's own, after what values a type admits.
-use Rattle.std.specs.Prelude.{◌≡◌, ℕ, ◌≤◌, List, [], true}
+use Rattle.std.specs.Prelude.{◌≡◌, ℕ, ◌≤◌, List, true}
 use Rattle.std.specs.Int.{bit_at}
 use Rattle.scalar_types.specs.Sets.{IsSubset}
 use Rattle.scalar_types.specs.Terms.{Facts, TypeTerm, any, plain, array}

@@ -5,6 +5,7 @@ mod bits;
 mod depths;
 mod joins;
 mod labels;
+pub mod laws;
 mod meets;
 mod order;
 mod php_type;

@@ -1,4 +1,4 @@
-use Rattle.std.proofs.Common.{eq-eqb, rules}
+use Rattle.std.proofs.Common.{eq-eqb}
 use Rattle.std.proofs.lemmas.Bool.{eqb-true}
 use Rattle.scalar_types.proofs.BitLemmas.{BitsAmong-from_and, and-from_BitsAmong}
 use Rattle.scalar_types.proofs.order.bits_among.Goals as goal

@@ -1,4 +1,4 @@
-use Rattle.std.proofs.Common.{rules, sym, ◌∙◌, ap}
+use Rattle.std.proofs.Common.{rules}
 use Rattle.scalar_types.proofs.SetLemmas.{is_ok-search}
 use Rattle.scalar_types.proofs.sets.has.Goals as goal
 

@@ -1,5 +1,4 @@
-use Rattle.std.proofs.Common.{rules, ◌≡◌, ◌++◌, eqb, sym, ◌∙◌, subst}
-use Rattle.std.specs.List.{dedup}
+use Rattle.std.proofs.Common.{rules, ◌++◌, eqb, sym, ◌∙◌, subst}
 use Rattle.std.specs.List.Sorted.{IsPermutation, IsStrictlyIncreasing}
 use Rattle.std.proofs.lemmas.List.Filters.{dedup_is}
 use Rattle.std.proofs.lemmas.Map.Keys.{IsStrictlyIncreasing-dedup}
