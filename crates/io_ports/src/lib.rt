@@ -7,17 +7,23 @@ mod fault;
 mod host;
 mod memory;
 mod report;
+mod report_sink;
+mod reports;
 mod sink;
 mod source;
 mod target;
 #[cfg(test)]
 mod tests;
 
-pub use calm::{CalmSink, CalmSource, CalmTarget};
+pub use calm::{CalmList, CalmSink, CalmSource, CalmTarget};
 pub use fault::PortFault;
-pub use host::{FolderSource, FolderTarget, StdoutSink};
-pub use memory::{MemorySink, MemorySource, MemoryTarget};
+pub use host::{FileSink, FolderSource, FolderTarget, StdoutSink};
+pub use memory::{ListSink, MemorySink, MemorySource, MemoryTarget};
 pub use report::{Report, Weight};
+pub use report_sink::{ReportSink, retire};
+pub use reports::{
+    CountReports, JsonReports, TextReports, cause_name, code_name, report_json, report_line,
+};
 pub use sink::Sink;
 pub use source::{Found, SourceTree};
 pub use span_edits::{Bytes, PathText, Span};
