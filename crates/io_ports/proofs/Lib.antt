@@ -1,3 +1,4 @@
 pub mod CauseLaws
 pub mod FileLaws
 mod Places
+pub mod WrittenLaws

@@ -1,9 +1,9 @@
 // Reports as lines of text.
-ghost use Rattle.std.specs.Prelude.{◌≡◌, [], is_ok, IfSome};
+ghost use Rattle.std.specs.Prelude.{◌≡◌, ℕ, List, [], is_ok, IfSome, IsErrOf};
 ghost use Rattle.std.specs.Bool.{IsFalse};
 ghost use Rattle.io_ports.specs.Causes.{HasCause};
 ghost use Rattle.io_ports.specs.Files.{Appends};
-ghost use Rattle.io_ports.specs.Lines.{line};
+ghost use Rattle.io_ports.specs.Lines.{line, Written};
 ghost use Rattle.io_ports.specs.Lists.{text_reports_sink, text_reports_list, text_reports_finished};
 ghost use Rattle.io_ports.specs.Reports.{Takes};
 
@@ -66,6 +66,7 @@ impl<S: Sink + Drop> ReportSink for TextReports<S> {
         ensures unfinished { IsFalse (text_reports_finished self.new) }
         ensures cause { HasCause (S.faults (text_reports_sink self.old)) (S.faults (text_reports_sink self.new)) result }
         ensures bytes { IfSome (S.held (text_reports_sink self.old)) (λ old. Appends (line report.now) result old (S.held (text_reports_sink self.new))) }
+        ensures written { (began : List ℕ) → ¬ IsErrOf result PortFault.Failed → Written line began (text_reports_list self.old) (S.held (text_reports_sink self.old)) → Written line began (text_reports_list self.new) (S.held (text_reports_sink self.new)) }
     {
         let line = report_line(self.kept.alloc, report)?;
         self.kept.put_line(report, line.as_slice())
@@ -78,6 +79,7 @@ impl<S: Sink + Drop> ReportSink for TextReports<S> {
         ensures finished { text_reports_finished self.new ≡ is_ok result }
         ensures cause { HasCause (S.faults (text_reports_sink self.old)) (S.faults (text_reports_sink self.new)) result }
         ensures bytes { IfSome (S.held (text_reports_sink self.old)) (λ old. Appends [] result old (S.held (text_reports_sink self.new))) }
+        ensures written { (began : List ℕ) → ¬ IsErrOf result PortFault.Failed → Written line began (text_reports_list self.old) (S.held (text_reports_sink self.old)) → Written line began (text_reports_list self.new) (S.held (text_reports_sink self.new)) }
     {
         self.kept.close(&[])
     }
