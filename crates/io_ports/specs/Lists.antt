@@ -3,6 +3,7 @@ use Rattle.std.specs.Prelude.{ℕ, List, Bool}
 use Rattle.io_ports.specs.declared.report.Report.{Report}
 use Rattle.io_ports.specs.declared.calm.list.CalmList.{CalmList}
 use Rattle.io_ports.specs.declared.memory.list_sink.ListSink.{ListSink}
+use Rattle.io_ports.specs.declared.memory.tally.Tally.{Tally}
 use Rattle.io_ports.specs.declared.reports.text_reports.TextReports.{TextReports}
 use Rattle.io_ports.specs.declared.reports.json_reports.JsonReports.{JsonReports}
 use Rattle.io_ports.specs.declared.reports.count_reports.CountReports.{CountReports}
@@ -38,6 +39,10 @@ json_reports_finished s = s.kept.is_finished
 
 abbrev pub count_reports_finished : {S : Type 0} → CountReports S → Bool
 count_reports_finished s = s.kept.is_finished
+
+-- which calls are to fail, and how many calls and faults there were
+abbrev pub list_sink_tally : ListSink → Tally
+list_sink_tally s = s.tally
 
 -- how often a call failed
 abbrev pub list_sink_faults : ListSink → ℕ

@@ -1,4 +1,4 @@
--- What the forms in memory hold, and how often a call of theirs failed.
+-- What the forms in memory hold, and which of their calls fail.
 use Rattle.std.specs.Prelude.{ℕ, List}
 use Rattle.io_ports.specs.Files.{File}
 use Rattle.io_ports.specs.declared.calm.sink.CalmSink.{CalmSink}
@@ -6,6 +6,7 @@ use Rattle.io_ports.specs.declared.calm.source.CalmSource.{CalmSource}
 use Rattle.io_ports.specs.declared.calm.target.CalmTarget.{CalmTarget}
 use Rattle.io_ports.specs.declared.memory.sink.MemorySink.{MemorySink}
 use Rattle.io_ports.specs.declared.memory.source.MemorySource.{MemorySource}
+use Rattle.io_ports.specs.declared.memory.tally.Tally.{Tally}
 use Rattle.io_ports.specs.declared.memory.target.MemoryTarget.{MemoryTarget}
 
 -- the files by path in byte order
@@ -27,6 +28,16 @@ memory_sink_bytes s = s.bytes.items
 
 abbrev pub calm_sink_bytes : CalmSink → List ℕ
 calm_sink_bytes s = s.bytes.items
+
+-- which calls are to fail, and how many calls and faults there were
+abbrev pub memory_source_tally : MemorySource → Tally
+memory_source_tally s = s.tally
+
+abbrev pub memory_target_tally : MemoryTarget → Tally
+memory_target_tally t = t.tally
+
+abbrev pub memory_sink_tally : MemorySink → Tally
+memory_sink_tally s = s.tally
 
 -- how often a call failed
 abbrev pub memory_source_faults : MemorySource → ℕ

@@ -1,7 +1,10 @@
 // Reports in memory.
-ghost use Rattle.std.specs.Prelude.{◌≡◌};
+ghost use Rattle.std.specs.Prelude.{◌≡◌, is_ok};
 ghost use Rattle.std.specs.Bool.{IsFalse};
-ghost use Rattle.io_ports.specs.Lists.{list_sink_list, list_sink_finished, list_sink_faults};
+ghost use Rattle.io_ports.specs.Causes.{HasCause};
+ghost use Rattle.io_ports.specs.Fails.{Fails, IsFresh};
+ghost use Rattle.io_ports.specs.Lists.{list_sink_list, list_sink_finished, list_sink_faults, list_sink_tally};
+ghost use Rattle.io_ports.specs.Reports.{Takes};
 
 use crate::fault::PortFault;
 use crate::memory::tally::Tally;
@@ -9,7 +12,8 @@ use crate::report::{Report, keep_copy};
 use crate::report_sink::ReportSink;
 use std::alloc::Global;
 
-/// Reports in memory. Contracts see `list_sink_list`, `list_sink_finished` and `list_sink_faults`.
+/// Reports in memory. Contracts see `list_sink_list`, `list_sink_finished` and
+/// `list_sink_tally`.
 #[derive(Drop)]
 pub struct ListSink {
     alloc: Global,
@@ -24,7 +28,7 @@ impl ListSink {
     pub fn new(alloc: Global, reports: Vec<Report>, failing: Vec<u64>) -> ListSink
         ensures list { list_sink_list result ≡ reports.items }
         ensures unfinished { IsFalse (list_sink_finished result) }
-        ensures faults { list_sink_faults result ≡ 0 }
+        ensures tally { IsFresh failing.items (list_sink_tally result) }
     {
         ListSink {
             alloc,
@@ -59,14 +63,26 @@ impl ReportSink for ListSink {
         self.is_finished
     }
 
-    fn take(&mut self, report: &Report) -> Result<(), PortFault> {
+    fn take(&mut self, report: &Report) -> Result<(), PortFault>
+        requires { IsFalse (list_sink_finished self.old) }
+        ensures list { Takes report.now result (list_sink_list self.old) (list_sink_list self.new) }
+        ensures unfinished { IsFalse (list_sink_finished self.new) }
+        ensures cause { HasCause (list_sink_faults self.old) (list_sink_faults self.new) result }
+        ensures fails { Fails (list_sink_tally self.old) (list_sink_tally self.new) result }
+    {
         if self.tally.fails() {
             return Err(PortFault::Failed);
         }
         Ok(keep_copy(self.alloc, &mut self.reports, report)?)
     }
 
-    fn finish(&mut self) -> Result<(), PortFault> {
+    fn finish(&mut self) -> Result<(), PortFault>
+        requires { IsFalse (list_sink_finished self.old) }
+        ensures list { list_sink_list self.new ≡ list_sink_list self.old }
+        ensures finished { list_sink_finished self.new ≡ is_ok result }
+        ensures cause { HasCause (list_sink_faults self.old) (list_sink_faults self.new) result }
+        ensures fails { Fails (list_sink_tally self.old) (list_sink_tally self.new) result }
+    {
         if self.tally.fails() {
             return Err(PortFault::Failed);
         }

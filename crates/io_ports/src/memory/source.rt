@@ -10,7 +10,7 @@ use crate::source::{Found, SourceTree};
 use span_edits::{Bytes, PathText};
 use std::alloc::Global;
 
-/// Sources in memory. Contracts see `memory_source_files` and `memory_source_faults`.
+/// Sources in memory. Contracts see `memory_source_files` and `memory_source_tally`.
 #[derive(Drop)]
 pub struct MemorySource {
     files: Vec<(PathText, Bytes)>,
@@ -19,14 +19,15 @@ pub struct MemorySource {
 }
 
 impl MemorySource {
-    ghost use Rattle.io_ports.specs.Memory.{memory_source_files, memory_source_faults};
+    ghost use Rattle.io_ports.specs.Fails.{IsFresh};
+    ghost use Rattle.io_ports.specs.Memory.{memory_source_files, memory_source_tally};
 
     /// These files, whose paths strictly ascend and end in `.php`. `failing` has the numbers, from
     /// 1, of the calls that fail.
     pub fn new(files: Vec<(PathText, Bytes)>, failing: Vec<u64>) -> MemorySource
         requires { IsSources files.items }
         ensures files { memory_source_files result ≡ files.items }
-        ensures faults { memory_source_faults result ≡ 0 }
+        ensures tally { IsFresh failing.items (memory_source_tally result) }
     {
         MemorySource {
             files,
@@ -43,21 +44,36 @@ impl MemorySource {
 }
 
 impl SourceTree for MemorySource {
-    ghost use Rattle.std.specs.Prelude.{Some};
-    ghost use Rattle.io_ports.specs.Memory.{memory_source_files, memory_source_faults};
+    ghost use Rattle.std.specs.Prelude.{Some, map, IfOk, OnOk, OnErr};
+    ghost use Rattle.io_ports.specs.Causes.{HasCause};
+    ghost use Rattle.io_ports.specs.Fails.{Fails};
+    ghost use Rattle.io_ports.specs.Files.{Reads};
+    ghost use Rattle.io_ports.specs.Memory.{memory_source_files, memory_source_faults, memory_source_tally};
 
     ghost files = { λ s. Some (memory_source_files s) };
 
     ghost faults = { memory_source_faults };
 
-    fn paths(&mut self, alloc: Global) -> Result<Vec<PathText>, PortFault> {
+    fn paths(&mut self, alloc: Global) -> Result<Vec<PathText>, PortFault>
+        ensures told { IfOk result (λ ps. ps.items ≡ map (λ f. f.0) (memory_source_files self.old)) }
+        ensures order { OnOk result (IsSources (memory_source_files self.old)) }
+        ensures same { memory_source_files self.new ≡ memory_source_files self.old }
+        ensures cause { HasCause (memory_source_faults self.old) (memory_source_faults self.new) result }
+        ensures fails { Fails (memory_source_tally self.old) (memory_source_tally self.new) result }
+    {
         if self.tally.fails() {
             return Err(PortFault::Failed);
         }
         Ok(files::paths_of(alloc, self.files.as_slice())?)
     }
 
-    fn read(&mut self, path: &str, max: u64, into: &mut Vec<u8>) -> Result<Found, PortFault> {
+    fn read(&mut self, path: &str, max: u64, into: &mut Vec<u8>) -> Result<Found, PortFault>
+        ensures told { IfOk result (λ answer. Reads (memory_source_files self.old) path.now max answer into.old.items into.new.items) }
+        ensures err { OnErr result (into.new.items ≡ into.old.items) }
+        ensures same { memory_source_files self.new ≡ memory_source_files self.old }
+        ensures cause { HasCause (memory_source_faults self.old) (memory_source_faults self.new) result }
+        ensures fails { Fails (memory_source_tally self.old) (memory_source_tally self.new) result }
+    {
         if self.tally.fails() {
             return Err(PortFault::Failed);
         }

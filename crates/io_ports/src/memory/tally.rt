@@ -1,7 +1,9 @@
 // Which calls of an object are to fail, and how many have.
-ghost use Rattle.std.specs.Prelude.{◌≡◌, ◌≤◌};
+ghost use Rattle.std.specs.Prelude.{◌≡◌, ◌≤◌, ◌==◌};
 ghost use Rattle.std.specs.Bool.{OnFalse, OnTrue};
+ghost use Rattle.std.specs.List.{list_any};
 ghost use Rattle.io_ports.specs.Causes.{Rose};
+ghost use Rattle.io_ports.specs.Fails.{IsFresh, next_call};
 
 /// The numbers of the calls that are to fail, from 1, with the calls and the faults so far.
 #[derive(Drop)]
@@ -14,7 +16,7 @@ pub struct Tally {
 impl Tally {
     /// No call so far.
     pub fn new(failing: Vec<u64>) -> Tally
-        ensures { result.faults ≡ 0 }
+        ensures { IsFresh failing.items result }
     {
         Tally {
             failing,
@@ -25,6 +27,9 @@ impl Tally {
 
     /// Counts a call, and answers whether it is to fail.
     pub fn fails(&mut self) -> bool
+        ensures answer { result ≡ list_any (λ n. n == next_call self.old) self.old.failing.items }
+        ensures counted { self.new.calls ≡ next_call self.old }
+        ensures listed { self.new.failing.items ≡ self.old.failing.items }
         ensures rose { OnTrue result (Rose self.old.faults self.new.faults) }
         ensures later { self.old.faults ≤ self.new.faults }
         ensures stays { OnFalse result (self.new.faults ≡ self.old.faults) }

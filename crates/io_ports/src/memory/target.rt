@@ -1,7 +1,9 @@
 // Targets in memory.
-ghost use Rattle.std.specs.Prelude.{◌≡◌};
-ghost use Rattle.io_ports.specs.Files.{IsTree};
-ghost use Rattle.io_ports.specs.Memory.{memory_target_files, memory_target_faults};
+ghost use Rattle.std.specs.Prelude.{◌≡◌, Some};
+ghost use Rattle.io_ports.specs.Causes.{HasCause};
+ghost use Rattle.io_ports.specs.Fails.{Fails, IsFresh};
+ghost use Rattle.io_ports.specs.Files.{IsTree, Puts};
+ghost use Rattle.io_ports.specs.Memory.{memory_target_files, memory_target_faults, memory_target_tally};
 
 use crate::fault::PortFault;
 use crate::memory::files;
@@ -10,7 +12,7 @@ use crate::target::TargetTree;
 use span_edits::{Bytes, PathText};
 use std::alloc::Global;
 
-/// A target in memory. Contracts see `memory_target_files` and `memory_target_faults`.
+/// A target in memory. Contracts see `memory_target_files` and `memory_target_tally`.
 #[derive(Drop)]
 pub struct MemoryTarget {
     alloc: Global,
@@ -24,7 +26,7 @@ impl MemoryTarget {
     pub fn new(alloc: Global, files: Vec<(PathText, Bytes)>, failing: Vec<u64>) -> MemoryTarget
         requires { IsTree files.items }
         ensures files { memory_target_files result ≡ files.items }
-        ensures faults { memory_target_faults result ≡ 0 }
+        ensures tally { IsFresh failing.items (memory_target_tally result) }
     {
         MemoryTarget {
             alloc,
@@ -49,7 +51,11 @@ impl TargetTree for MemoryTarget {
 
     ghost faults = { memory_target_faults };
 
-    fn put(&mut self, path: &str, bytes: &[u8]) -> Result<(), PortFault> {
+    fn put(&mut self, path: &str, bytes: &[u8]) -> Result<(), PortFault>
+        ensures told { Puts path.now bytes.now result (memory_target_files self.old) (Some (memory_target_files self.new)) }
+        ensures cause { HasCause (memory_target_faults self.old) (memory_target_faults self.new) result }
+        ensures fails { Fails (memory_target_tally self.old) (memory_target_tally self.new) result }
+    {
         if self.tally.fails() {
             return Err(PortFault::Failed);
         }
