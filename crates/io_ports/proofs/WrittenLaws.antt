@@ -1,8 +1,7 @@
 -- The bytes of a sink of reports are the lines of its list.
 use Rattle.std.proofs.Common.{◌≡◌, ℕ, List, [], ◌∷◌, ◌++◌, Option, Some, Result, Ok, Err, IfSome, IsErrOf, refl, sym, ap, ◌∙◌, subst, append_assoc, append-nil}
 use Rattle.io_ports.specs.Files.{Appends}
-use Rattle.io_ports.specs.Lines.{lines, Written}
-use Rattle.io_ports.specs.Reports.{Takes}
+use Rattle.io_ports.specs.Reports.{Takes, lines, Written}
 use Rattle.io_ports.specs.declared.fault.PortFault.{PortFault}
 use Rattle.io_ports.specs.declared.fault.PortFault.TheVariants.{Failed, Memory}
 use Rattle.io_ports.specs.declared.report.Report.{Report}

@@ -1,5 +1,5 @@
 -- Reports as text. The forms are this project's own.
-use Rattle.std.specs.Prelude.{◌≡◌, ℕ, zero, suc, ◌+◌, ◌==◌, max, List, [], ◌∷◌, ◌++◌, codes, count_by, decimal, if◌then◌else◌, Option, Some}
+use Rattle.std.specs.Prelude.{ℕ, zero, suc, ◌+◌, ◌==◌, max, List, [], ◌∷◌, ◌++◌, codes, count_by, decimal, if◌then◌else◌}
 use Rattle.serde_json.specs.Data.{Data, number, string, object, unsigned, member, no_members}
 use Rattle.serde_json.specs.Written.{compact_text}
 use Rattle.io_ports.specs.Names.{code_text, cause_text, weight_name}
@@ -52,12 +52,3 @@ code_bound (r ∷ rs) = max (r.code + 1) (code_bound rs)
 -- those lines of all codes that reports have
 unfoldable pub count_lines : List Report → List ℕ
 count_lines reports = count_lines_below (code_bound reports) reports
-
--- the lines of all reports, in order
-abbrev pub lines : (Report → List ℕ) → List Report → List ℕ
-lines line_of [] = []
-lines line_of (r ∷ rs) = line_of r ++ lines line_of rs
-
--- a sink of bytes that tells some first bytes and then the lines of the reports
-abbrev pub Written : (Report → List ℕ) → List ℕ → List Report → Option (List ℕ) → Type 0
-Written line_of began reports held = held ≡ Some (began ++ lines line_of reports)

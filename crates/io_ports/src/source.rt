@@ -35,7 +35,8 @@ pub trait SourceTree {
 
     /// Appends a whole file of at most `max` bytes. A path that `paths` listed is never absent.
     fn read(&mut self, path: &str, max: u64, into: &mut Vec<u8>) -> Result<Found, PortFault>
-        ensures told { IfSome (files self.old) (λ fs. IfOk result (λ answer. Reads fs path.now max answer into.old.items into.new.items)) }
+        ensures told { IfSome (files self.old)
+            (λ fs. IfOk result (λ answer. Reads fs path.now max answer into.old.items into.new.items)) }
         ensures err { OnErr result (into.new.items ≡ into.old.items) }
         ensures absent { IfOk result (λ answer. answer ≡ Found.Absent → IsSome (files self.old)) }
         ensures same { files self.new ≡ files self.old }

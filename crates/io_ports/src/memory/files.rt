@@ -57,8 +57,10 @@ pub fn read_of(
 // Where a path stands, or where it goes.
 fn place_of(files: &[(PathText, Bytes)], path: &str) -> Result<usize, usize>
     ensures within { MatchResult result (λ at. at < length files.now) (λ at. at ≤ length files.now) }
-    ensures found { IfOk result (λ at. (bytes : List ℕ) (f : File) → slice_get files.now at ≡ Some f → put_file path.now bytes files.now ≡ slice_set files.now at (f.0, bytes)) }
-    ensures absent { IfErr result (λ at. (bytes : List ℕ) → put_file path.now bytes files.now ≡ insert files.now at (path.now, bytes)) }
+    ensures found { IfOk result (λ at. (bytes : List ℕ) (f : File) → slice_get files.now at ≡ Some f
+        → put_file path.now bytes files.now ≡ slice_set files.now at (f.0, bytes)) }
+    ensures absent { IfErr result (λ at. (bytes : List ℕ)
+        → put_file path.now bytes files.now ≡ insert files.now at (path.now, bytes)) }
 {
     for at in 0..files.len() {
         match path.cmp(files[at].0.as_str()) {

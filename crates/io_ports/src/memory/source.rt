@@ -68,7 +68,8 @@ impl SourceTree for MemorySource {
     }
 
     fn read(&mut self, path: &str, max: u64, into: &mut Vec<u8>) -> Result<Found, PortFault>
-        ensures told { IfOk result (λ answer. Reads (memory_source_files self.old) path.now max answer into.old.items into.new.items) }
+        ensures told { IfOk result
+            (λ answer. Reads (memory_source_files self.old) path.now max answer into.old.items into.new.items) }
         ensures err { OnErr result (into.new.items ≡ into.old.items) }
         ensures same { memory_source_files self.new ≡ memory_source_files self.old }
         ensures cause { HasCause (memory_source_faults self.old) (memory_source_faults self.new) result }

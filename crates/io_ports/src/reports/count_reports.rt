@@ -1,11 +1,10 @@
 // Reports as counts of their codes.
-ghost use Rattle.std.specs.Prelude.{◌≡◌, ◌≤◌, ◌^◌, ◌++◌, [], is_ok, IfSome, OnOk, IfOk};
+ghost use Rattle.std.specs.Prelude.{◌≡◌, ◌≤◌, ◌^◌, ◌++◌, [], is_ok, OnOk, IfOk};
 ghost use Rattle.std.specs.Bool.{IsFalse};
 ghost use Rattle.io_ports.specs.Causes.{HasCause};
-ghost use Rattle.io_ports.specs.Files.{Appends};
 ghost use Rattle.io_ports.specs.Lines.{code_bound, count_line, count_lines};
 ghost use Rattle.io_ports.specs.Lists.{count_reports_sink, count_reports_list, count_reports_finished};
-ghost use Rattle.io_ports.specs.Reports.{Takes};
+ghost use Rattle.io_ports.specs.Reports.{PutsText, Takes};
 
 use crate::fault::PortFault;
 use crate::report::{Report, keep_copy};
@@ -120,7 +119,8 @@ impl<S: Sink + Drop> ReportSink for CountReports<S> {
         ensures list { count_reports_list self.new ≡ count_reports_list self.old }
         ensures finished { count_reports_finished self.new ≡ is_ok result }
         ensures cause { HasCause (S.faults (count_reports_sink self.old)) (S.faults (count_reports_sink self.new)) result }
-        ensures bytes { IfSome (S.held (count_reports_sink self.old)) (λ old. Appends (count_lines (count_reports_list self.old)) result old (S.held (count_reports_sink self.new))) }
+        ensures bytes { PutsText (count_lines (count_reports_list self.old)) result
+            (S.held (count_reports_sink self.old)) (S.held (count_reports_sink self.new)) }
     {
         let text = counts_of(self.kept.alloc, self.kept.reports.as_slice())?;
         self.kept.close(text.as_slice())

@@ -1,11 +1,10 @@
 // Reports as lines of JSON.
-ghost use Rattle.std.specs.Prelude.{◌≡◌, ℕ, List, [], is_ok, IfSome, IsErrOf};
+ghost use Rattle.std.specs.Prelude.{◌≡◌, [], is_ok};
 ghost use Rattle.std.specs.Bool.{IsFalse};
 ghost use Rattle.io_ports.specs.Causes.{HasCause};
-ghost use Rattle.io_ports.specs.Files.{Appends};
-ghost use Rattle.io_ports.specs.Lines.{json_line, Written};
+ghost use Rattle.io_ports.specs.Lines.{json_line};
 ghost use Rattle.io_ports.specs.Lists.{json_reports_sink, json_reports_list, json_reports_finished};
-ghost use Rattle.io_ports.specs.Reports.{Takes};
+ghost use Rattle.io_ports.specs.Reports.{PutsText, StaysWritten, Takes};
 
 use crate::fault::PortFault;
 use crate::report::Report;
@@ -15,8 +14,8 @@ use crate::reports::kept::Kept;
 use crate::sink::Sink;
 use std::alloc::Global;
 
-/// Writes `report_json` of each report to a sink of bytes as it is taken. Contracts see `json_reports_sink`,
-/// `json_reports_list` and `json_reports_finished`.
+/// Writes `report_json` of each report to a sink of bytes as it is taken. Contracts see
+/// `json_reports_sink`, `json_reports_list` and `json_reports_finished`.
 #[derive(Drop)]
 pub struct JsonReports<S> {
     kept: Kept<S>,
@@ -65,8 +64,11 @@ impl<S: Sink + Drop> ReportSink for JsonReports<S> {
         ensures list { Takes report.now result (json_reports_list self.old) (json_reports_list self.new) }
         ensures unfinished { IsFalse (json_reports_finished self.new) }
         ensures cause { HasCause (S.faults (json_reports_sink self.old)) (S.faults (json_reports_sink self.new)) result }
-        ensures bytes { IfSome (S.held (json_reports_sink self.old)) (λ old. Appends (json_line report.now) result old (S.held (json_reports_sink self.new))) }
-        ensures written { (began : List ℕ) → ¬ IsErrOf result PortFault.Failed → Written json_line began (json_reports_list self.old) (S.held (json_reports_sink self.old)) → Written json_line began (json_reports_list self.new) (S.held (json_reports_sink self.new)) }
+        ensures bytes { PutsText (json_line report.now) result
+            (S.held (json_reports_sink self.old)) (S.held (json_reports_sink self.new)) }
+        ensures written { StaysWritten json_line result
+            (json_reports_list self.old) (S.held (json_reports_sink self.old))
+            (json_reports_list self.new) (S.held (json_reports_sink self.new)) }
     {
         let line = report_json(self.kept.alloc, report)?;
         self.kept.put_line(report, line.as_slice())
@@ -78,8 +80,11 @@ impl<S: Sink + Drop> ReportSink for JsonReports<S> {
         ensures list { json_reports_list self.new ≡ json_reports_list self.old }
         ensures finished { json_reports_finished self.new ≡ is_ok result }
         ensures cause { HasCause (S.faults (json_reports_sink self.old)) (S.faults (json_reports_sink self.new)) result }
-        ensures bytes { IfSome (S.held (json_reports_sink self.old)) (λ old. Appends [] result old (S.held (json_reports_sink self.new))) }
-        ensures written { (began : List ℕ) → ¬ IsErrOf result PortFault.Failed → Written json_line began (json_reports_list self.old) (S.held (json_reports_sink self.old)) → Written json_line began (json_reports_list self.new) (S.held (json_reports_sink self.new)) }
+        ensures bytes { PutsText [] result
+            (S.held (json_reports_sink self.old)) (S.held (json_reports_sink self.new)) }
+        ensures written { StaysWritten json_line result
+            (json_reports_list self.old) (S.held (json_reports_sink self.old))
+            (json_reports_list self.new) (S.held (json_reports_sink self.new)) }
     {
         self.kept.close(&[])
     }

@@ -1,9 +1,8 @@
 // The reports that a sink took, with the sink of bytes that it writes to.
-ghost use Rattle.std.specs.Prelude.{◌≡◌, [], is_ok, IfSome};
+ghost use Rattle.std.specs.Prelude.{◌≡◌, [], is_ok};
 ghost use Rattle.std.specs.Bool.{IsFalse};
 ghost use Rattle.io_ports.specs.Causes.{HasCause};
-ghost use Rattle.io_ports.specs.Files.{Appends};
-ghost use Rattle.io_ports.specs.Reports.{Takes};
+ghost use Rattle.io_ports.specs.Reports.{PutsText, Takes};
 
 use crate::fault::PortFault;
 use crate::report::{Report, keep_copy};
@@ -40,7 +39,7 @@ impl<S: Sink> Kept<S> {
     pub fn put_line(&mut self, report: &Report, line: &[u8]) -> Result<(), PortFault>
         ensures list { Takes report.now result self.old.reports.items self.new.reports.items }
         ensures finished { self.new.is_finished ≡ self.old.is_finished }
-        ensures bytes { IfSome (S.held self.old.sink) (λ old. Appends line.now result old (S.held self.new.sink)) }
+        ensures bytes { PutsText line.now result (S.held self.old.sink) (S.held self.new.sink) }
         ensures cause { HasCause (S.faults self.old.sink) (S.faults self.new.sink) result }
     {
         keep_copy(self.alloc, &mut self.reports, report)?;
@@ -58,7 +57,7 @@ impl<S: Sink> Kept<S> {
         requires { IsFalse self.old.is_finished }
         ensures list { self.new.reports.items ≡ self.old.reports.items }
         ensures finished { self.new.is_finished ≡ is_ok result }
-        ensures bytes { IfSome (S.held self.old.sink) (λ old. Appends text.now result old (S.held self.new.sink)) }
+        ensures bytes { PutsText text.now result (S.held self.old.sink) (S.held self.new.sink) }
         ensures cause { HasCause (S.faults self.old.sink) (S.faults self.new.sink) result }
     {
         self.sink.put(text)?;

@@ -1,11 +1,10 @@
 // Reports as lines of text.
-ghost use Rattle.std.specs.Prelude.{◌≡◌, ℕ, List, [], is_ok, IfSome, IsErrOf};
+ghost use Rattle.std.specs.Prelude.{◌≡◌, [], is_ok};
 ghost use Rattle.std.specs.Bool.{IsFalse};
 ghost use Rattle.io_ports.specs.Causes.{HasCause};
-ghost use Rattle.io_ports.specs.Files.{Appends};
-ghost use Rattle.io_ports.specs.Lines.{line, Written};
+ghost use Rattle.io_ports.specs.Lines.{line};
 ghost use Rattle.io_ports.specs.Lists.{text_reports_sink, text_reports_list, text_reports_finished};
-ghost use Rattle.io_ports.specs.Reports.{Takes};
+ghost use Rattle.io_ports.specs.Reports.{PutsText, StaysWritten, Takes};
 
 use crate::fault::PortFault;
 use crate::report::Report;
@@ -15,8 +14,8 @@ use crate::reports::line_text::report_line;
 use crate::sink::Sink;
 use std::alloc::Global;
 
-/// Writes `report_line` of each report to a sink of bytes as it is taken. Contracts see `text_reports_sink`,
-/// `text_reports_list` and `text_reports_finished`.
+/// Writes `report_line` of each report to a sink of bytes as it is taken. Contracts see
+/// `text_reports_sink`, `text_reports_list` and `text_reports_finished`.
 #[derive(Drop)]
 pub struct TextReports<S> {
     kept: Kept<S>,
@@ -65,8 +64,11 @@ impl<S: Sink + Drop> ReportSink for TextReports<S> {
         ensures list { Takes report.now result (text_reports_list self.old) (text_reports_list self.new) }
         ensures unfinished { IsFalse (text_reports_finished self.new) }
         ensures cause { HasCause (S.faults (text_reports_sink self.old)) (S.faults (text_reports_sink self.new)) result }
-        ensures bytes { IfSome (S.held (text_reports_sink self.old)) (λ old. Appends (line report.now) result old (S.held (text_reports_sink self.new))) }
-        ensures written { (began : List ℕ) → ¬ IsErrOf result PortFault.Failed → Written line began (text_reports_list self.old) (S.held (text_reports_sink self.old)) → Written line began (text_reports_list self.new) (S.held (text_reports_sink self.new)) }
+        ensures bytes { PutsText (line report.now) result
+            (S.held (text_reports_sink self.old)) (S.held (text_reports_sink self.new)) }
+        ensures written { StaysWritten line result
+            (text_reports_list self.old) (S.held (text_reports_sink self.old))
+            (text_reports_list self.new) (S.held (text_reports_sink self.new)) }
     {
         let line = report_line(self.kept.alloc, report)?;
         self.kept.put_line(report, line.as_slice())
@@ -78,8 +80,11 @@ impl<S: Sink + Drop> ReportSink for TextReports<S> {
         ensures list { text_reports_list self.new ≡ text_reports_list self.old }
         ensures finished { text_reports_finished self.new ≡ is_ok result }
         ensures cause { HasCause (S.faults (text_reports_sink self.old)) (S.faults (text_reports_sink self.new)) result }
-        ensures bytes { IfSome (S.held (text_reports_sink self.old)) (λ old. Appends [] result old (S.held (text_reports_sink self.new))) }
-        ensures written { (began : List ℕ) → ¬ IsErrOf result PortFault.Failed → Written line began (text_reports_list self.old) (S.held (text_reports_sink self.old)) → Written line began (text_reports_list self.new) (S.held (text_reports_sink self.new)) }
+        ensures bytes { PutsText [] result
+            (S.held (text_reports_sink self.old)) (S.held (text_reports_sink self.new)) }
+        ensures written { StaysWritten line result
+            (text_reports_list self.old) (S.held (text_reports_sink self.old))
+            (text_reports_list self.new) (S.held (text_reports_sink self.new)) }
     {
         self.kept.close(&[])
     }
