@@ -7,10 +7,10 @@ use Rattle.php_meaning.specs.Value.{Cell, Key, IntKey, TextKey, Value, Null, Tru
 use Rattle.php_meaning.specs.Cause.{Outcome, Gives, Outside, Cause, Reference, outcome_map}
 use Rattle.php_tree.specs.declared.version.Version.TheVariants.{V74, V83}
 use Rattle.php_meaning.specs.Differences.{in_version}
-use Rattle.php_meaning.specs.Cells.{Cells}
+use Rattle.php_meaning.specs.Cells.{Cells, is_among, inside}
 use Rattle.php_meaning.specs.Identical.{is_same_int, is_same_text, is_same_key}
 use Rattle.php_meaning.specs.Arrays.{Element, Own, Shared, Array, element_at, entry, behind, added, replaced, Written, Changed, IntoCell, written, written_over, added_if_missing, with_missing, union, count, next_key}
-use Rattle.php_meaning.specs.Copies.{copied_entry, copied_by, copied_entries, copied_within, copied}
+use Rattle.php_meaning.specs.Copies.{Copying, copied_entry, copied_by, copied_entries, copied_within, copied}
 use Rattle.php_meaning.specs.ArrayLaws.{DiffersAt, either, HoldsNoCell, HoldNoCell, is_negative}
 
 -- ---- keys
@@ -227,36 +227,46 @@ of_shared : (x : Bool) (o : Outcome Entries) → OfGiven HoldNoCell o
 of_shared true o h = h
 of_shared false o h = tt
 
-module _ (cells : Cells) (in_cell : Value → Outcome Value) (first : ℕ) (held : (v : Value) → OfGiven HoldsNoCell (in_cell v)) where
+of_inside : (x : Bool) (o : Outcome Value) → OfGiven HoldsNoCell o → OfGiven HoldsNoCell (cond x (Outside Reference) o)
+of_inside true o h = tt
+of_inside false o h = h
+
+module _ (cells : Cells) (in_cell : Copying) (first : ℕ)
+    (held : (around : List Cell) (v : Value) → OfGiven HoldsNoCell (in_cell around v)) where
   mutual
-    copied_by_holds : (v : Value) → OfGiven HoldsNoCell (copied_by cells in_cell first v)
-    copied_by_holds Null = tt
-    copied_by_holds (Truth b) = tt
-    copied_by_holds (Int i) = tt
-    copied_by_holds (Text t) = tt
-    copied_by_holds (Object n) = tt
-    copied_by_holds (Arr largest next es) =
-        of_array largest (first + count es) (copied_entries cells in_cell first first es) (copied_entries_hold first es)
+    copied_by_holds : (around : List Cell) (v : Value) → OfGiven HoldsNoCell (copied_by cells in_cell first around v)
+    copied_by_holds around Null = tt
+    copied_by_holds around (Truth b) = tt
+    copied_by_holds around (Int i) = tt
+    copied_by_holds around (Text t) = tt
+    copied_by_holds around (Object n) = tt
+    copied_by_holds around (Arr largest next es) =
+        of_array largest (first + count es) (copied_entries cells in_cell first around first es)
+        (copied_entries_hold around first es)
 
-    copied_entries_hold : (n : ℕ) (es : Entries) → OfGiven HoldNoCell (copied_entries cells in_cell first n es)
-    copied_entries_hold n none = tt
-    copied_entries_hold n (own k m v rest) =
-        of_entry k n (copied_by cells in_cell first v) (copied_entries cells in_cell first (suc n) rest) (copied_by_holds v)
-        (copied_entries_hold (suc n) rest)
-    copied_entries_hold n (shared k m c rest) = of_shared (cells.has_one_holder c)
-        (copied_entry k n (in_cell (cells.value_in c)) (copied_entries cells in_cell first (suc n) rest))
-        (of_entry k n (in_cell (cells.value_in c)) (copied_entries cells in_cell first (suc n) rest) (held (cells.value_in c))
-        (copied_entries_hold (suc n) rest))
+    copied_entries_hold : (around : List Cell) (n : ℕ) (es : Entries)
+        → OfGiven HoldNoCell (copied_entries cells in_cell first around n es)
+    copied_entries_hold around n none = tt
+    copied_entries_hold around n (own k m v rest) =
+        of_entry k n (copied_by cells in_cell first around v) (copied_entries cells in_cell first around (suc n) rest)
+        (copied_by_holds around v) (copied_entries_hold around (suc n) rest)
+    copied_entries_hold around n (shared k m c rest) = of_shared (cells.has_one_holder c)
+        (copied_entry k n (inside c around (λ more. in_cell more (cells.value_in c)))
+        (copied_entries cells in_cell first around (suc n) rest))
+        (of_entry k n (inside c around (λ more. in_cell more (cells.value_in c)))
+        (copied_entries cells in_cell first around (suc n) rest)
+        (of_inside (is_among c around) (in_cell (c ∷ around) (cells.value_in c)) (held (c ∷ around) (cells.value_in c)))
+        (copied_entries_hold around (suc n) rest))
 
-within_holds : (turns : ℕ) (cells : Cells) (first : ℕ) (v : Value)
-    → OfGiven HoldsNoCell (copied_within turns cells first v)
-within_holds zero cells first v = tt
-within_holds (suc more) cells first v =
-    copied_by_holds cells (copied_within more cells first) first (λ w. within_holds more cells first w) v
+within_holds : (turns : ℕ) (cells : Cells) (first : ℕ) (around : List Cell) (v : Value)
+    → OfGiven HoldsNoCell (copied_within turns cells first around v)
+within_holds zero cells first around v = tt
+within_holds (suc more) cells first around v =
+    copied_by_holds cells (copied_within more cells first) first (within_holds more cells first) around v
 
 pub copy_holds_none : (cells : Cells) (first : ℕ) (v w : Value) → copied cells first v ≡ Gives w → HoldsNoCell w
 copy_holds_none cells first v w e =
-    of_given HoldsNoCell (copied cells first v) w (within_holds (suc cells.count) cells first v) e
+    of_given HoldsNoCell (copied cells first v) w (within_holds (suc cells.count) cells first [] v) e
 
 -- ---- the next key
 

@@ -16,3 +16,4 @@ pub mod DecimalLemmas
 pub mod KeyLemmas
 pub mod ArithmeticLemmas
 pub mod ArrayLemmas
+pub mod CellLemmas

@@ -25,3 +25,4 @@ pub mod Examples
 pub mod Classes
 pub mod ValueLaws
 pub mod ArrayLaws
+pub mod CellLaws

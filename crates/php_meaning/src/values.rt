@@ -1,5 +1,5 @@
 // The laws of values.
-ghost use Rattle.std.specs.Prelude.{◌≡◌, ◌≢◌, ◌↔◌, ℕ, ℤ, List, Option, IsTrue, IsFalse};
+ghost use Rattle.std.specs.Prelude.{◌≡◌, ◌≢◌, ◌↔◌, ℕ, ℤ, ◌<◌, List, [], Option, IsTrue, IsFalse};
 ghost use Rattle.php_tree.specs.declared.version.Version.{Version};
 ghost use Rattle.php_tree.specs.declared.version.Version.TheVariants.{V74, V83};
 ghost use Rattle.php_meaning.specs.Value.{Value, Key, IntKey};
@@ -12,7 +12,9 @@ ghost use Rattle.php_meaning.specs.Compare.{compare};
 ghost use Rattle.php_meaning.specs.Arithmetic.{of_numbers, left_of_arithmetic};
 ghost use Rattle.php_meaning.specs.Cells.{Cells};
 ghost use Rattle.php_meaning.specs.Arrays.{Array, Own, element_at, written, Changed, union, next_key};
-ghost use Rattle.php_meaning.specs.Copies.{copied};
+ghost use Rattle.php_meaning.specs.Identical.{same_within, is_identical};
+ghost use Rattle.php_meaning.specs.Copies.{copied_within, copied};
+ghost use Rattle.php_meaning.specs.CellLaws.{IsMade, IsClosed};
 ghost use Rattle.php_meaning.specs.ArrayLaws.{DiffersAt, either, HoldsNoCell, is_negative};
 ghost use Rattle.php_meaning.specs.ValueLaws.{OneClass, IsAntisymmetric, IsPlain, IsIntText, TextOfInt, CastCompares, NullCastCompares, may_differ, is_word, IsCarried};
 
@@ -97,4 +99,16 @@ pub fn left_operands_end_alike()
 pub fn next_keys_are_alike()
     ensures { (largest : Option ℤ) → IsFalse (is_negative largest)
         → in_version V74 (next_key largest) ≡ in_version V83 (next_key largest) }
+{}
+
+/// A strict comparison with any bound above the number of cells answers as it does with the least such bound.
+pub fn comparison_needs_no_greater_bound()
+    ensures { (cells : Cells) (bound : ℕ) (a b : Value) → IsClosed cells → IsMade cells.count a
+        → cells.count < bound → same_within bound cells [] [] a b ≡ is_identical cells a b }
+{}
+
+/// A copy with any bound above the number of cells is the one with the least such bound.
+pub fn copies_need_no_greater_bound()
+    ensures { (cells : Cells) (bound first : ℕ) (v : Value) → IsClosed cells → IsMade cells.count v
+        → cells.count < bound → copied_within bound cells first [] v ≡ copied cells first v }
 {}
