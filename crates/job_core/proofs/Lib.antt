@@ -1,3 +1,5 @@
 pub mod JobsLemmas
 pub mod JobsMapLemmas
+pub mod MachineLemmas
 pub mod OwnerJobsLemmas
+pub mod RepeatLemmas
