@@ -1,0 +1,10 @@
+pub mod ScanLaws
+pub mod NumberLaws
+pub mod DescentLaws
+pub mod Options
+pub mod DescentSound
+pub mod DescentComplete
+pub mod Runs
+pub mod ScanSound
+pub mod ScanComplete
+pub mod Files
