@@ -1,1 +1,2 @@
 pub mod ParenLemmas
+pub mod Regrouped
