@@ -1,0 +1,11 @@
+//! A file of `echo` statements whose nested ternaries were put in parentheses is read by 8.3 as exactly the rewritten
+//! file.
+#![tactic(auto)]
+
+ghost use Rattle.grouped_reading.specs.GroupedReading.{GroupedIsRead};
+
+/// The bytes of a file that 7.4 reads, with its nested ternaries in parentheses, are read by 8.3 as that rewritten file,
+/// and as no other.
+pub fn grouped_files_are_read()
+    ensures { GroupedIsRead }
+{}
