@@ -1,0 +1,13 @@
+//! The upgrader's top call: PHP 7.4 sources in, PHP 8.3 sources out.
+#![tactic(auto)]
+
+mod line;
+mod rewrite;
+mod sources;
+mod stop;
+mod top;
+mod upgrade;
+mod words;
+
+pub use stop::{Status, status_number};
+pub use top::run;

@@ -1,0 +1,119 @@
+// How a run ends, and why it stops.
+ghost use Rattle.std.specs.Prelude.{◌≡◌};
+ghost use Rattle.upgrade_cli.specs.Run as spec;
+
+use io_ports::{PathText, PortFault};
+use std::alloc::AllocError;
+
+/// How a run ended.
+#[derive(Clone, Copy, Debug, PartialEq, Eq)]
+pub enum Status {
+    /// All was done.
+    Done,
+    /// All was done, and a report stands that stops the claim.
+    Reported,
+    /// The words are not in the grammar.
+    Usage,
+    /// A source has no tree.
+    Source,
+    /// The settings are absent or refused.
+    Settings,
+    /// The names of the program are refused.
+    Names,
+    /// A size passes its limit.
+    Limit,
+    /// The source, the target or `out` failed.
+    Fault,
+    /// No memory was at hand.
+    Memory,
+}
+
+/// The exit status of a program that ran so.
+pub fn status_number(status: Status) -> u8
+    ensures { result ≡ spec.number_of status }
+{
+    match status {
+        Status::Done => 0,
+        Status::Reported => 2,
+        Status::Usage => 64,
+        Status::Source => 65,
+        Status::Settings => 66,
+        Status::Names => 67,
+        Status::Limit => 68,
+        Status::Fault => 74,
+        Status::Memory => 71,
+    }
+}
+
+/// Why a run stopped before its work was done.
+#[derive(Drop)]
+pub enum Stop {
+    /// The words are not in the grammar.
+    Usage,
+    /// There are so many files, which is more than one.
+    Files(usize),
+    /// A file has more than 1,048,576 bytes.
+    FileBytes,
+    /// The file of this path has no tree.
+    Source(PathText),
+    /// The source failed.
+    SourceFault,
+    /// The target failed.
+    TargetFault,
+    /// No memory was at hand.
+    Memory,
+}
+
+impl From<AllocError> for Stop {
+    ghost use Rattle.std.specs.Prelude.{◌≡◌};
+    ghost use Rattle.upgrade_cli.specs.declared.stop.Stop.TheVariants.{Memory};
+
+    ghost from_gives = { λ _ e. e ≡ Memory };
+
+    fn from(_: AllocError) -> Self {
+        Stop::Memory
+    }
+}
+
+/// What a run did: how many files it upgraded, and by how many edits.
+#[derive(Clone, Copy, Debug, PartialEq, Eq)]
+pub struct Summary {
+    pub files: usize,
+    pub edits: u64,
+}
+
+/// The status of what a run came to.
+pub fn status_of(came: &Result<Summary, Stop>) -> Status
+    ensures { result ≡ spec.status_of came.now }
+{
+    match came {
+        Ok(_) => Status::Done,
+        Err(Stop::Usage) => Status::Usage,
+        Err(Stop::Files(_)) => Status::Limit,
+        Err(Stop::FileBytes) => Status::Limit,
+        Err(Stop::Source(_)) => Status::Source,
+        Err(Stop::SourceFault) => Status::Fault,
+        Err(Stop::TargetFault) => Status::Fault,
+        Err(Stop::Memory) => Status::Memory,
+    }
+}
+
+/// Why a run stops where the source refused.
+pub fn source_stop(fault: PortFault) -> Stop
+    ensures { result ≡ spec.source_stop fault }
+{
+    match fault {
+        PortFault::Failed => Stop::SourceFault,
+        PortFault::Memory => Stop::Memory,
+    }
+}
+
+/// Why a run stops where the target refused.
+pub fn target_stop(fault: PortFault) -> Stop
+    ensures { result ≡ spec.target_stop fault }
+{
+    match fault {
+        PortFault::Failed => Stop::TargetFault,
+        PortFault::Memory => Stop::Memory,
+    }
+}

@@ -1,0 +1,84 @@
+// The upgrade: from the sources to the target.
+ghost use Rattle.std.specs.Prelude.{◌≡◌, ◌≤◌, List, length, IfOk, IfSome};
+ghost use Rattle.php_tree.specs.Tree.{File};
+ghost use Rattle.upgrade_cli.specs.Outcome as spec;
+ghost use Rattle.upgrade_cli.specs.Run.{HaveCauses, TargetCause, Keeps, NotSource};
+
+use crate::rewrite::{edit_count, write_file};
+use crate::sources::{list_sources, read_source};
+use crate::stop::{Stop, Summary, target_stop};
+use echo_form::{MAX_BYTES, read};
+use io_ports::{PathText, SourceTree, TargetTree};
+use std::alloc::{AllocError, Global};
+
+/// A file upgraded: the bytes to write, and how many edits made them.
+#[derive(Drop)]
+pub struct Upgraded {
+    pub bytes: Vec<u8>,
+    pub edits: u64,
+}
+
+// The upgraded file; none where the bytes have no tree.
+fn upgrade_file(alloc: Global, bytes: &[u8]) -> Result<Option<Upgraded>, AllocError>
+    requires { length bytes.now ≤ MAX_BYTES }
+    ensures { IfOk result (λ r. spec.MayBeUpgraded bytes.now r) }
+{
+    let Some(file) = read(alloc, bytes)? else {
+        return Ok(None);
+    };
+    let mut written = Vec::new(alloc);
+    write_file(&file, &mut written)?;
+    Ok(Some(Upgraded {
+        bytes: written,
+        edits: edit_count(&file)?,
+    }))
+}
+
+// Upgrades one file into the target.
+fn upgrade_one<D: TargetTree>(
+    alloc: Global,
+    target: &mut D,
+    path: &PathText,
+    bytes: &[u8],
+) -> Result<Summary, Stop>
+    requires { length bytes.now ≤ MAX_BYTES }
+    ensures told { spec.IsFileOutcome path.now bytes.now (D.files target.old) (D.files target.new) result }
+    ensures kept { Keeps result (target.new ≡ target.old) }
+    ensures untouched { ((t : File) → spec.HasTree bytes.now t → ⊥) → target.new ≡ target.old }
+    ensures not_source { NotSource result }
+    ensures cause { TargetCause result (D.faults target.old) (D.faults target.new) }
+{
+    let Some(upgraded) = upgrade_file(alloc, bytes)? else {
+        return Err(Stop::Source(path.copy(alloc)?));
+    };
+    match target.put(path.as_str(), upgraded.bytes.as_slice()) {
+        Ok(()) => Ok(Summary {
+            files: 1,
+            edits: upgraded.edits,
+        }),
+        Err(fault) => Err(target_stop(fault)),
+    }
+}
+
+/// Upgrades the sources into the target: lists them, reads them, and writes them, in this order.
+pub fn upgrade<T: SourceTree, D: TargetTree>(
+    alloc: Global,
+    source: &mut T,
+    target: &mut D,
+) -> Result<Summary, Stop>
+    ensures told { IfSome (T.files source.old) (λ fs. spec.IsOutcome fs (D.files target.old) (D.files target.new) result) }
+    ensures kept { Keeps result (target.new ≡ target.old) }
+    ensures untouched { IfSome (T.files source.old) (λ fs. ((ts : List File) → spec.AreRead fs ts → ⊥) → target.new ≡ target.old) }
+    ensures only { spec.IsNoUsage result }
+    ensures cause { HaveCauses result (T.faults source.old) (T.faults source.new) (D.faults target.old) (D.faults target.new) }
+{
+    let paths = list_sources(alloc, source)?;
+    match paths.as_slice() {
+        [] => Ok(Summary { files: 0, edits: 0 }),
+        [path] => {
+            let bytes = read_source(alloc, source, path.as_str())?;
+            upgrade_one(alloc, target, path, bytes.as_slice())
+        }
+        more => Err(Stop::Files(more.len())),
+    }
+}
