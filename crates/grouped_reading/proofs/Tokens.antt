@@ -189,7 +189,7 @@ both_empty [] us e = (refl, e)
 both_empty (t ∷ ts) us e = absurd (let f : t ∷ (ts ++ us) ≡ [] = e in cc)
 
 -- a forest that is empty with its nested ternaries in parentheses was empty
-regrouped_empty : (outer : Option NodeKind) (f : Forest) → leaves (regrouped outer f) ≡ [] → leaves f ≡ []
+pub regrouped_empty : (outer : Option NodeKind) (f : Forest) → leaves (regrouped outer f) ≡ [] → leaves f ≡ []
 regrouped_empty outer none e = refl
 regrouped_empty outer (leaf t f) e = cc
 regrouped_empty outer (node k c f) e =

@@ -20,7 +20,7 @@ length-wrappings outer (node k c f) =
     ap suc (length-append (wrappings (Some k) c) (wrappings None f)) ∙ omega (arith, length-wrappings (Some k) c, length-wrappings None f)
 
 -- what a list has at a position, or nothing
-abbrev entry : List (List Wrapping) → ℕ → List Wrapping
+abbrev pub entry : List (List Wrapping) → ℕ → List Wrapping
 entry ws j = unwrap_or (slice_get ws j) []
 
 entry-within : (ws vs : List (List Wrapping)) (j : ℕ) → j < length ws → entry (ws ++ vs) j ≡ entry ws j
@@ -35,21 +35,33 @@ entry-behind (w ∷ ws) vs n j e =
     ap (entry ((w ∷ ws) ++ vs)) d ∙ entry-behind ws vs (length ws + j) j refl
 
 -- a table that has the forest's wrappings from a number on
-abbrev Agrees : Patches → ℕ → Option NodeKind → Forest → Type 0
+abbrev pub Agrees : Patches → ℕ → Option NodeKind → Forest → Type 0
 Agrees p id outer f = (j : ℕ) → j < count f → p (id + j) ≡ entry (wrappings outer f) j
 
-rewritten_as : (p : Patches) (id : ℕ) (outer : Option NodeKind) (f : Forest) → Agrees p id outer f → rewritten p id f ≡ regrouped outer f
+-- a table that agrees with a node agrees with what stands in it and behind it
+pub agrees_here : (p : Patches) (id : ℕ) (outer : Option NodeKind) (k : NodeKind) (c f : Forest) → Agrees p id outer (node k c f) → p id ≡ around outer k
+agrees_here p id outer k c f h = ap p (sym (add-zero id)) ∙ h 0 (omega arith)
+
+pub agrees_inside : (p : Patches) (id : ℕ) (outer : Option NodeKind) (k : NodeKind) (c f : Forest) → Agrees p id outer (node k c f) → Agrees p (suc id) (Some k) c
+agrees_inside p id outer k c f h j below =
+    ap p (omega arith) ∙ h (suc j) (omega arith) ∙ entry-within (wrappings (Some k) c) (wrappings None f) j (omega (arith, length-wrappings (Some k) c))
+
+pub agrees_after : (p : Patches) (id : ℕ) (outer : Option NodeKind) (k : NodeKind) (c f : Forest) → Agrees p id outer (node k c f) → Agrees p (suc (id + count c)) None f
+agrees_after p id outer k c f h j below =
+    ap p (omega arith) ∙ h (suc (count c + j)) (omega arith)
+    ∙ entry-behind (wrappings (Some k) c) (wrappings None f) (count c + j) j (omega (arith, length-wrappings (Some k) c))
+
+-- the table of a file agrees with it
+pub table_agrees : (f : Forest) → Agrees (nested_ternary f) 0 None f
+table_agrees f j h = ap (nested_ternary f) (zero-add j)
+
+pub rewritten_as : (p : Patches) (id : ℕ) (outer : Option NodeKind) (f : Forest) → Agrees p id outer f → rewritten p id f ≡ regrouped outer f
 rewritten_as p id outer none h = refl
 rewritten_as p id outer (leaf t f) h = ap (leaf t) (rewritten_as p id None f h)
 rewritten_as p id outer (node k c f) h =
-    let here : p id ≡ around outer k = ap p (sym (add-zero id)) ∙ h 0 (omega arith) in
-    let inside : Agrees p (suc id) (Some k) c = λ j below.
-    ap p (omega arith) ∙ h (suc j) (omega arith) ∙ entry-within (wrappings (Some k) c) (wrappings None f) j (omega (arith, length-wrappings (Some k) c)) in
-    let after : Agrees p (suc (id + count c)) None f = λ j below.
-    ap p (omega arith) ∙ h (suc (count c + j)) (omega arith)
-    ∙ entry-behind (wrappings (Some k) c) (wrappings None f) (count c + j) j (omega (arith, length-wrappings (Some k) c)) in
-    rw (here, rewritten_as p (suc id) (Some k) c inside, rewritten_as p (suc (id + count c)) None f after) refl
+    rw (agrees_here p id outer k c f h, rewritten_as p (suc id) (Some k) c (agrees_inside p id outer k c f h),
+      rewritten_as p (suc (id + count c)) None f (agrees_after p id outer k c f h)) refl
 
 -- the rewritten statements of a file
 pub rewritten_is : (f : Forest) → rewritten (nested_ternary f) 0 f ≡ regrouped None f
-rewritten_is f = rewritten_as (nested_ternary f) 0 None f (λ j h. ap (nested_ternary f) (zero-add j))
+rewritten_is f = rewritten_as (nested_ternary f) 0 None f (table_agrees f)

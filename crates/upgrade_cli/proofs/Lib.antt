@@ -1,1 +1,4 @@
+pub mod Counting
+pub mod Headlines
 pub mod Outcomes
+pub mod Writing

@@ -5,3 +5,4 @@ pub mod Outcome
 pub mod Run
 -- the steps of the writer, which private functions cite
 pub mod Written
+pub mod Headline

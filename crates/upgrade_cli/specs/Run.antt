@@ -1,5 +1,5 @@
 -- What a run answers, and what stands after it.
-use Rattle.std.specs.Prelude.{◌≡◌, ◌⊎◌, ◌++◌, ℕ, true, false, List, [], ◌∷◌, Option, Some, None, IfSome, Result, Ok, Err}
+use Rattle.std.specs.Prelude.{◌≡◌, ◌⊎◌, ◌++◌, ℕ, List, Option, Some, IfSome, Result, Ok, Err}
 use Rattle.php_tree.specs.Tree.{File}
 use Rattle.io_ports.specs.Causes.{Rose}
 use Rattle.io_ports.specs.declared.fault.PortFault.{PortFault}
@@ -10,9 +10,8 @@ use Rattle.upgrade_cli.specs.declared.stop.Status.TheVariants as status
 use Rattle.upgrade_cli.specs.declared.stop.Stop.{Stop}
 use Rattle.upgrade_cli.specs.declared.stop.Stop.TheVariants as stop
 use Rattle.upgrade_cli.specs.declared.stop.Summary.{Summary}
-use Rattle.upgrade_cli.specs.Words.{are_upgrade}
 use Rattle.upgrade_cli.specs.Lines.{line, stop_line}
-use Rattle.upgrade_cli.specs.Outcome.{AreMany, IsTooLong, HasNoTree, IsUnread, AreRead, IsOutcome}
+use Rattle.upgrade_cli.specs.Outcome.{AreMany, IsTooLong, IsUnread, AreRead, IsOutcome}
 
 -- ---- statuses
 

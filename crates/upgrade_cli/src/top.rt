@@ -2,6 +2,7 @@
 ghost use Rattle.std.specs.Prelude.{◌≡◌, List, map, string_bytes, false, true, IfSome};
 ghost use Rattle.php_tree.specs.Tree.{File};
 ghost use Rattle.upgrade_cli.specs.Words.{are_upgrade};
+ghost use Rattle.upgrade_cli.specs.Headline.{Headline};
 ghost use Rattle.upgrade_cli.specs.Outcome.{AreRead, IsOutcome};
 ghost use Rattle.upgrade_cli.specs.Run as spec;
 
@@ -71,6 +72,9 @@ pub fn run<T: SourceTree, D: TargetTree, O: Sink>(
     // .. and wherever it should come, unless a count rose or memory ran out
     ensures exact { are_upgrade (map string_bytes words.now) ≡ true → IfSome (T.files source.old) (λ fs. spec.IsExact fs result) }
     ensures others { spec.IsOfUpgrade result }
+
+    // The headline: where all was done, what stands in the target, and that it does in 8.3 what the source does in 7.4.
+    ensures headline { IfSome (T.files source.old) (λ fs. IfSome (D.files target.old) (λ ds. result ≡ Status.Done → Headline fs ds (D.files target.new) (O.held out.old) (O.held out.new))) }
 
     // 74 only where a count rose; where one rose the status is 74 or 71
     ensures fault { result ≡ Status.Fault → spec.AnyRose (T.faults source.old) (T.faults source.new) (D.faults target.old) (D.faults target.new) (O.faults out.old) (O.faults out.new) }
