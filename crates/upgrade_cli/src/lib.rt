@@ -5,6 +5,8 @@ mod line;
 mod rewrite;
 mod sources;
 mod stop;
+#[cfg(test)]
+mod tests;
 mod top;
 mod upgrade;
 mod words;

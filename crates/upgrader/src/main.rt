@@ -3,9 +3,8 @@
 
 use io_ports::{FolderSource, FolderTarget, StdoutSink};
 use std::alloc::AllocError;
-use std::env;
-use std::io;
 use std::process::ExitCode;
+use std::{env, io};
 use upgrade_cli::{Status, run, status_number};
 
 /// The exit status where the words can't be read.
@@ -27,7 +26,7 @@ fn run_in_folders(rt: HostRuntime, words: &[String]) -> Result<Status, AllocErro
     let alloc = rt.alloc();
     let mut source = FolderSource::new(rt.clone()?, alloc, "source")?;
     let mut target = FolderTarget::new(rt.clone()?, alloc, "target")?;
-    let mut out = StdoutSink::new(rt)?;
+    let mut out = StdoutSink::new(rt, alloc)?;
     Ok(run(alloc, words, &mut source, &mut target, &mut out))
 }
 
