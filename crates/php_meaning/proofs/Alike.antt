@@ -4,12 +4,12 @@ use Rattle.std.specs.Str.{bytes_eq}
 use Rattle.std.proofs.Common.{ap, sym, ◌∙◌, subst}
 use Rattle.php_tree.specs.declared.kind.NodeKind.{NodeKind}
 use Rattle.php_tree.specs.Tree.{Forest, count}
-use Rattle.php_meaning.specs.World.{Bytes, Place, End, Going, Before, World}
+use Rattle.php_meaning.specs.World.{Store, Bytes, Place, End, Going, Before, World}
 use Rattle.php_meaning.specs.Script.{Return, Throw, Break, Continue, Out, Val, At, Jump, Mode, Target, Kid, Again, Body, Script, Give, Stop, Finish, Look, Put, Echo, Turn, Ask, Run}
 use Rattle.php_meaning.specs.Rules.{rule, run_all}
 use Rattle.php_meaning.specs.Statements.{is_statement}
 use Rattle.php_meaning.specs.Input.{Input}
-use Rattle.php_meaning.specs.Run.{Program, Mark, file_at, is_stopped, is_refused, Result, Done, Over, then_do, with_turn, play, own_texts, children, Entry, FileStart, BodyStart, Site, place_in, place_of_file, told, left, starting, unless_stopped, going, step, run_file, unless_refused, enter, first_world, end_of_file, answer, and_start, start_all, run_of}
+use Rattle.php_meaning.specs.Run.{begun, Program, Mark, file_at, is_stopped, is_refused, Result, Done, Over, then_do, with_turn, play, own_texts, children, Entry, FileStart, BodyStart, Site, place_in, place_of_file, told, left, starting, unless_stopped, going, step, run_file, unless_refused, enter, first_world, end_of_file, answer, and_start, start_all, run_of}
 use Rattle.php_meaning.specs.Laws.{IsInside, SameRun, Parenthesized, ends, token, inner, parens, AreParenthesized, no_files, file}
 
 -- equal but for what was told
@@ -160,25 +160,26 @@ module _ (v : Bool) (marks : List Mark) (source written : Program) (same_files :
   enter_alike (suc n) (FileStart path) = record {
     follows = λ w u s.
         refused_follows (is_refused marks path) path w _ _
-        (found_follows v marks (enter v source marks n) (enter v written [] n) (λ e. enter_alike n e) path same_files w u s);
+        (found_follows v marks (enter v source marks n) (enter v written [] n) (λ e. enter_alike n e) path same_files (begun path w) (begun path u)
+        (record { store = ap (λ (st : Store). record st { started = path ∷ st.started }) s.store; echo = s.echo; turns = s.turns }));
   }
   enter_alike (suc n) (BodyStart b) = record { follows = λ w u s i. absurd i }
 
 -- ---- whole runs
 
-and_start_alike : (k l : World → Result) → Alike k l → (o : Out) → Alike (and_start k o) (and_start l o)
-and_start_alike k l h (Val x) = h
-and_start_alike k l h (At c) = h
-and_start_alike k l h (Jump (Return x)) = h
-and_start_alike k l h (Jump (Throw n)) = record { follows = λ w u s. (refl, s) }
-and_start_alike k l h (Jump (Break n)) = record { follows = λ w u s. (refl, s) }
-and_start_alike k l h (Jump (Continue n)) = record { follows = λ w u s. (refl, s) }
+and_start_alike : (path : Bytes) (k l : World → Result) → Alike k l → (o : Out) → Alike (and_start path k o) (and_start path l o)
+and_start_alike path k l h (Val x) = h
+and_start_alike path k l h (At c) = h
+and_start_alike path k l h (Jump (Return x)) = h
+and_start_alike path k l h (Jump (Throw n)) = record { follows = λ w u s. (refl, s) }
+and_start_alike path k l h (Jump (Break n)) = record { follows = λ w u s i. absurd i }
+and_start_alike path k l h (Jump (Continue n)) = record { follows = λ w u s i. absurd i }
 
 start_all_alike : (k l : Bytes → World → Result) → ((path : Bytes) → Alike (k path) (l path)) → (first : Option Bytes) (entry : Bytes) → Alike (start_all k first entry) (start_all l first entry)
 start_all_alike k l h None entry = h entry
 start_all_alike k l h (Some path) entry = record {
   follows = λ w u s.
-      then_follows (k path w) (l path u) _ _ ((h path).follows w u s) (λ o. and_start_alike (k entry) (l entry) (h entry) o);
+      then_follows (k path w) (l path u) _ _ ((h path).follows w u s) (λ o. and_start_alike path (k entry) (l entry) (h entry) o);
 }
 
 end_same : (path : Bytes) (o : Out) (w u : World) → Same w u → end_of_file path o u ≡ end_of_file path o w

@@ -1,5 +1,5 @@
 -- The kinds that have a rule ask nothing.
-use Rattle.std.specs.Prelude.{◌≡◌, ℕ, zero, suc, ◌+◌, List, [], ◌++◌, Bool, true, false, if◌then◌else◌, refl, Option, Some, None}
+use Rattle.std.specs.Prelude.{◌≡◌, ℕ, zero, suc, ◌+◌, List, [], ◌∷◌, ◌++◌, Bool, true, false, if◌then◌else◌, refl, Option, Some, None}
 use Rattle.std.specs.Str.{bytes_eq, str_to_ascii_lowercase}
 use Rattle.std.specs.Prelude.{codes}
 use Rattle.std.proofs.Common.{◌∙◌}
@@ -13,10 +13,10 @@ use Rattle.php_meaning.specs.Convert.{to_text, to_truth}
 use Rattle.php_meaning.specs.Literals.{text_literal}
 use Rattle.php_meaning.specs.World.{Bytes, Store, Place, Before, World}
 use Rattle.php_meaning.specs.Script.{Return, Throw, Break, Continue, Out, Val, At, Jump, Mode, Read, Target, Kid, Again, Body, Script, Give, Stop, Finish, Look, Put, Echo, Turn, Ask, Run, given, value_then}
-use Rattle.php_meaning.specs.Rules.{rule, reading, run_all, echo_all, constant, ternary, first_text}
+use Rattle.php_meaning.specs.Rules.{rule, reading, run_all, echo_all, constant, named, ternary, first_text}
 use Rattle.php_meaning.specs.Statements.{is_statement}
 use Rattle.php_meaning.specs.Input.{Input}
-use Rattle.php_meaning.specs.Run.{Program, Mark, file_at, is_stopped, is_refused, Result, Done, Over, then_do, with_turn, play, own_texts, children, Entry, FileStart, BodyStart, Site, place_in, place_of_file, told, left, starting, unless_stopped, going, step, run_file, unless_refused, enter, first_world, and_start, start_all, run}
+use Rattle.php_meaning.specs.Run.{begun, Program, Mark, file_at, is_stopped, is_refused, Result, Done, Over, then_do, with_turn, play, own_texts, children, Entry, FileStart, BodyStart, Site, place_in, place_of_file, told, left, starting, unless_stopped, going, step, run_file, unless_refused, enter, first_world, and_start, start_all, run}
 use Rattle.php_meaning.proofs.Unasked.{asked_in, answer_asked}
 
 -- a script that asks nothing, whatever is met on the way
@@ -57,6 +57,11 @@ silent_constant word =
     silent_if (bytes_eq word (codes "true")) _ _ tt
     (silent_if (bytes_eq word (codes "false")) _ _ tt (silent_if (bytes_eq word (codes "null")) _ _ tt tt))
 
+silent_named : (own : List Bytes) → IsSilent (named own)
+silent_named [] = tt
+silent_named (word ∷ []) = silent_constant (str_to_ascii_lowercase word)
+silent_named (word ∷ more ∷ words) = tt
+
 silent_ternary : (n : ℕ) → IsSilent (ternary n)
 silent_ternary zero = tt
 silent_ternary (suc zero) = tt
@@ -68,7 +73,7 @@ silent_reading : (k : NodeKind) (own : List Bytes) (n : ℕ) → IsSilent (readi
 silent_reading kind.Echo own n = silent_echo 0 n
 silent_reading kind.Number own n = tt
 silent_reading kind.Text own n = silent_given (text_literal (first_text own)) _ (λ bytes. tt)
-silent_reading kind.Constant own n = silent_constant (str_to_ascii_lowercase (first_text own))
+silent_reading kind.Constant own n = silent_named own
 silent_reading kind.Ternary own n = silent_ternary n
 silent_reading k own n = tt
 
@@ -149,20 +154,20 @@ enter_keeps : (p : Program) (marks : List Mark) (n : ℕ) (e : Entry) (w : World
 enter_keeps p marks zero e w = refl
 enter_keeps p marks (suc n) (FileStart path) w =
     refused_keeps (is_refused marks path) path w _
-    (file_keeps marks (enter false p marks n) (λ e. record { same = λ u. enter_keeps p marks n e u }) path (file_at p.files path) w)
+    (file_keeps marks (enter false p marks n) (λ e. record { same = λ u. enter_keeps p marks n e u }) path (file_at p.files path) (begun path w))
 enter_keeps p marks (suc n) (BodyStart b) w = refl
 
-and_start_keeps : (k : World → Result) → ((u : World) → asked_in (k u) ≡ u.asked) → (o : Out) (u : World) → asked_in (and_start k o u) ≡ u.asked
-and_start_keeps k h (Val x) u = h u
-and_start_keeps k h (At c) u = h u
-and_start_keeps k h (Jump (Return x)) u = h u
-and_start_keeps k h (Jump (Throw n)) u = refl
-and_start_keeps k h (Jump (Break n)) u = refl
-and_start_keeps k h (Jump (Continue n)) u = refl
+and_start_keeps : (path : Bytes) (k : World → Result) → ((u : World) → asked_in (k u) ≡ u.asked) → (o : Out) (u : World) → asked_in (and_start path k o u) ≡ u.asked
+and_start_keeps path k h (Val x) u = h u
+and_start_keeps path k h (At c) u = h u
+and_start_keeps path k h (Jump (Return x)) u = h u
+and_start_keeps path k h (Jump (Throw n)) u = refl
+and_start_keeps path k h (Jump (Break n)) u = refl
+and_start_keeps path k h (Jump (Continue n)) u = refl
 
 start_all_keeps : (k : Bytes → World → Result) → ((path : Bytes) (u : World) → asked_in (k path u) ≡ u.asked) → (first : Option Bytes) (entry : Bytes) (w : World) → asked_in (start_all k first entry w) ≡ w.asked
 start_all_keeps k h None entry w = h entry w
-start_all_keeps k h (Some path) entry w = then_keeps w (k path w) _ (h path w) (λ o u. and_start_keeps (k entry) (h entry) o u)
+start_all_keeps k h (Some path) entry w = then_keeps w (k path w) _ (h path w) (λ o u. and_start_keeps path (k entry) (h entry) o u)
 
 -- a 7.4 run asks nothing
 pub asks_nothing : (p : Program) (marks : List Mark) (entry : Bytes) (input : Input) (n : ℕ) → (run V74 p marks entry input n).asked ≡ []

@@ -7,7 +7,7 @@ use Rattle.php_meaning.specs.World.{Bytes, Place, Before, World}
 use Rattle.php_meaning.specs.Script.{Return, Throw, Break, Continue, Out, Val, At, Jump, Mode, Target, Kid, Again, Body, Script, Give, Stop, Finish, Look, Put, Echo, Turn, Ask, Run}
 use Rattle.php_meaning.specs.Rules.{rule, run_all}
 use Rattle.php_meaning.specs.Statements.{is_statement}
-use Rattle.php_meaning.specs.Run.{Program, Mark, file_at, is_stopped, is_refused, Result, Done, Over, then_do, with_turn, play, own_texts, children, Entry, FileStart, BodyStart, Site, place_in, place_of_file, told, left, starting, unless_stopped, going, step, run_file, unless_refused, enter, first_world, answer, and_start, start_all}
+use Rattle.php_meaning.specs.Run.{begun, Program, Mark, file_at, is_stopped, is_refused, Result, Done, Over, then_do, with_turn, play, own_texts, children, Entry, FileStart, BodyStart, Site, place_in, place_of_file, told, left, starting, unless_stopped, going, step, run_file, unless_refused, enter, first_world, answer, and_start, start_all}
 use Rattle.php_meaning.specs.Laws.{SameWhereUnasked}
 
 -- the points that a run asked at, the newest first
@@ -132,24 +132,28 @@ refused_unasked : (b : Bool) (path : Bytes) (m n : World → Result) → Unasked
 refused_unasked true path m n h = record { grows = λ w. ([], refl); same = λ w e. refl }
 refused_unasked false path m n h = h
 
+begun_unasked : (path : Bytes) (m n : World → Result) → Unasked m n → Unasked (λ w. m (begun path w)) (λ w. n (begun path w))
+begun_unasked path m n h = record { grows = λ w. h.grows (begun path w); same = λ w e. h.same (begun path w) e }
+
 enter_unasked : (p : Program) (marks : List Mark) (n : ℕ) (e : Entry) → Unasked (enter false p marks n e) (enter true p marks n e)
 enter_unasked p marks zero e = record { grows = λ w. ([], refl); same = λ w e. refl }
 enter_unasked p marks (suc n) (FileStart path) =
     refused_unasked (is_refused marks path) path _ _
-    (file_unasked marks (enter false p marks n) (enter true p marks n) (λ e. enter_unasked p marks n e) path (file_at p.files path))
+    (begun_unasked path _ _
+    (file_unasked marks (enter false p marks n) (enter true p marks n) (λ e. enter_unasked p marks n e) path (file_at p.files path)))
 enter_unasked p marks (suc n) (BodyStart b) = record { grows = λ w. ([], refl); same = λ w e. refl }
 
-and_start_unasked : (k l : World → Result) → Unasked k l → (o : Out) → Unasked (and_start k o) (and_start l o)
-and_start_unasked k l h (Val x) = h
-and_start_unasked k l h (At c) = h
-and_start_unasked k l h (Jump (Return x)) = h
-and_start_unasked k l h (Jump (Throw n)) = record { grows = λ w. ([], refl); same = λ w e. refl }
-and_start_unasked k l h (Jump (Break n)) = record { grows = λ w. ([], refl); same = λ w e. refl }
-and_start_unasked k l h (Jump (Continue n)) = record { grows = λ w. ([], refl); same = λ w e. refl }
+and_start_unasked : (path : Bytes) (k l : World → Result) → Unasked k l → (o : Out) → Unasked (and_start path k o) (and_start path l o)
+and_start_unasked path k l h (Val x) = h
+and_start_unasked path k l h (At c) = h
+and_start_unasked path k l h (Jump (Return x)) = h
+and_start_unasked path k l h (Jump (Throw n)) = record { grows = λ w. ([], refl); same = λ w e. refl }
+and_start_unasked path k l h (Jump (Break n)) = record { grows = λ w. ([], refl); same = λ w e. refl }
+and_start_unasked path k l h (Jump (Continue n)) = record { grows = λ w. ([], refl); same = λ w e. refl }
 
 start_all_same : (k l : Bytes → World → Result) → ((path : Bytes) → Unasked (k path) (l path)) → (first : Option Bytes) (entry : Bytes) (w : World) → asked_in (start_all k first entry w) ≡ [] → start_all l first entry w ≡ start_all k first entry w
 start_all_same k l h None entry w e = (h entry).same w e
-start_all_same k l h (Some path) entry w e = then_same (k path w) (l path w) _ _ ((h path).same w) (λ o. and_start_unasked (k entry) (l entry) (h entry) o) e
+start_all_same k l h (Some path) entry w e = then_same (k path w) (l path w) _ _ ((h path).same w) (λ o. and_start_unasked path (k entry) (l entry) (h entry) o) e
 
 pub answer_asked : (path : Bytes) (r : Result) → (answer path r).asked ≡ asked_in r
 answer_asked path (Done o w) = refl

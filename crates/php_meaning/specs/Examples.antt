@@ -49,3 +49,4 @@ pub record Echoes (v : Version) (f : Forest) (bytes : Bytes) : Type 0 where
   pub echo : (input : Input) (n : ℕ) → (run v (program f) [] (codes "a.php") input (suc n)).echo ≡ bytes
   pub end : (input : Input) (n : ℕ) → (run v (program f) [] (codes "a.php") input (suc n)).end ≡ Ended (pos 0)
   pub before : (input : Input) → (run v (program f) [] (codes "a.php") input 0).end ≡ Going
+  pub silent : (input : Input) → (run v (program f) [] (codes "a.php") input 0).echo ≡ []

@@ -37,7 +37,8 @@ KeepsMeaning source marks written =
 
 -- ---- parentheses
 
--- The second forest is the first one with some nodes in parentheses. Trivia and places of tokens don't count.
+-- The second forest is the first one with some nodes in parentheses. Trivia, places and kinds of tokens don't count, nor
+-- what the two tokens round a node are.
 pub data Parenthesized : Forest → Forest → Type 0 where
   ends : Parenthesized none none
   token : {t u : Token} {f g : Forest} → u.text ≡ t.text → Parenthesized f g → Parenthesized (leaf t f) (leaf u g)
@@ -51,7 +52,7 @@ pub data AreParenthesized : List (Bytes × Forest) → List (Bytes × Forest) �
   no_files : AreParenthesized [] []
   file : {path : Bytes} {f g : Forest} {fs gs : List (Bytes × Forest)} → Parenthesized f g → AreParenthesized fs gs → AreParenthesized ((path, f) ∷ fs) ((path, g) ∷ gs)
 
--- Parentheses change no run of these kinds of nodes.
+-- Parentheses change no run.
 abbrev pub ParensKeepMeaning : Type 0
 ParensKeepMeaning =
     (source written : Program) (marks : List Mark)

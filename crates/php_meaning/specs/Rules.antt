@@ -36,6 +36,11 @@ constant word =
     else (if bytes_eq word (codes "false") then give (Truth false)
     else (if bytes_eq word (codes "null") then give Null else Stop NoRule))
 
+-- a name of one word; one of several words names no such constant
+abbrev pub named : List (List ℕ) → Script
+named (word ∷ []) = constant (str_to_ascii_lowercase word)
+named words = Stop NoRule
+
 -- the second child or the third one, by the truth of the first (PHP manual, "Ternary Operator")
 abbrev pub ternary : ℕ → Script
 ternary (suc (suc (suc zero))) = child_value 0 (λ v. cond (to_truth v) (Run (Kid 1 Read) Give) (Run (Kid 2 Read) Give))
@@ -46,7 +51,7 @@ abbrev pub reading : NodeKind → List (List ℕ) → ℕ → Script
 reading kind.Echo own n = echo_all 0 n
 reading kind.Number own n = give (Int (int_literal (first_text own)))
 reading kind.Text own n = given (text_literal (first_text own)) (λ bytes. give (Text bytes))
-reading kind.Constant own n = constant (str_to_ascii_lowercase (first_text own))
+reading kind.Constant own n = named own
 reading kind.Ternary own n = ternary n
 reading k own n = Stop NoRule
 

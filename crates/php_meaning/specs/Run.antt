@@ -169,9 +169,13 @@ abbrev pub unless_refused : Bool → Bytes → World → Result → Result
 unless_refused true path w r = Over (Outside (place_of_file path) CompileMark) w
 unless_refused false path w r = r
 
+-- the file counts as started
+abbrev pub begun : Bytes → World → World
+begun path w = record w { store = record w.store { started = path ∷ w.store.started } }
+
 abbrev pub start : Bool → Program → List Mark → (Entry → World → Result) → Entry → World → Result
 start is_new p marks lower (FileStart path) w =
-    unless_refused (is_refused marks path) path w (run_file is_new marks lower path (file_at p.files path) w)
+    unless_refused (is_refused marks path) path w (run_file is_new marks lower path (file_at p.files path) (begun path w))
 start is_new p marks lower (BodyStart b) w = Over (Outside (place_of_file b.file) NoRule) w
 
 -- with at most so many files and bodies in one another
@@ -237,17 +241,20 @@ abbrev pub answer : Bytes → Result → Answer
 answer path (Done o w) = answer_of (end_of_file path o w) w
 answer path (Over e w) = answer_of e w
 
--- the next file is started where this one came to its end
-abbrev pub and_start : (World → Result) → Out → World → Result
-and_start next (Val v) w = next w
-and_start next (At c) w = next w
-and_start next (Jump (Return v)) w = next w
-and_start next (Jump o) w = Done (Jump o) w
+-- The next file is started where this one came to its end. An exception goes on; nothing is broken off or gone on with
+-- past a file.
+abbrev pub and_start : Bytes → (World → Result) → Out → World → Result
+and_start path next (Val v) w = next w
+and_start path next (At c) w = next w
+and_start path next (Jump (Return v)) w = next w
+and_start path next (Jump (Throw o)) w = Done (Jump (Throw o)) w
+and_start path next (Jump (Break n)) w = Over (Outside (place_of_file path) NoRule) w
+and_start path next (Jump (Continue n)) w = Over (Outside (place_of_file path) NoRule) w
 
 -- the file that comes before each entry, if any, and then the entry
 abbrev pub start_all : (Bytes → World → Result) → Option Bytes → Bytes → World → Result
 start_all run None entry w = run entry w
-start_all run (Some path) entry w = then_do (run path w) (and_start (run entry))
+start_all run (Some path) entry w = then_do (run path w) (and_start path (run entry))
 
 -- The run of a program from an entry, with marks, on an input, bounded by a number of turns. A file or a body is
 -- entered by a statement, and so by a turn; the first file takes none.

@@ -27,14 +27,15 @@ pub record Frame : Type 0 where
   pub class : Option Bytes
 
 -- The store: what each cell holds, how many cells were made, the body that runs and those that wait for it (the last
--- one is the file's), the cells of statics and static properties by slot, the objects by number, the constants by
+-- one is the file's), the cells of statics and static
+-- properties by slot and, where classes have a copy each, by class, the objects by number, the constants by
 -- name, and what was declared and which files were started.
 pub record Store : Type 0 where
   pub held : Cell → Value
   pub made : ℕ
   pub here : Frame
   pub waiting : List Frame
-  pub statics : List (ℕ × Cell)
+  pub statics : List (ℕ × Option Bytes × Cell)
   pub objects : List Object
   pub constants : List (Bytes × Value)
   pub declared : List Declared
