@@ -1,0 +1,5 @@
+pub mod Documents
+pub mod FirstRefused
+pub mod KeyTableRows
+pub mod Outcomes
+pub mod RulesOff

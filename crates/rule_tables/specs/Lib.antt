@@ -1,0 +1,5 @@
+pub mod Causes
+pub mod Checks
+pub mod KeyTable
+pub mod Rules
+pub mod SettingsView
