@@ -5,3 +5,5 @@ pub mod OrderLemmas
 pub mod JoinLemmas
 pub mod DepthLemmas
 pub mod RankLemmas
+pub mod PoolLemmas
+pub mod InterningLemmas

@@ -4,12 +4,14 @@ use Rattle.std.specs.Int.{bit_at}
 use Rattle.std.specs.List.Sorted.{IsStrictlyIncreasing}
 use Rattle.std.proofs.lemmas.Bool.{cases_lt, cases_eq, true≢false}
 use Rattle.std.proofs.lemmas.Nat.Bits.{bit_at-lt, bit_at_above}
-use Rattle.scalar_types.specs.Sets.{IsSubset}
-use Rattle.scalar_types.specs.Terms.{Facts, TypeTerm, any, plain, array, AreFactsWellFormed, IsWellFormed}
+use Rattle.scalar_types.specs.Sets.{IsSubset, union, intersection}
+use Rattle.scalar_types.specs.Terms.{flag_count, Facts, TypeTerm, any, plain, array, AreFactsWellFormed, IsWellFormed}
 use Rattle.scalar_types.specs.Order.{BitsAmong, FactsAmong, Below}
-use Rattle.scalar_types.specs.Join.{NestsTo}
-use Rattle.scalar_types.specs.Rank.{set_bits, flag_count, fact_count, top_rank, rank, UsesOnly}
-use Rattle.scalar_types.proofs.SetLemmas.{Has, Ascends, Has-subset, subset_from_Has, Ascends-from_increasing}
+use Rattle.scalar_types.specs.Join.{NestsTo, join_of, meet_of, flattened, element_of, labels_beside}
+use Rattle.scalar_types.specs.Rank.{set_bits, fact_count, top_rank, rank, UsesOnly}
+use Rattle.scalar_types.proofs.OrderLemmas.{IsSubset-nil, IsSubset-trans}
+use Rattle.scalar_types.proofs.JoinLemmas.{IsSubset-union, IsSubset-beside}
+use Rattle.scalar_types.proofs.SetLemmas.{Has, Ascends, Has-subset, subset_from_Has, Ascends-from_increasing, Has-from_intersection}
 
 -- a number rises, or it stays and P holds
 abbrev Rises : ℕ → ℕ → Type 0 → Type 0
@@ -203,3 +205,51 @@ module _ (labels classes : List ℕ) (labels_ascend : IsStrictlyIncreasing label
       (both _ _ _ _ _ _ (FactsAmong g f × IsSubset g.shared f.shared) (facts_rise f g v.0 w.0 h.0)
       (subset_rises f.shared g.shared v.0.labels_ascend w.0.labels_ascend h.2) (λ x y. (x, y)))
       (rank_rises n (array m d) (array k e) v.3 w.3 t.2 u.2 p q h.1) (λ x y. (x.0, y, x.1))
+
+-- ---- labels and classes of results
+
+IsSubset-intersection : (xs ys zs : List ℕ) → IsSubset xs zs → IsSubset (intersection xs ys) zs
+IsSubset-intersection xs ys zs s =
+    subset_from_Has (intersection xs ys) zs (λ z h. Has-subset xs zs s z (Has-from_intersection xs ys z h).0)
+
+beside_labels : (xs ys zs : List ℕ) (e : TypeTerm) → IsSubset xs zs → IsSubset ys zs → IsSubset (labels_beside e (union xs ys)) zs
+beside_labels xs ys zs e s t = IsSubset-trans _ (union xs ys) zs (IsSubset-beside (union xs ys) e) (IsSubset-union xs ys zs s t)
+
+module _ (labels classes : List ℕ) where
+  pub UsesOnly-join : (a b : TypeTerm) → UsesOnly labels classes a → UsesOnly labels classes b → UsesOnly labels classes (join_of a b)
+  UsesOnly-join any any t u = tt
+  UsesOnly-join any (plain g) t u = tt
+  UsesOnly-join any (array g e) t u = tt
+  UsesOnly-join (plain f) any t u = tt
+  UsesOnly-join (array f d) any t u = tt
+  UsesOnly-join (plain f) (plain g) t u =
+      (IsSubset-union f.shared g.shared labels t.0 u.0, IsSubset-union f.classes g.classes classes t.1 u.1)
+  UsesOnly-join (plain f) (array g e) t u =
+      (beside_labels f.shared g.shared labels e t.0 u.0, IsSubset-union f.classes g.classes classes t.1 u.1, u.2)
+  UsesOnly-join (array f d) (plain g) t u =
+      (beside_labels f.shared g.shared labels d t.0 u.0, IsSubset-union f.classes g.classes classes t.1 u.1, t.2)
+  UsesOnly-join (array f d) (array g e) t u =
+      (beside_labels f.shared g.shared labels (join_of d e) t.0 u.0, IsSubset-union f.classes g.classes classes t.1 u.1, UsesOnly-join d e t.2 u.2)
+
+  pub UsesOnly-meet : (a b : TypeTerm) → UsesOnly labels classes a → UsesOnly labels classes b → UsesOnly labels classes (meet_of a b)
+  UsesOnly-meet any any t u = tt
+  UsesOnly-meet any (plain g) t u = u
+  UsesOnly-meet any (array g e) t u = u
+  UsesOnly-meet (plain f) any t u = t
+  UsesOnly-meet (array f d) any t u = t
+  UsesOnly-meet (plain f) (plain g) t u = (IsSubset-nil labels, IsSubset-intersection f.classes g.classes classes t.1)
+  UsesOnly-meet (plain f) (array g e) t u = (IsSubset-nil labels, IsSubset-intersection f.classes g.classes classes t.1)
+  UsesOnly-meet (array f d) (plain g) t u = (IsSubset-nil labels, IsSubset-intersection f.classes g.classes classes t.1)
+  UsesOnly-meet (array f d) (array g e) t u =
+      (IsSubset-union f.shared g.shared labels t.0 u.0, IsSubset-intersection f.classes g.classes classes t.1, UsesOnly-meet d e t.2 u.2)
+
+  pub UsesOnly-flattened : (n : ℕ) (a : TypeTerm) → UsesOnly labels classes a → UsesOnly labels classes (flattened n a)
+  UsesOnly-flattened n any t = tt
+  UsesOnly-flattened n (plain f) t = t
+  UsesOnly-flattened zero (array f e) t = (IsSubset-nil labels, t.1, tt)
+  UsesOnly-flattened (suc n) (array f e) t = (t.0, t.1, UsesOnly-flattened n e t.2)
+
+  pub UsesOnly-element : (a : TypeTerm) → UsesOnly labels classes a → UsesOnly labels classes (element_of a)
+  UsesOnly-element any t = tt
+  UsesOnly-element (plain f) t = (IsSubset-nil labels, IsSubset-nil classes)
+  UsesOnly-element (array f e) t = t.2

@@ -3,3 +3,7 @@ pub mod Sets
 pub mod Order
 pub mod Join
 pub mod Rank
+pub mod Heads
+pub mod Rows
+pub mod Pool
+pub mod PoolView

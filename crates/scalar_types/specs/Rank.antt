@@ -1,18 +1,13 @@
 -- A number that rises with each strict step up the order: this project's own.
-use Rattle.std.specs.Prelude.{ℕ, zero, suc, ◌+◌, Bool, true, false, List, length}
+use Rattle.std.specs.Prelude.{ℕ, zero, suc, ◌+◌, List, length}
 use Rattle.std.specs.Int.{bit_at}
 use Rattle.scalar_types.specs.Sets.{IsSubset}
-use Rattle.scalar_types.specs.Terms.{Facts, TypeTerm, any, plain, array}
+use Rattle.scalar_types.specs.Terms.{Facts, TypeTerm, any, plain, array, flag_count}
 
 -- how many of the lowest bits of a number are set
 abbrev pub set_bits : ℕ → ℕ → ℕ
 set_bits zero bits = 0
 set_bits (suc k) bits = bit_at bits k + set_bits k bits
-
--- 1 for a flag that is set
-abbrev pub flag_count : Bool → ℕ
-flag_count true = 1
-flag_count false = 0
 
 -- how many bits, flags and classes there are
 abbrev pub fact_count : Facts → ℕ

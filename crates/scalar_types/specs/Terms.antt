@@ -1,5 +1,5 @@
 -- Types as definitions see them, without where they lie in memory.
-use Rattle.std.specs.Prelude.{◌≡◌, ℕ, ◌<◌, ◌^◌, Bool, List, [], Option, None, Some}
+use Rattle.std.specs.Prelude.{◌≡◌, ℕ, ◌<◌, ◌^◌, Bool, List, [], Option, None, Some, true, false}
 use Rattle.std.specs.Option.{option_map}
 use Rattle.std.specs.Int.{bit_at}
 use Rattle.std.specs.List.Sorted.{IsStrictlyIncreasing}
@@ -14,6 +14,11 @@ pub record Facts : Type 0 where
   pub text_keys : Bool
   pub shared : List ℕ
   pub classes : List ℕ
+
+-- 1 for a flag that is set
+abbrev pub flag_count : Bool → ℕ
+flag_count true = 1
+flag_count false = 0
 
 -- A type: Any, a known one without an element, or a known one with its element.
 pub data TypeTerm : Type 0 where

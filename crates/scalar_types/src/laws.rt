@@ -66,6 +66,19 @@ pub fn results_nest_no_deeper()
     ensures element { (depth : ℕ) (a : TypeTerm) → NestsTo (depth + 1) a → NestsTo depth (element_of a) }
 {}
 
+/// Joins, meets, flattening and elements use no label and no class that the types they are made of
+/// don't use.
+pub fn results_use_no_more()
+    ensures join { (labels classes : List ℕ) (a b : TypeTerm) → UsesOnly labels classes a
+        → UsesOnly labels classes b → UsesOnly labels classes (join_of a b) }
+    ensures meet { (labels classes : List ℕ) (a b : TypeTerm) → UsesOnly labels classes a
+        → UsesOnly labels classes b → UsesOnly labels classes (meet_of a b) }
+    ensures flatten { (labels classes : List ℕ) (depth : ℕ) (a : TypeTerm) → UsesOnly labels classes a
+        → UsesOnly labels classes (flattened depth a) }
+    ensures element { (labels classes : List ℕ) (a : TypeTerm) → UsesOnly labels classes a
+        → UsesOnly labels classes (element_of a) }
+{}
+
 /// Each strict step up the order makes the rank larger, and no rank is above that of Any. So a list
 /// of types, each strictly above the one before it, that nest to a depth and use these labels and
 /// classes alone, has no more members than that rank and one.

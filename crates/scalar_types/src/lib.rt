@@ -3,12 +3,14 @@
 
 mod bits;
 mod depths;
+mod interning;
 mod joins;
 mod labels;
 pub mod laws;
 mod meets;
 mod order;
 mod php_type;
+mod pool;
 mod sets;
 
 pub use bits::{ARRAY, BOOL, FLOAT, FRACTION, INT, LEAD, NULL, OBJECT, WHOLE, WHOLE_TAIL, WORD};
@@ -18,3 +20,9 @@ pub use labels::{Classes, Labels};
 pub use meets::meet;
 pub use order::below;
 pub use php_type::{Parts, PhpType};
+pub use pool::{Packed, Pool, TypeId};
+
+#[cfg(test)]
+mod pool_tests;
+#[cfg(test)]
+mod tests;
