@@ -1,10 +1,10 @@
 -- Laws of the machine: what a command does to one owner's jobs, and what a run of commands does.
-use Rattle.std.proofs.Common.{◌≡◌, ◌==◌, ℕ, ◌+◌, Bool, true, false, ◌&&◌, not, cond, List, [], ◌∷◌, ◌++◌, length, map, find, filter, Option, None, Some, is_none, nat_lt, if◌then◌else◌, refl, sym, ap, subst, ◌∙◌}
+use Rattle.std.proofs.Common.{◌≡◌, ◌==◌, ℕ, ◌+◌, Bool, true, false, ◌&&◌, not, cond, List, [], ◌∷◌, ◌++◌, length, map, find, filter, Option, None, Some, is_none, nat_lt, if◌then◌else◌, refl, sym, ap, subst, ◌∙◌, ◌<◌, arith, eqb-true}
 use Rattle.std.specs.Option.{option_map, option_map_or}
 use Rattle.std.specs.Str.{bytes_eq}
 use Rattle.std.specs.Cmp.Lexicographic.{nat_list_eq_equiv, bytes_decides}
 use Rattle.job_core.specs.Job.{StoredJob}
-use Rattle.job_core.specs.Jobs.{jobs_of, SameJobs, count_of, job_of, keyed_job, with_job, judged_job, closed_job, judged, closed}
+use Rattle.job_core.specs.Jobs.{jobs_of, SameJobs, RunsFrom, IsKept, count_of, job_of, keyed_job, with_job, judged_job, closed_job, judged, closed}
 use Rattle.job_core.specs.Machine.{owner_of, new_head, new_job, has_room, repeat_reply, new_reply, judge_reply, reply_to, is_open, jobs_after, Answer, answers, jobs_after_all, commands_of, answers_to, SameAnswer}
 use Rattle.job_core.specs.declared.job.Made.{Made}
 use Rattle.job_core.specs.declared.job.Verdict.{Verdict}
@@ -12,7 +12,8 @@ use Rattle.job_core.specs.declared.command.Command.{Command}
 use Rattle.job_core.specs.declared.command.Command.TheVariants.{Add, Judge, Close}
 use Rattle.job_core.specs.declared.command.Reply.{Reply}
 use Rattle.job_core.specs.declared.command.Reply.TheVariants.{Head, KeyTaken, Closed, Full, NoSuch}
-use Rattle.job_core.proofs.JobsLemmas.{SameJobs-by, jobs_of-push_own, jobs_of-push_other, with_job-other}
+use Rattle.job_core.proofs.OwnerJobsLemmas.{map_jobs, change-below}
+use Rattle.job_core.proofs.JobsLemmas.{SameJobs-by, jobs_of-push_own, jobs_of-push_other, with_job-own, with_job-other}
 
 -- an owner's jobs among an owner's jobs are those jobs
 jobs_of-jobs_of : (owner : List ℕ) (js : List StoredJob) → jobs_of owner (jobs_of owner js) ≡ jobs_of owner js
@@ -117,3 +118,24 @@ answers_to-answers o (c ∷ cs) js = by (bytes_eq o (owner_of c)) refl (answers_
 pub SameJobs-after : (c : Command) (a b : List StoredJob) → SameJobs a b → SameJobs (jobs_after c a) (jobs_after c b)
 SameJobs-after c a b same =
     λ o. own-after o c a ∙ ap (λ (js : List StoredJob). if bytes_eq o (owner_of c) then jobs_after c js else js) (same o) ∙ sym (own-after o c b)
+
+-- a closed job among an owner's, closed again
+closed-again : (n k : ℕ) (js : List StoredJob) → RunsFrom k js → (j : StoredJob) → find (λ i. n == i.head.job) js ≡ Some j → j.head.closed ≡ true → map_jobs n closed_job js ≡ js
+closed-again n k [] h j found is = refl
+closed-again n k (x ∷ js) h j found is = by (n == x.head.job) refl found (closed-again n (k + 1) js h.1 j)
+  where
+    unchanged : x.head.closed ≡ true → closed_job x ≡ x
+    unchanged e = ap (λ t. record x { head = record x.head { closed = t } }) (sym e)
+
+    by : (t : Bool) → (n == x.head.job) ≡ t → cond t (Some x) (find (λ i. n == i.head.job) js) ≡ Some j → (find (λ i. n == i.head.job) js ≡ Some j → j.head.closed ≡ true → map_jobs n closed_job js ≡ js) → (if t then closed_job x else x) ∷ map_jobs n closed_job js ≡ x ∷ js
+    by true p found rest =
+        let same : x ≡ j = cc in
+        let number : n ≡ k = eqb-true n x.head.job p ∙ h.0 in
+        let none : map_jobs n closed_job js ≡ js = change-below closed_job (k + 1) n js (omega (arith, number)) h.1 in
+        ap (λ xs. closed_job x ∷ xs) none ∙ ap (λ y. y ∷ js) (unchanged (ap (λ (i : StoredJob). i.head.closed) same ∙ is))
+    by false p found rest = ap (λ xs. x ∷ xs) (rest found is)
+
+-- closing a closed job changes nothing
+pub close-closed : (owner : List ℕ) (job : ℕ) (js : List StoredJob) (j : StoredJob) → IsKept js → job_of owner job js ≡ Some j → j.head.closed ≡ true → SameJobs (jobs_after (Close owner job) js) js
+close-closed owner job js j kept found is =
+    SameJobs-by owner (closed owner job js) js (with_job-own closed_job (λ _. refl) owner job js ∙ closed-again job 1 (jobs_of owner js) (kept owner).numbers j found is) (λ o other. with_job-other closed_job (λ _. refl) owner o job js other)

@@ -1,7 +1,7 @@
 // Laws of the machine over lists of commands. They compute nothing: each contract is a fact about every list.
-ghost use Rattle.std.specs.Prelude.{◌≡◌, ℕ, List, ◌∷◌, ◌++◌};
+ghost use Rattle.std.specs.Prelude.{◌≡◌, ℕ, true, List, ◌∷◌, ◌++◌, Some};
 ghost use Rattle.job_core.specs.Job.{StoredJob};
-ghost use Rattle.job_core.specs.Jobs.{SameJobs, jobs_of};
+ghost use Rattle.job_core.specs.Jobs.{SameJobs, IsKept, jobs_of, job_of};
 ghost use Rattle.job_core.specs.Machine.{reply_to, jobs_after, answers, jobs_after_all, commands_of, answers_to, SameAnswer};
 ghost use Rattle.job_core.specs.declared.command.Command.{Command};
 ghost use Rattle.job_core.specs.declared.job.Made.{Made};
@@ -34,4 +34,11 @@ pub fn order_between_owners_is_unseen()
         SameJobs jobs others → reply_to command jobs ≡ reply_to command others }
     ensures jobs { (command : Command) (jobs others : List StoredJob) →
         SameJobs jobs others → SameJobs (jobs_after command jobs) (jobs_after command others) }
+{}
+
+/// Closing a closed job changes nothing.
+pub fn closing_again_changes_nothing()
+    ensures { (owner : List ℕ) (number : ℕ) (jobs : List StoredJob) (job : StoredJob) →
+        IsKept jobs → job_of owner number jobs ≡ Some job → job.head.closed ≡ true →
+        SameJobs (jobs_after (Command.Close owner number) jobs) jobs }
 {}

@@ -21,7 +21,13 @@ pub use io_ports::{Bytes, PathText, Report, Span, Weight};
 pub use job::{Job, JobFile, JobHead, Judged, Made, Verdict};
 pub use jobs::Jobs;
 pub use keeper::Keeper;
-pub use laws::{order_between_owners_is_unseen, owners_are_apart, repeated_keys_act_once};
+pub use laws::{
+    closing_again_changes_nothing, order_between_owners_is_unseen, owners_are_apart,
+    repeated_keys_act_once,
+};
 pub use machine::MAX_JOBS;
 pub use memory::MemoryKeeper;
 pub use work::Work;
+
+#[cfg(test)]
+mod tests;
