@@ -149,4 +149,3 @@ describes_len u s bs (Some n) e =
 
 pub describes_until : (u : Until) (s : State) (bs : List ℕ) → Describes (is_until u s) bs (until_len u s bs)
 describes_until u s bs = describes_len u s bs (until_len u s bs) refl
-

@@ -46,3 +46,9 @@ tag_in_word = refl
 
 tag_at_end : scan V74 html (codes "<?PhP") ≡ Some (Tag, 5)
 tag_at_end = refl
+
+yield_from : scan V74 code (codes "yield \n From;") ≡ Some (Keyword, 12)
+yield_from = refl
+
+yield_and_word : scan V74 code (codes "yield fromage") ≡ Some (Word, 5)
+yield_and_word = refl

@@ -8,5 +8,7 @@ pub mod RulesCode
 pub mod RulesQuoted
 pub mod Modes
 pub mod Lexed
+pub mod Laws
 pub mod Scan
+pub mod Letters
 pub mod Views

@@ -117,7 +117,8 @@ closes From Plain b = false
 closes From Escaped b = nat_eq (lower b) 109
 
 -- Whether the byte bars the text. A closed text in double quotes has no part. A cast has blanks, a word (`Plain`) and
--- blanks (`Escaped`). Between `yield` and `from` is white space alone; `Escaped` is within `from`.
+-- blanks (`Escaped`). Between `yield` and `from` is white space alone, and no byte of a
+-- label follows; `Escaped` is within `from`.
 abbrev pub bars : Until → State → ℕ → List ℕ → Bool
 bars Simple s b bs = false
 bars Closed Escaped b bs = false
@@ -128,7 +129,7 @@ bars CastWord First b bs = not (is_blank_byte b || begins_type (b ∷ bs))
 bars CastWord Plain b bs = not (is_letter b || is_blank_byte b || nat_eq b 41)
 bars CastWord Escaped b bs = not (is_blank_byte b || nat_eq b 41)
 bars From First b bs = not (is_space b)
-bars From Plain b bs = not (is_space b || starts_word (codes "from") (b ∷ bs))
+bars From Plain b bs = not (is_space b || word_alone (codes "from") (b ∷ bs))
 bars From Escaped b bs = false
 
 -- the state behind a byte; in a comment `Escaped` is behind a `*`

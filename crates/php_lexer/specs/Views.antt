@@ -1,10 +1,13 @@
 -- The modes of the code, seen as those of the definition, and what the lexer has read so far.
-use Rattle.std.specs.Prelude.{◌≡◌, ◌≤◌, ◌+◌, ◌++◌, ◌∷◌, ℕ, ◌&&◌, cond, nat_le, List, [], length, slice_range, drop, map, reverse, Option, Some, None}
+use Rattle.std.specs.Prelude.{◌≡◌, ◌≤◌, ◌+◌, ◌++◌, ◌∷◌, ℕ, ◌&&◌, cond, nat_le, List, [], length, slice_range, drop, map, reverse, Option, Some, None, Result, Ok, Err}
+use Rattle.std.specs.declared.alloc.Global.{Global}
+use Rattle.std.specs.declared.vec.Vec.{Vec}
 use Rattle.php_tree.specs.declared.version.Version.{Version}
 use Rattle.php_tree.specs.declared.token.Token.{Token}
 use Rattle.php_tree.specs.declared.token.TokenKind.{TokenKind}
 use Rattle.php_tree.specs.Places.{ArePlaced}
 use Rattle.php_lexer.specs.declared.fault.LexFault.{LexFault}
+use Rattle.php_lexer.specs.declared.fault.LexFault.TheVariants.{TooLong, Memory}
 use Rattle.php_lexer.specs.declared.modes.Mode.{Mode as CodeMode}
 use Rattle.php_lexer.specs.declared.modes.Mode.TheVariants.{Html, Code, Named, Quoted, Offset, Property}
 use Rattle.php_lexer.specs.declared.modes.Turn.{Turn as CodeTurn}
@@ -86,3 +89,10 @@ pub record Front (version : Version) (bytes : List ℕ) (front : List Token) (m 
   pub placed : (ts : List Token) → ArePlaced lead ts → ArePlaced 0 (front ++ ts)
   pub tokens : (ts : List Lexeme) → Lexed version (stack_of bytes m ms fs) (slice_range bytes lead at) (drop at bytes) ts → Lexed version start [] bytes (lexemes front ++ ts)
   pub stops : (f : LexFault) → Stops version (stack_of bytes m ms fs) (reverse fs) at (drop at bytes) f → Stops version start [] 0 bytes f
+
+-- what the lexer answers for a file of no more bytes than the limit
+abbrev pub Meets : Version → List ℕ → Result (Vec Token Global) LexFault → Type 0
+Meets version bytes (Ok tokens) = TokensOf version bytes tokens.items
+Meets version bytes (Err Memory) = Unit {0}
+Meets version bytes (Err TooLong) = ⊥
+Meets version bytes (Err fault) = Stops version start [] 0 bytes fault

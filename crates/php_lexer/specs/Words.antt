@@ -32,6 +32,12 @@ operators =
     ∷ codes "*=" ∷ codes "**=" ∷ codes "/=" ∷ codes "%" ∷ codes "%=" ∷ codes "&" ∷ codes "&&" ∷ codes "&="
     ∷ codes "|" ∷ codes "||" ∷ codes "|=" ∷ codes "^" ∷ codes "^=" ∷ []
 
+-- the words that begin with a letter
+abbrev pub words_by : ℕ → List (List ℕ) → List (List ℕ)
+words_by letter [] = []
+words_by letter ([] ∷ ws) = words_by letter ws
+words_by letter ((a ∷ w) ∷ ws) = cond (nat_eq a letter) ((a ∷ w) ∷ words_by letter ws) (words_by letter ws)
+
 -- whether the text is this word, without ASCII case
 abbrev pub is_word : List ℕ → List ℕ → Bool
 is_word [] text = is_empty text
@@ -51,10 +57,14 @@ is_keyword text = is_word_of keywords text
 abbrev pub digit_value : ℕ → ℕ
 digit_value b = cond (is_digit b) (b - 48) (lower b - 87)
 
--- the value of digits behind a value; `_` has none
+-- a value with one more digit behind it; `_` is none
+abbrev pub value_step : ℕ → ℕ → ℕ → ℕ
+value_step base value b = cond (nat_eq b 95) value (value * base + digit_value b)
+
+-- the value of digits behind a value
 abbrev pub value_from : ℕ → ℕ → List ℕ → ℕ
 value_from base value [] = value
-value_from base value (b ∷ bs) = value_from base (cond (nat_eq b 95) value (value * base + digit_value b)) bs
+value_from base value (b ∷ bs) = value_from base (value_step base value b) bs
 
 -- the greatest Int
 abbrev pub greatest_int : ℕ

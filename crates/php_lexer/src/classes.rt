@@ -41,7 +41,11 @@ pub fn label_byte(byte: u8) -> bool
 pub fn lower(byte: u8) -> u8
     ensures { result ≡ lower byte }
 {
-    if 65 <= byte && byte <= 90 { byte + 32 } else { byte }
+    if 65 <= byte && byte <= 90 {
+        byte + 32
+    } else {
+        byte
+    }
 }
 
 // Whether the bytes begin with these.

@@ -4,7 +4,9 @@ ghost use Rattle.php_lexer.specs.Bytes.{skip_blanks};
 ghost use Rattle.php_lexer.specs.Heredocs.{begins_label, ends_heredoc, behind_quote, begins_nowdoc, nowdoc_label, nowdoc_head};
 ghost use Rattle.php_lexer.specs.Scan.{end_line_len, body_len, nowdoc_len, add_to};
 
-use crate::classes::{blanks, first_is, first_letter, first_line_end, label_byte, label_bytes, line_end, starts_with};
+use crate::classes::{
+    blanks, first_is, first_letter, first_line_end, label_byte, label_bytes, line_end, starts_with,
+};
 
 // Whether the bytes begin with the label, and no byte of a label follows it.
 #[tactic(auto, using(crate::proofs::Steps::starts_within))]

@@ -2,12 +2,24 @@
 #![tactic(auto)]
 
 mod classes;
+mod code;
 mod fault;
 mod heredocs;
+mod keywords;
+mod laws;
+mod lexer;
+mod marks;
 mod modes;
+mod numbers;
 mod rows;
+mod scan;
 mod shapes;
 mod table;
 mod walks;
 
 pub use fault::LexFault;
+pub use laws::{no_byte_is_lost, one_fault, one_token_list, tokens_or_fault};
+pub use lexer::lex;
+
+#[cfg(test)]
+mod tests;

@@ -1,5 +1,12 @@
 // Which mode a token leaves.
+ghost use Rattle.std.specs.Prelude.{◌≡◌, ◌≤◌, ◌+◌, ◌<◌, ◌∷◌, [], length, take, drop, nat_eq, true};
+ghost use Rattle.php_lexer.specs.declared.table.Mark.TheVariants.{Here};
+ghost use Rattle.php_lexer.specs.Modes.{is_byte, brace_turn, begins_arrow, begins_property, part_turn, ends_line, code_turn, quoted_turn, turn_of, html, code, quoted, offset, property, enter, label_of, label_place};
+ghost use Rattle.php_lexer.specs.Views.{mode_of, turn_seen, cut};
+
+use crate::classes::{first_is, first_letter, label_bytes, letter, line_end};
 use crate::table::{Kind, Mark};
+use php_tree::Version;
 
 /// A mode of the lexer; a heredoc's label stands at `from..to`.
 #[derive(Clone, Copy)]
@@ -18,4 +25,205 @@ pub enum Turn {
     Stay(Mode),
     Enter(Mode, Mode),
     Leave,
+}
+
+fn byte_is(text: &[u8], byte: u8) -> bool
+    ensures { result ≡ is_byte byte text.now }
+{
+    match text {
+        [] => false,
+        [only] => *only == byte,
+        [_, _, ..] => false,
+    }
+}
+
+fn arrow_next(rest: &[u8]) -> bool
+    ensures { result ≡ begins_arrow rest.now }
+{
+    match rest {
+        [] => false,
+        [_] => false,
+        [a, b, ..] => {
+            let (_, label) = rest.split_at(2);
+            *a == 45 && *b == 62 && first_letter(label)
+        }
+    }
+}
+
+fn property_next(version: Version, rest: &[u8]) -> bool
+    ensures { result ≡ begins_property version rest.now }
+{
+    match version {
+        Version::V74 => arrow_next(rest),
+        Version::V83 => match rest {
+            [] => false,
+            [first, ..] => {
+                let (_, arrow) = rest.split_at(1);
+                arrow_next(rest) || *first == 63 && arrow_next(arrow)
+            }
+        },
+    }
+}
+
+fn line_ended(text: &[u8]) -> bool
+    ensures { result ≡ ends_line text.now }
+{
+    !text.is_empty() && line_end(text[text.len() - 1])
+}
+
+// Where the label begins in the first line of a heredoc, behind its first byte.
+fn label_start(text: &[u8]) -> usize
+    ensures count { result ≡ label_place text.now }
+    ensures within { result ≤ length (drop 1 text.now) }
+{
+    match text {
+        [] => 0,
+        [_, ..] => {
+            let (_, rest) = text.split_at(1);
+            rest.iter().take_while(|b| !letter(**b)).count()
+        }
+    }
+}
+
+// The start of a heredoc at `at`.
+fn heredoc_turned(bytes: &[u8], at: usize, len: usize) -> Turn
+    requires within { at + len ≤ length bytes.now }
+    requires some { 0 < len }
+    ensures { turn_seen bytes.now result ≡ enter (quoted Here (label_of (take len (drop at bytes.now))) true) code }
+{
+    let (_, here) = bytes.split_at(at);
+    let (text, _) = here.split_at(len);
+    let from = 1 + label_start(text);
+    let (_, label) = text.split_at(from);
+    let to = from + label_bytes(label);
+    Turn::Enter(
+        Mode::Quoted(Mark::Here, at + from, at + to, true),
+        Mode::Code,
+    )
+}
+
+fn brace_turned(bytes: &[u8], text: &[u8]) -> Turn
+    ensures { turn_seen bytes.now result ≡ brace_turn text.now }
+{
+    if byte_is(text, 123) {
+        Turn::Enter(Mode::Code, Mode::Code)
+    } else if byte_is(text, 125) {
+        Turn::Leave
+    } else {
+        Turn::Stay(Mode::Code)
+    }
+}
+
+// What a token of code does, whose text is at `at`.
+fn code_turned(bytes: &[u8], kind: Kind, at: usize, len: usize) -> Turn
+    requires within { at + len ≤ length bytes.now }
+    requires some { 0 < len }
+    ensures { turn_seen bytes.now result ≡ code_turn kind (take len (drop at bytes.now)) }
+{
+    let (_, here) = bytes.split_at(at);
+    let (text, _) = here.split_at(len);
+    match kind {
+        Kind::Close => Turn::Stay(Mode::Html),
+        Kind::Quote => Turn::Enter(Mode::Quoted(Mark::Double, 1, 0, false), Mode::Code),
+        Kind::Backtick => Turn::Enter(Mode::Quoted(Mark::Back, 1, 0, false), Mode::Code),
+        Kind::HeredocStart => heredoc_turned(bytes, at, len),
+        Kind::Op => brace_turned(bytes, text),
+        _ => Turn::Stay(Mode::Code),
+    }
+}
+
+// Behind a variable of a quoted text in the mode.
+fn part_turned(version: Version, bytes: &[u8], mode: Mode, rest: &[u8]) -> Turn
+    ensures { turn_seen bytes.now result ≡ part_turn version (mode_of bytes.now mode) rest.now }
+{
+    if first_is(91, rest) {
+        Turn::Enter(Mode::Offset, mode)
+    } else if property_next(version, rest) {
+        Turn::Enter(Mode::Property, mode)
+    } else {
+        Turn::Stay(mode)
+    }
+}
+
+// What a token of a quoted text does; the label of a heredoc stands at `from..to`.
+fn quoted_turned(
+    version: Version,
+    bytes: &[u8],
+    mark: Mark,
+    from: usize,
+    to: usize,
+    kind: Kind,
+    text: &[u8],
+    rest: &[u8],
+) -> Turn
+    ensures { turn_seen bytes.now result ≡ quoted_turn version mark (cut bytes.now from to) kind text.now rest.now }
+{
+    let inside = Mode::Quoted(mark, from, to, false);
+    match kind {
+        Kind::QuotedEnd => Turn::Leave,
+        Kind::Variable => part_turned(version, bytes, inside, rest),
+        Kind::CurlyOpen => Turn::Enter(Mode::Code, inside),
+        Kind::DollarBrace => Turn::Enter(Mode::Named, inside),
+        _ => Turn::Stay(Mode::Quoted(mark, from, to, line_ended(text))),
+    }
+}
+
+fn html_turned(version: Version, bytes: &[u8], kind: Kind, text: &[u8], rest: &[u8]) -> Turn
+    ensures { turn_seen bytes.now result ≡ turn_of version html kind text.now rest.now }
+{
+    match kind {
+        Kind::InlineHtml => Turn::Stay(Mode::Html),
+        _ => Turn::Stay(Mode::Code),
+    }
+}
+
+fn offset_turned(version: Version, bytes: &[u8], kind: Kind, text: &[u8], rest: &[u8]) -> Turn
+    ensures { turn_seen bytes.now result ≡ turn_of version offset kind text.now rest.now }
+{
+    match kind {
+        Kind::Op => {
+            if byte_is(text, 93) {
+                Turn::Leave
+            } else {
+                Turn::Stay(Mode::Offset)
+            }
+        }
+        _ => Turn::Stay(Mode::Offset),
+    }
+}
+
+fn property_turned(version: Version, bytes: &[u8], kind: Kind, text: &[u8], rest: &[u8]) -> Turn
+    ensures { turn_seen bytes.now result ≡ turn_of version property kind text.now rest.now }
+{
+    match kind {
+        Kind::Label => Turn::Leave,
+        _ => Turn::Stay(Mode::Property),
+    }
+}
+
+/// What the token at `at` does to the stack.
+pub fn turn_of(
+    version: Version,
+    bytes: &[u8],
+    mode: Mode,
+    kind: Kind,
+    at: usize,
+    len: usize,
+) -> Turn
+    requires within { at + len ≤ length bytes.now }
+    requires some { 0 < len }
+    ensures { turn_seen bytes.now result ≡ turn_of version (mode_of bytes.now mode) kind (take len (drop at bytes.now)) (drop len (drop at bytes.now)) }
+{
+    let (_, here) = bytes.split_at(at);
+    let (text, rest) = here.split_at(len);
+    match mode {
+        Mode::Html => html_turned(version, bytes, kind, text, rest),
+        Mode::Code => code_turned(bytes, kind, at, len),
+        Mode::Named => code_turned(bytes, kind, at, len),
+        Mode::Quoted(mark, from, to, _) => {
+            quoted_turned(version, bytes, mark, from, to, kind, text, rest)
+        }
+        Mode::Offset => offset_turned(version, bytes, kind, text, rest),
+        Mode::Property => property_turned(version, bytes, kind, text, rest),
+    }
 }

@@ -124,7 +124,7 @@ pub fn tail_length(tail: Tail, label: &[u8], bytes: &[u8]) -> Option<usize>
 
 // The length of what stands behind a word, within the bytes.
 #[tactic(auto, using(crate::proofs::Within::tail_within))]
-fn bounded_length(tail: Tail, label: &[u8], bytes: &[u8]) -> Option<usize>
+pub fn bounded_length(tail: Tail, label: &[u8], bytes: &[u8]) -> Option<usize>
     ensures is { result ≡ tail_len label.now tail bytes.now }
     ensures within { IfSome result (λ n. n ≤ length bytes.now) }
 {
@@ -147,11 +147,7 @@ pub fn word(word: &[u8], tail: Tail, label: &[u8], bytes: &[u8]) -> Option<usize
 }
 
 // The longer of two tokens, the first where they are equally long.
-pub fn longer(
-    kind: Kind,
-    len: Option<usize>,
-    other: Option<(Kind, usize)>,
-) -> Option<(Kind, usize)>
+pub fn longer(kind: Kind, len: Option<usize>, other: Option<(Kind, usize)>) -> Option<(Kind, usize)>
     ensures { result ≡ longer kind len other }
 {
     match len {

@@ -82,7 +82,11 @@ fn float_next(spot: Spot, byte: u8) -> Spot
         Spot::Whole => {
             let marked = either(exponent(byte), Spot::Mark, Spot::Stuck);
             let pointed = either(byte == 46, Spot::Point, marked);
-            either(digit(byte), Spot::Whole, either(byte == 95, Spot::WholeGap, pointed))
+            either(
+                digit(byte),
+                Spot::Whole,
+                either(byte == 95, Spot::WholeGap, pointed),
+            )
         }
         Spot::WholeGap => either(digit(byte), Spot::Whole, Spot::Stuck),
         Spot::LeadPoint => either(digit(byte), Spot::Part, Spot::Stuck),
@@ -93,7 +97,11 @@ fn float_next(spot: Spot, byte: u8) -> Spot
         ),
         Spot::Part => {
             let marked = either(exponent(byte), Spot::Mark, Spot::Stuck);
-            either(digit(byte), Spot::Part, either(byte == 95, Spot::PartGap, marked))
+            either(
+                digit(byte),
+                Spot::Part,
+                either(byte == 95, Spot::PartGap, marked),
+            )
         }
         Spot::PartGap => either(digit(byte), Spot::Part, Spot::Stuck),
         Spot::Mark => either(
@@ -128,7 +136,11 @@ fn name_next(spot: Spot, byte: u8) -> Spot
 fn line_end_next(byte: u8) -> Spot
     ensures { result ≡ line_end_step byte }
 {
-    either(byte == 10, Spot::Line, either(byte == 13, Spot::Return, Spot::Stuck))
+    either(
+        byte == 10,
+        Spot::Line,
+        either(byte == 13, Spot::Return, Spot::Stuck),
+    )
 }
 
 fn heredoc_next(spot: Spot, byte: u8) -> Spot
@@ -137,7 +149,11 @@ fn heredoc_next(spot: Spot, byte: u8) -> Spot
     match spot {
         Spot::Begin => {
             let opened = either(byte == 34, Spot::OpenedLabel, Spot::Stuck);
-            either(blank_byte(byte), Spot::Begin, either(letter(byte), Spot::FirstLabel, opened))
+            either(
+                blank_byte(byte),
+                Spot::Begin,
+                either(letter(byte), Spot::FirstLabel, opened),
+            )
         }
         Spot::FirstLabel => either(label_byte(byte), Spot::FirstLabel, line_end_next(byte)),
         Spot::OpenedLabel => either(letter(byte), Spot::QuotedLabel, Spot::Stuck),

@@ -5,7 +5,9 @@ ghost use Rattle.php_lexer.specs.Heredocs.{no_label};
 ghost use Rattle.php_lexer.specs.Tails.{begins_part, begins_tag, in_piece, in_line, goes, escape, moved, word_alone, begins_type, closes, bars, turned};
 ghost use Rattle.php_lexer.specs.Scan.{run_len, until_len};
 
-use crate::classes::{blank_byte, first_is, first_space, label_byte, letter, line_end, lower, space, starts_word};
+use crate::classes::{
+    blank_byte, first_is, first_space, label_byte, letter, line_end, lower, space, starts_word,
+};
 use crate::heredocs::last_line;
 use crate::table::{Mark, Run, State, Until};
 
@@ -223,7 +225,7 @@ fn barred(until: Until, state: State, byte: u8, rest: &[u8], bytes: &[u8]) -> bo
             Until::Closed => part(byte, rest),
             Until::Block => false,
             Until::CastWord => !(letter(byte) || blank_byte(byte) || byte == 41),
-            Until::From => !(space(byte) || starts_word(b"from", bytes)),
+            Until::From => !(space(byte) || word_only(b"from", bytes)),
         },
         State::Escaped => match until {
             Until::Simple => false,

@@ -1,0 +1,196 @@
+// The tokens of a file.
+ghost use Rattle.std.specs.Prelude.{◌≡◌, ◌≤◌, ◌<◌, ◌^◌, ◌++◌, ◌∷◌, length, IfOk, IfErr, OnOk, [], drop, reverse};
+ghost use Rattle.php_lexer.specs.Lexed.{fault_at, code_fault, open_fault, byte_limit, TokensOf, IsFault};
+ghost use Rattle.php_lexer.specs.Views.{token_cut, mode_of, Meets, IsAfter, IsNoted, first_fault};
+
+use crate::classes::starts_word;
+use crate::fault::LexFault;
+use crate::modes::{Mode, Turn, turn_of};
+use crate::numbers::token_kind;
+use crate::scan::next;
+use crate::table::Mark;
+use php_tree::{Token, TokenKind, Version};
+use span_edits::Bytes;
+use std::alloc::{AllocError, Global};
+
+const BYTE_LIMIT: usize = 1_048_576;
+
+fn cut_token(
+    alloc: Global,
+    bytes: &[u8],
+    kind: TokenKind,
+    lead: usize,
+    at: usize,
+    end: usize,
+) -> Result<Token, AllocError>
+    requires order { lead ≤ at }
+    requires length { at ≤ end }
+    requires within { end ≤ length bytes.now }
+    requires limit { length bytes.now ≤ byte_limit }
+    ensures { IfOk result (λ t. t ≡ token_cut bytes.now kind lead at end) }
+{
+    Ok(Token {
+        kind,
+        lead: Bytes::new(Vec::from_slice(alloc, &bytes[lead..at])?),
+        text: Bytes::new(Vec::from_slice(alloc, &bytes[at..end])?),
+        start: at as u32,
+    })
+}
+
+// The fault at a place of code where no token begins.
+fn code_fault_at(at: u32, here: &[u8]) -> LexFault
+    ensures { result ≡ code_fault at here.now }
+{
+    if starts_word(b"'", here) || starts_word(b"b'", here) {
+        LexFault::OpenText(at)
+    } else if starts_word(b"/*", here) {
+        LexFault::OpenComment(at)
+    } else if starts_word(b"<<<", here) || starts_word(b"b<<<", here) {
+        LexFault::OpenHeredoc(at)
+    } else {
+        LexFault::BadByte(at)
+    }
+}
+
+// The fault at a place where no token begins.
+fn fault_here(bytes: &[u8], mode: Mode, at: u32, here: &[u8]) -> LexFault
+    ensures { result ≡ fault_at (mode_of bytes.now mode) at here.now }
+{
+    match mode {
+        Mode::Html => LexFault::BadByte(at),
+        Mode::Code => code_fault_at(at, here),
+        Mode::Named => code_fault_at(at, here),
+        Mode::Quoted(_, _, _, _) => LexFault::BadByte(at),
+        Mode::Offset => LexFault::BadByte(at),
+        Mode::Property => LexFault::BadByte(at),
+    }
+}
+
+fn open_fault_at(mark: Mark, at: u32) -> LexFault
+    ensures { result ≡ open_fault mark at }
+{
+    match mark {
+        Mark::Here => LexFault::OpenHeredoc(at),
+        Mark::Double => LexFault::OpenText(at),
+        Mark::Back => LexFault::OpenText(at),
+    }
+}
+
+// The mode behind the turn.
+fn follow(below: &mut Vec<Mode>, turn: Turn) -> Result<Mode, AllocError>
+    ensures { IfOk result (λ m. IsAfter turn below.old.items m below.new.items) }
+{
+    match turn {
+        Turn::Stay(mode) => Ok(mode),
+        Turn::Enter(above, under) => {
+            below.push(under)?;
+            Ok(above)
+        }
+        Turn::Leave => match below.pop() {
+            None => Ok(Mode::Code),
+            Some(mode) => Ok(mode),
+        },
+    }
+}
+
+// Keeps where a quoted text begins, until it ends.
+fn note(opens: &mut Vec<LexFault>, mode: Mode, turn: Turn, at: u32) -> Result<(), AllocError>
+    ensures { OnOk result (IsNoted mode turn at opens.old.items opens.new.items) }
+{
+    match turn {
+        Turn::Stay(_) => {}
+        Turn::Enter(above, _) => match above {
+            Mode::Quoted(mark, _, _, _) => opens.push(open_fault_at(mark, at))?,
+            Mode::Html => {}
+            Mode::Code => {}
+            Mode::Named => {}
+            Mode::Offset => {}
+            Mode::Property => {}
+        },
+        Turn::Leave => match mode {
+            Mode::Quoted(_, _, _, _) => {
+                opens.pop();
+            }
+            Mode::Html => {}
+            Mode::Code => {}
+            Mode::Named => {}
+            Mode::Offset => {}
+            Mode::Property => {}
+        },
+    }
+    Ok(())
+}
+
+// The fault of the innermost text that has not ended.
+fn innermost(opens: &Vec<LexFault>) -> Option<LexFault>
+    ensures { result ≡ first_fault (reverse opens.now.items) }
+{
+    opens.last().copied()
+}
+
+fn push(tokens: &mut Vec<Token>, token: Token) -> Result<(), AllocError>
+    ensures { OnOk result (tokens.new.items ≡ tokens.old.items ++ token ∷ []) }
+{
+    tokens.push(token)?;
+    Ok(())
+}
+
+// The tokens of a file of no more bytes than the limit.
+fn read(alloc: Global, version: Version, bytes: &[u8]) -> Result<Vec<Token>, LexFault>
+    requires { length bytes.now ≤ byte_limit }
+    ensures { Meets version bytes.now result }
+{
+    let mut tokens = Vec::new(alloc);
+    let mut below = Vec::new(alloc);
+    let mut opens = Vec::new(alloc);
+    let mut mode = Mode::Html;
+    let mut lead = 0;
+    let mut at = 0;
+    while at < bytes.len() {
+        let (_, here) = bytes.split_at(at);
+        match next(version, bytes, mode, here) {
+            None => return Err(fault_here(bytes, mode, at as u32, here)),
+            Some((kind, len)) => {
+                let turn = turn_of(version, bytes, mode, kind, at, len);
+                note(&mut opens, mode, turn, at as u32)?;
+                mode = follow(&mut below, turn)?;
+                let (text, _) = here.split_at(len);
+                match token_kind(kind, text) {
+                    None => {}
+                    Some(kind) => {
+                        let token = cut_token(alloc, bytes, kind, lead, at, at + len)?;
+                        push(&mut tokens, token)?;
+                        lead = at + len;
+                    }
+                }
+                at += len;
+            }
+        }
+    }
+    match innermost(&opens) {
+        None => {}
+        Some(fault) => return Err(fault),
+    }
+    let end = cut_token(alloc, bytes, TokenKind::End, lead, at, at)?;
+    push(&mut tokens, end)?;
+    Ok(tokens)
+}
+
+/// The tokens of a file. Each is the longest of its mode at its place, by the tables of the
+/// version; white space, comments and opening tags go to the token behind them. The last token is
+/// the end, with no text.
+///
+/// `TooLong` comes for more than 1,048,576 bytes. Otherwise the first fault from the left comes
+/// where there are no tokens: `OpenText`, `OpenComment` or `OpenHeredoc` with the place at which a
+/// text, a comment or a heredoc without end begins, or `BadByte` with a place at which no token
+/// begins. A fault within a quoted text comes before that of the text. `Memory` is want of memory.
+pub fn lex(alloc: Global, version: Version, bytes: &[u8]) -> Result<Vec<Token>, LexFault>
+    ensures tokens { IfOk result (λ tokens. TokensOf version bytes.now tokens.items) }
+    ensures within { OnOk result (length bytes.now ≤ byte_limit) }
+    ensures fault { IfErr result (λ fault. IsFault version bytes.now fault) }
+{
+    if bytes.len() > BYTE_LIMIT {
+        return Err(LexFault::TooLong);
+    }
+    read(alloc, version, bytes)
+}
