@@ -2,21 +2,30 @@
 ghost use Rattle.std.specs.Prelude.{◌≡◌, ◌+◌, ◌++◌, replicate, IfOk, OnOk};
 ghost use Rattle.php_tree.specs.Tree.{tree, forest_of, nodes_forest};
 ghost use Rattle.php_tree.specs.Whole.{file as file_of};
+ghost use Rattle.syntax_rules.specs.NestedTernary.{nests as nests_as};
 ghost use Rattle.upgrade_cli.specs.Written as spec;
 
 use php_tree::{FileTree, Node, NodeKind, Part, Token};
 use std::alloc::AllocError;
+
+// A ternary is the left part of another, and not both are `?:`.
+fn nests(outer: NodeKind, inner: NodeKind) -> bool
+    ensures { result ≡ nests_as outer inner }
+{
+    let outer_is_full = matches!(outer, NodeKind::Ternary);
+    let inner_is_full = matches!(inner, NodeKind::Ternary);
+    let outer_is_short = matches!(outer, NodeKind::ShortTernary);
+    let inner_is_short = matches!(inner, NodeKind::ShortTernary);
+    (outer_is_full && (inner_is_full || inner_is_short)) || (outer_is_short && inner_is_full)
+}
 
 // Whether a node gets parentheses that stands leftmost in a node of another kind, if any.
 fn wraps(outer: Option<NodeKind>, inner: NodeKind) -> bool
     ensures { result ≡ spec.wraps outer inner }
 {
     match outer {
-        Some(NodeKind::Ternary) => {
-            matches!(inner, NodeKind::Ternary) || matches!(inner, NodeKind::ShortTernary)
-        }
-        Some(NodeKind::ShortTernary) => matches!(inner, NodeKind::Ternary),
-        _ => false,
+        Some(outer) => nests(outer, inner),
+        None => false,
     }
 }
 

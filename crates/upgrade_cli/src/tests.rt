@@ -9,6 +9,7 @@ use std::alloc::{AllocError, Global};
 use std::test::Fail;
 
 const USAGE: &str = "usage: upgrader upgrade, check, sample or serve\n";
+
 const DONE: &str = "files 1 edits 0 reports 0 stops 0\n";
 
 fn words_of(alloc: Global, texts: &[&str]) -> Result<Vec<String>, AllocError> {
@@ -62,9 +63,7 @@ impl Ran {
         let is_written = match written {
             None => files.is_empty(),
             Some(bytes) => {
-                files.len() == 1
-                    && files[0].0.as_str() == "a.php"
-                    && files[0].1.as_slice() == bytes
+                files.len() == 1 && files[0].0.as_str() == "a.php" && files[0].1.as_slice() == bytes
             }
         };
         self.status == status && self.out.bytes() == line.as_bytes() && is_written
@@ -102,7 +101,11 @@ fn run_on(alloc: Global, bytes: &[u8], failing: Failing) -> Result<Ran, AllocErr
 fn files_are_upgraded(rt: HostRuntime) -> Result<(), Fail> {
     for (before, after, line) in [
         ("", "", DONE),
-        ("<?php echo 1 ? 2 : (3 ? 4 : 5), 'a';\n", "<?php echo 1 ? 2 : (3 ? 4 : 5), 'a';\n", DONE),
+        (
+            "<?php echo 1 ? 2 : (3 ? 4 : 5), 'a';\n",
+            "<?php echo 1 ? 2 : (3 ? 4 : 5), 'a';\n",
+            DONE,
+        ),
         (
             "<?php echo true ? 'a' : false ? 'b' : 'c';",
             "<?php echo (true ? 'a' : false) ? 'b' : 'c';",
@@ -118,6 +121,16 @@ fn files_are_upgraded(rt: HostRuntime) -> Result<(), Fail> {
             "<?php echo 1 ? (2 ? 3 : 4) ? 5 : 6 : 7;",
             "files 1 edits 2 reports 0 stops 0\n",
         ),
+        (
+            "<?php echo  1 ?2: 3 ? 4 :5 ;",
+            "<?php echo  (1 ?2: 3) ? 4 :5 ;",
+            "files 1 edits 2 reports 0 stops 0\n",
+        ),
+        (
+            "<?php echo 'x', ((1 ? 2 : 3) ? 4 : 5), (6?7:8?9:0);",
+            "<?php echo 'x', ((1 ? 2 : 3) ? 4 : 5), ((6?7:8)?9:0);",
+            "files 1 edits 2 reports 0 stops 0\n",
+        ),
     ] {
         let ran = run_on(rt.alloc(), before.as_bytes(), NONE_FAILS)?;
         assert!(rt; ran.was(0, line, Some(after.as_bytes())), "{before}");
@@ -127,7 +140,12 @@ fn files_are_upgraded(rt: HostRuntime) -> Result<(), Fail> {
 
 #[test]
 fn other_files_are_refused(rt: HostRuntime) -> Result<(), Fail> {
-    for text in ["<?php echo (1;", "<?php", "<?php echo 08;", "<?php echo 1 ?>"] {
+    for text in [
+        "<?php echo (1;",
+        "<?php",
+        "<?php echo 08;",
+        "<?php echo 1 ?>",
+    ] {
         let ran = run_on(rt.alloc(), text.as_bytes(), NONE_FAILS)?;
         assert!(rt; ran.was(65, "source a.php\n", None), "{text}");
     }
@@ -168,7 +186,10 @@ fn there_is_at_most_one_file(rt: HostRuntime) -> Result<(), Fail> {
     let mut source = CalmSource::new(Vec::new(alloc));
     let status = run(alloc, words.as_slice(), &mut source, &mut target, &mut out);
     assert_eq!(rt; status, Status::Done);
-    assert!(rt; out.bytes().ends_with(b"files 0 edits 0 reports 0 stops 0\n".as_slice()));
+    assert!(rt;
+        out.bytes()
+            .ends_with(b"files 0 edits 0 reports 0 stops 0\n".as_slice())
+    );
     assert!(rt; target.files().is_empty());
     Ok(())
 }
@@ -213,7 +234,11 @@ fn a_fault_names_its_object(rt: HostRuntime) -> Result<(), Fail> {
             out,
         };
         let ran = run_on(alloc, b"", failing)?;
-        let written = if is_written { Some(b"".as_slice()) } else { None };
+        let written = if is_written {
+            Some(b"".as_slice())
+        } else {
+            None
+        };
         assert!(rt; ran.was(status, line, written), "{source} {target} {out}");
     }
     Ok(())
