@@ -10,9 +10,8 @@ use Rattle.php_meaning.specs.Identical.{is_identical}
 use Rattle.php_meaning.specs.Arrays.{Array, array, Own, Shared, element_at, keys, entry_after, appended, with_element, written, Changed, IntoCell, without, union}
 use Rattle.php_meaning.specs.Copies.{copied}
 use Rattle.php_meaning.specs.Arithmetic.{plus}
-use Rattle.php_meaning.specs.Convert.{empty, list_of_one}
-use Rattle.php_meaning.specs.Offsets.{Strict, Quiet, at_offset, array_to_write, without_offset}
-use Rattle.php_meaning.proofs.RowWords.{text, int, minus, truth, falsehood, gives, throws, Row}
+use Rattle.php_meaning.specs.Offsets.{Strict, Quiet, at_offset, array_to_write, array_to_write_at, without_offset}
+use Rattle.php_meaning.proofs.RowWords.{text, int, minus, truth, falsehood, no_items, one_item, gives, throws, Row}
 
 -- ---- arrays to speak of
 
@@ -127,11 +126,24 @@ read_missing = refl
 in_order : keys b_a.entries ≡ named "b" ∷ named "a" ∷ []
 in_order = refl
 
-entry_behind : entry_after 0 one_two.entries ≡ Some (record { key = at 1; serial = 1; element = Own (int 2) })
+-- a loop by reference begins at the first entry
+first_entry : entry_after None one_two.entries ≡ Some (record { key = at 0; serial = 0; element = Own (int 1) })
+first_entry = refl
+
+entry_behind : entry_after (Some 0) one_two.entries ≡ Some (record { key = at 1; serial = 1; element = Own (int 2) })
 entry_behind = refl
 
-no_entry_behind : entry_after 1 one_two.entries ≡ None
+no_entry_behind : entry_after (Some 1) one_two.entries ≡ None
 no_entry_behind = refl
+
+shared_entry_behind : entry_after (Some 1) (own (at 5) 1 Null (shared (at 3) 4 seven none))
+    ≡ Some (record { key = at 3; serial = 4; element = Shared seven })
+shared_entry_behind = refl
+
+-- the variable may have got another array meanwhile, whose entries are all new
+entry_of_a_newer_array : entry_after (Some 1) (own (at 0) 2 (int 9) none)
+    ≡ Some (record { key = at 0; serial = 2; element = Own (int 9) })
+entry_of_a_newer_array = refl
 
 -- ---- the union
 
@@ -166,7 +178,7 @@ plus_arrays : Row (plus (copied (holding Null true) 0) (array a_b) (array b_a)) 
     (gives (array a_b))
 plus_arrays = (refl, refl)
 
-plus_shared : Row (plus (copied (holding Null false) 0) empty with_seven) (Outside Reference) (Outside Reference)
+plus_shared : Row (plus (copied (holding Null false) 0) no_items with_seven) (Outside Reference) (Outside Reference)
 plus_shared = (refl, refl)
 
 -- ---- strict comparison
@@ -203,7 +215,7 @@ identical_bools : identical truth falsehood ≡ Gives false
 identical_bools = refl
 
 -- [] === []
-identical_empty : identical empty empty ≡ Gives true
+identical_empty : identical no_items no_items ≡ Gives true
 identical_empty = refl
 
 -- [1, 2] === [1, 2]
@@ -211,15 +223,15 @@ identical_lists : identical (array one_two) (array one_two) ≡ Gives true
 identical_lists = refl
 
 -- [1, 2] === [1]
-identical_longer : identical (array one_two) (list_of_one (int 1)) ≡ Gives false
+identical_longer : identical (array one_two) (one_item (int 1)) ≡ Gives false
 identical_longer = refl
 
 -- [1] === [1, 2]
-identical_shorter : identical (list_of_one (int 1)) (array one_two) ≡ Gives false
+identical_shorter : identical (one_item (int 1)) (array one_two) ≡ Gives false
 identical_shorter = refl
 
 -- [1] === ["1"]
-identical_elements : identical (list_of_one (int 1)) (list_of_one (text "1")) ≡ Gives false
+identical_elements : identical (one_item (int 1)) (one_item (text "1")) ≡ Gives false
 identical_elements = refl
 
 -- ["a" => 1, "b" => 2] === ["b" => 2, "a" => 1]
@@ -227,7 +239,7 @@ identical_order : identical (array a_b) (array b_a) ≡ Gives false
 identical_order = refl
 
 -- [[1]] === [[1]]
-identical_nested : identical (list_of_one (list_of_one (int 1))) (list_of_one (list_of_one (int 1))) ≡ Gives true
+identical_nested : identical (one_item (one_item (int 1))) (one_item (one_item (int 1))) ≡ Gives true
 identical_nested = refl
 
 identical_objects : identical (Object 1) (Object 1) ≡ Gives true
@@ -243,18 +255,18 @@ identical_shared = refl
 identical_both_shared : identical with_seven with_seven ≡ Gives true
 identical_both_shared = refl
 
-different_shared : identical (list_of_one (int 6)) with_seven ≡ Gives false
+different_shared : identical (one_item (int 6)) with_seven ≡ Gives false
 different_shared = refl
 
 -- an array that holds itself has no meaning, unless the first difference comes before
 identical_endless : is_identical (holding with_seven true) with_seven with_seven ≡ Outside Reference
 identical_endless = refl
 
-endless_on_the_right : is_identical (holding with_seven true) (list_of_one (list_of_one (list_of_one Null))) with_seven
+endless_on_the_right : is_identical (holding with_seven true) (one_item (one_item (one_item Null))) with_seven
     ≡ Outside Reference
 endless_on_the_right = refl
 
-endless_but_different : is_identical (holding with_seven true) with_seven (list_of_one Null) ≡ Gives false
+endless_but_different : is_identical (holding with_seven true) with_seven (one_item Null) ≡ Gives false
 endless_but_different = refl
 
 -- ---- copies
@@ -263,13 +275,13 @@ copied_list : copied (holding Null false) 6 (array one_two)
     ≡ Gives (Arr (Some (pos 1)) 8 (own (at 0) 6 (int 1) (own (at 1) 7 (int 2) none)))
 copied_list = refl
 
-copied_alone : copied (holding (int 5) true) 0 with_seven ≡ Gives (list_of_one (int 5))
+copied_alone : copied (holding (int 5) true) 0 with_seven ≡ Gives (one_item (int 5))
 copied_alone = refl
 
 copied_with_holders : copied (holding (int 5) false) 0 with_seven ≡ Outside Reference
 copied_with_holders = refl
 
-copied_with_holders_inside : copied (holding (int 5) false) 0 (list_of_one with_seven) ≡ Outside Reference
+copied_with_holders_inside : copied (holding (int 5) false) 0 (one_item with_seven) ≡ Outside Reference
 copied_with_holders_inside = refl
 
 copied_text : copied (holding Null false) 0 (text "a") ≡ Gives (text "a")
@@ -351,23 +363,70 @@ quiet_by_word = refl
 read_object : read (Object 1) (int 0) ≡ throws Error
 read_object = refl
 
-read_by_array : read empty empty ≡ Outside Conversion
+-- no meaning: an array or an object as offset, of whatever value
+read_by_array : read no_items no_items ≡ Outside Conversion
 read_by_array = refl
 
-write_to_null : array_to_write Null ≡ gives empty
+read_by_object : read (array one_two) (Object 1) ≡ Outside Conversion
+read_by_object = refl
+
+read_text_by_array : read (text "abc") no_items ≡ Outside Conversion
+read_text_by_array = refl
+
+read_null_by_array : read Null no_items ≡ Outside Conversion
+read_null_by_array = refl
+
+read_bool_by_array : read truth no_items ≡ Outside Conversion
+read_bool_by_array = refl
+
+read_int_by_object : read (int 5) (Object 1) ≡ Outside Conversion
+read_int_by_object = refl
+
+read_object_by_array : read (Object 1) no_items ≡ Outside Conversion
+read_object_by_array = refl
+
+quiet_text_by_array : read_quietly (text "abc") no_items ≡ Outside Conversion
+quiet_text_by_array = refl
+
+quiet_null_by_array : read_quietly Null no_items ≡ Outside Conversion
+quiet_null_by_array = refl
+
+quiet_array_by_object : read_quietly (array one_two) (Object 1) ≡ Outside Conversion
+quiet_array_by_object = refl
+
+-- a new array's entries are numbered from the number that is given on
+write_to_null : array_to_write 3 Null ≡ gives (Arr None 3 none)
 write_to_null = refl
 
-write_to_false : array_to_write falsehood ≡ gives empty
+write_to_false : array_to_write 3 falsehood ≡ gives (Arr None 3 none)
 write_to_false = refl
 
-write_to_true : array_to_write truth ≡ Outside Offset
+write_to_true : array_to_write 3 truth ≡ Outside Offset
 write_to_true = refl
 
-write_to_text : array_to_write (text "") ≡ Outside Offset
+write_to_int : array_to_write 3 (int 5) ≡ Outside Offset
+write_to_int = refl
+
+write_to_text : array_to_write 3 (text "") ≡ Outside Offset
 write_to_text = refl
 
-write_to_object : array_to_write (Object 1) ≡ throws Error
+write_to_object : array_to_write 3 (Object 1) ≡ throws Error
 write_to_object = refl
+
+write_to_array : array_to_write 3 (array one_two) ≡ gives (array one_two)
+write_to_array = refl
+
+write_at_key : array_to_write_at 3 Null (text "a") ≡ gives (Arr None 3 none)
+write_at_key = refl
+
+write_null_at_array : array_to_write_at 3 Null no_items ≡ Outside Conversion
+write_null_at_array = refl
+
+write_text_at_array : array_to_write_at 3 (text "abc") no_items ≡ Outside Conversion
+write_text_at_array = refl
+
+write_array_at_object : array_to_write_at 3 (array one_two) (Object 1) ≡ Outside Conversion
+write_array_at_object = refl
 
 unset_of_array : without_offset (array one_two) (text "0")
     ≡ gives (Arr (Some (pos 1)) 2 (own (at 1) 1 (int 2) none))
@@ -376,5 +435,26 @@ unset_of_array = refl
 unset_of_null : without_offset Null (int 0) ≡ gives Null
 unset_of_null = refl
 
+unset_of_false : without_offset falsehood (int 0) ≡ gives falsehood
+unset_of_false = refl
+
+unset_of_true : without_offset truth (int 0) ≡ Outside Offset
+unset_of_true = refl
+
 unset_of_text : without_offset (text "abc") (int 0) ≡ Outside Offset
 unset_of_text = refl
+
+unset_of_object : without_offset (Object 1) (int 0) ≡ throws Error
+unset_of_object = refl
+
+unset_null_by_array : without_offset Null no_items ≡ Outside Conversion
+unset_null_by_array = refl
+
+unset_false_by_array : without_offset falsehood no_items ≡ Outside Conversion
+unset_false_by_array = refl
+
+unset_array_by_object : without_offset (array one_two) (Object 1) ≡ Outside Conversion
+unset_array_by_object = refl
+
+unset_text_by_array : without_offset (text "abc") no_items ≡ Outside Conversion
+unset_text_by_array = refl
