@@ -1,17 +1,17 @@
 -- The laws of arrays.
-use Rattle.std.proofs.Common.{◌≡◌, ℕ, suc, zero, ◌+◌, Bool, true, false, cond, List, [], ◌∷◌, ℤ, pos, negsuc, refl, sym, ap, ◌∙◌, subst, arith, Option, Some, None}
+use Rattle.std.proofs.Common.{◌≡◌, ℕ, Bool, true, false, cond, List, [], ◌∷◌, ℤ, pos, negsuc, refl, sym, ap, ◌∙◌, subst, arith, Option, Some, None}
 use Rattle.std.specs.Prelude.{◌==◌, ⊤}
 use Rattle.std.proofs.lemmas.Bool.{false≢true, and_parts, and_from, eqb-true, eq-eqb}
 use Rattle.std.proofs.lemmas.Bool.Decides.{nat_tests}
-use Rattle.php_meaning.specs.Value.{Cell, Key, IntKey, TextKey, Value, Null, Truth, Int, Text, Object, Arr, Entries, none, own, shared}
-use Rattle.php_meaning.specs.Cause.{Outcome, Gives, Outside, Cause, Reference, outcome_map}
+use Rattle.php_meaning.specs.Value.{Cell, Key, IntKey, TextKey, Value, Entries, none, own, shared}
+use Rattle.php_meaning.specs.Cause.{Outcome, Outside, Cause, and_then}
 use Rattle.php_tree.specs.declared.version.Version.TheVariants.{V74, V83}
 use Rattle.php_meaning.specs.Differences.{in_version}
-use Rattle.php_meaning.specs.Cells.{Cells, is_among, inside}
 use Rattle.php_meaning.specs.Identical.{is_same_int, is_same_text, is_same_key}
-use Rattle.php_meaning.specs.Arrays.{Element, Own, Shared, Array, element_at, entry, behind, added, replaced, Written, Changed, IntoCell, written, written_over, added_if_missing, with_missing, union, count, next_key}
-use Rattle.php_meaning.specs.Copies.{Copying, copied_entry, copied_by, copied_entries, copied_within, copied}
-use Rattle.php_meaning.specs.ArrayLaws.{DiffersAt, either, HoldsNoCell, HoldNoCell, is_negative}
+use Rattle.php_meaning.specs.Arrays.{Element, Own, Shared, Array, element_at, entry, behind, added, replaced, Written, Changed, IntoCell, written, written_over, added_if_missing, with_missing, union, next_key}
+use Rattle.php_meaning.specs.ArrayLaws.{DiffersAt, either, is_negative, EndsAsOffset}
+use Rattle.php_meaning.specs.Keys.{to_key}
+use Rattle.php_meaning.specs.Offsets.{at_key, array_to_write, without_key}
 
 -- ---- keys
 
@@ -21,7 +21,7 @@ same_int (pos m) (negsuc n) h = absurd (false≢true h)
 same_int (negsuc m) (pos n) h = absurd (false≢true h)
 same_int (negsuc m) (negsuc n) h = ap negsuc (grind (arith, nat_tests))
 
-int_itself : (i : ℤ) → is_same_int i i ≡ true
+pub int_itself : (i : ℤ) → is_same_int i i ≡ true
 int_itself (pos n) = grind (arith, nat_tests)
 int_itself (negsuc n) = grind (arith, nat_tests)
 
@@ -33,7 +33,7 @@ same_text (a ∷ more) (b ∷ bs) h =
     ap (λ (x : ℕ). x ∷ more) (eqb-true a b (and_parts (a == b) (is_same_text more bs) h).0)
     ∙ ap (λ (x : List ℕ). b ∷ x) (same_text more bs (and_parts (a == b) (is_same_text more bs) h).1)
 
-text_itself : (t : List ℕ) → is_same_text t t ≡ true
+pub text_itself : (t : List ℕ) → is_same_text t t ≡ true
 text_itself [] = refl
 text_itself (b ∷ bs) = and_from (b == b) (is_same_text bs bs) (eq-eqb b b refl) (text_itself bs)
 
@@ -43,7 +43,7 @@ same_key (IntKey i) (TextKey t) h = absurd (false≢true h)
 same_key (TextKey s) (IntKey j) h = absurd (false≢true h)
 same_key (TextKey s) (TextKey t) h = ap TextKey (same_text s t h)
 
-key_itself : (k : Key) → is_same_key k k ≡ true
+pub key_itself : (k : Key) → is_same_key k k ≡ true
 key_itself (IntKey i) = int_itself i
 key_itself (TextKey t) = text_itself t
 
@@ -192,82 +192,6 @@ pub union_element : (k : Key) (a b : Array) → element_at k (union a b).entries
     ≡ either (element_at k a.entries) (element_at k b.entries)
 union_element k a b = missing_answers b.entries a k
 
--- ---- copies
-
-IsGiven : {A : Type 0} → Outcome A → Type 0
-IsGiven (Gives a) = ⊤
-IsGiven (Outside c) = ⊥
-
-not_given : {A : Type 0} {c : Cause} {a : A} → Outside c ≡ Gives a → ⊥
-unfolding IsGiven
-not_given e = subst IsGiven (sym e) tt
-
--- what is given has a property
-abbrev OfGiven : {A : Type 0} → (A → Type 0) → Outcome A → Type 0
-OfGiven P (Gives a) = P a
-OfGiven P (Outside c) = ⊤
-
-of_given : {A : Type 0} (P : A → Type 0) (x : Outcome A) (a : A) → OfGiven P x → x ≡ Gives a → P a
-of_given P x a h e = subst (OfGiven P) e h
-
-of_entry : (k : Key) (n : ℕ) (v : Outcome Value) (rest : Outcome Entries) → OfGiven HoldsNoCell v
-    → OfGiven HoldNoCell rest
-    → OfGiven HoldNoCell (copied_entry k n v rest)
-of_entry k n (Gives v) (Gives rest) h p = (h, p)
-of_entry k n (Gives v) (Outside c) h p = tt
-of_entry k n (Outside c) rest h p = tt
-
-of_array : (largest : Option ℤ) (next : ℕ) (es : Outcome Entries) → OfGiven HoldNoCell es
-    → OfGiven HoldsNoCell (outcome_map (Arr largest next) es)
-of_array largest next (Gives es) h = h
-of_array largest next (Outside c) h = tt
-
-of_shared : (x : Bool) (o : Outcome Entries) → OfGiven HoldNoCell o
-    → OfGiven HoldNoCell (cond x o (Outside Reference))
-of_shared true o h = h
-of_shared false o h = tt
-
-of_inside : (x : Bool) (o : Outcome Value) → OfGiven HoldsNoCell o → OfGiven HoldsNoCell (cond x (Outside Reference) o)
-of_inside true o h = tt
-of_inside false o h = h
-
-module _ (cells : Cells) (in_cell : Copying) (first : ℕ)
-    (held : (around : List Cell) (v : Value) → OfGiven HoldsNoCell (in_cell around v)) where
-  mutual
-    copied_by_holds : (around : List Cell) (v : Value) → OfGiven HoldsNoCell (copied_by cells in_cell first around v)
-    copied_by_holds around Null = tt
-    copied_by_holds around (Truth b) = tt
-    copied_by_holds around (Int i) = tt
-    copied_by_holds around (Text t) = tt
-    copied_by_holds around (Object n) = tt
-    copied_by_holds around (Arr largest next es) =
-        of_array largest (first + count es) (copied_entries cells in_cell first around first es)
-        (copied_entries_hold around first es)
-
-    copied_entries_hold : (around : List Cell) (n : ℕ) (es : Entries)
-        → OfGiven HoldNoCell (copied_entries cells in_cell first around n es)
-    copied_entries_hold around n none = tt
-    copied_entries_hold around n (own k m v rest) =
-        of_entry k n (copied_by cells in_cell first around v) (copied_entries cells in_cell first around (suc n) rest)
-        (copied_by_holds around v) (copied_entries_hold around (suc n) rest)
-    copied_entries_hold around n (shared k m c rest) = of_shared (cells.has_one_holder c)
-        (copied_entry k n (inside c around (λ more. in_cell more (cells.value_in c)))
-        (copied_entries cells in_cell first around (suc n) rest))
-        (of_entry k n (inside c around (λ more. in_cell more (cells.value_in c)))
-        (copied_entries cells in_cell first around (suc n) rest)
-        (of_inside (is_among c around) (in_cell (c ∷ around) (cells.value_in c)) (held (c ∷ around) (cells.value_in c)))
-        (copied_entries_hold around (suc n) rest))
-
-within_holds : (turns : ℕ) (cells : Cells) (first : ℕ) (around : List Cell) (v : Value)
-    → OfGiven HoldsNoCell (copied_within turns cells first around v)
-within_holds zero cells first around v = tt
-within_holds (suc more) cells first around v =
-    copied_by_holds cells (copied_within more cells first) first (within_holds more cells first) around v
-
-pub copy_holds_none : (cells : Cells) (first : ℕ) (v w : Value) → copied cells first v ≡ Gives w → HoldsNoCell w
-copy_holds_none cells first v w e =
-    of_given HoldsNoCell (copied cells first v) w (within_holds (suc cells.count) cells first [] v) e
-
 -- ---- the next key
 
 pub next_key_alike : (largest : Option ℤ) → is_negative largest ≡ false
@@ -275,3 +199,12 @@ pub next_key_alike : (largest : Option ℤ) → is_negative largest ≡ false
 next_key_alike None h = refl
 next_key_alike (Some (pos n)) h = refl
 next_key_alike (Some (negsuc n)) h = absurd (false≢true (sym h))
+
+-- ---- offsets
+
+pub ends_as_offset : (k : Value) (c : Cause) → to_key k ≡ Outside c → EndsAsOffset k c
+ends_as_offset k c e = record {
+  read = λ cells reading v. ap (λ (o : Outcome Key). and_then o (at_key cells reading v k)) e;
+  write = λ first v. ap (λ (o : Outcome Key). and_then o (λ key. array_to_write first v)) e;
+  unset = λ v. ap (λ (o : Outcome Key). and_then o (without_key v)) e;
+}

@@ -275,6 +275,11 @@ copied_list : copied (holding Null false) 6 (array one_two)
     ≡ Gives (Arr (Some (pos 1)) 8 (own (at 0) 6 (int 1) (own (at 1) 7 (int 2) none)))
 copied_list = refl
 
+-- the array inside keeps its largest int key too, and is numbered from the same number on
+copied_nested : copied (holding Null false) 6 (Arr (Some (pos 4)) 9 (own (at 2) 8 (array (used (Some (pos 5)))) none))
+    ≡ Gives (Arr (Some (pos 4)) 7 (own (at 2) 6 (Arr (Some (pos 5)) 6 none) none))
+copied_nested = refl
+
 copied_alone : copied (holding (int 5) true) 0 with_seven ≡ Gives (one_item (int 5))
 copied_alone = refl
 

@@ -16,4 +16,5 @@ pub mod DecimalLemmas
 pub mod KeyLemmas
 pub mod ArithmeticLemmas
 pub mod ArrayLemmas
+pub mod CopyLemmas
 pub mod CellLemmas

@@ -1,10 +1,14 @@
 -- The laws of arrays.
-use Rattle.std.specs.Prelude.{◌≡◌, Bool, true, false, ℤ, pos, negsuc, Option, Some, None, IsFalse, ⊤}
+use Rattle.std.specs.Prelude.{◌≡◌, ℕ, suc, Bool, true, false, ℤ, pos, negsuc, Option, Some, None, IsFalse, ⊤}
 use Rattle.php_meaning.specs.Value.{Key, Value, Null, Truth, Int, Text, Object, Arr, Entries, none, own, shared}
-use Rattle.php_meaning.specs.Identical.{is_same_key}
+use Rattle.php_meaning.specs.Cause.{Cause, Gives, Outside}
+use Rattle.php_meaning.specs.Cells.{Cells}
+use Rattle.php_meaning.specs.Identical.{is_same_key, is_identical}
 use Rattle.php_meaning.specs.Arrays.{Element, Array, element_at}
+use Rattle.php_meaning.specs.Offsets.{Reading, at_offset, array_to_write_at, without_offset}
 
--- one array is the other one with this element at a key, and the same elements at all other keys
+-- The second array has this element at a key, and at each other key what the first one has. Nothing is said of the
+-- order of the entries, of their serial numbers, or of the largest int key.
 pub record DiffersAt (k : Key) (e : Element) (a b : Array) : Type 0 where
   pub there : element_at k b.entries ≡ Some e
   pub elsewhere : (l : Key) → IsFalse (is_same_key l k) → element_at l b.entries ≡ element_at l a.entries
@@ -28,6 +32,44 @@ abbrev mutual
   HoldNoCell none = ⊤
   HoldNoCell (own k n v rest) = HoldsNoCell v × HoldNoCell rest
   HoldNoCell (shared k n c rest) = ⊥
+
+-- the largest int key that an array ever used; another value has none
+abbrev pub largest_key : Value → Option ℤ
+largest_key Null = None
+largest_key (Truth b) = None
+largest_key (Int i) = None
+largest_key (Text t) = None
+largest_key (Object n) = None
+largest_key (Arr largest next es) = largest
+
+-- What a second value has of the first one: `===` answers true, and the next item without a key gets the same key.
+pub record HasContents (cells : Cells) (v w : Value) : Type 0 where
+  pub identical : is_identical cells v w ≡ Gives true
+  pub largest : largest_key w ≡ largest_key v
+
+-- in each array in a value the entries have the serial numbers from `first` on, one after another, and the next one is
+-- the number behind them
+abbrev mutual
+  pub IsNumberedFrom : ℕ → Value → Type 0
+  IsNumberedFrom first Null = ⊤
+  IsNumberedFrom first (Truth b) = ⊤
+  IsNumberedFrom first (Int i) = ⊤
+  IsNumberedFrom first (Text t) = ⊤
+  IsNumberedFrom first (Object n) = ⊤
+  IsNumberedFrom first (Arr largest next es) = AreNumberedFrom first first next es
+
+  -- the same of the entries from the number n on
+  pub AreNumberedFrom : ℕ → ℕ → ℕ → Entries → Type 0
+  AreNumberedFrom first n next none = next ≡ n
+  AreNumberedFrom first n next (own k m v rest) =
+      (m ≡ n) × IsNumberedFrom first v × AreNumberedFrom first (suc n) next rest
+  AreNumberedFrom first n next (shared k m c rest) = (m ≡ n) × AreNumberedFrom first (suc n) next rest
+
+-- A value as offset ends the run by this cause, whatever value is read, written or unset at it.
+pub record EndsAsOffset (k : Value) (c : Cause) : Type 0 where
+  pub read : (cells : Cells) (reading : Reading) (v : Value) → at_offset cells reading v k ≡ Outside c
+  pub write : (first : ℕ) (v : Value) → array_to_write_at first v k ≡ Outside c
+  pub unset : (v : Value) → without_offset v k ≡ Outside c
 
 -- whether a largest int key is there and negative
 abbrev pub is_negative : Option ℤ → Bool

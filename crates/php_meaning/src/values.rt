@@ -6,7 +6,7 @@ ghost use Rattle.php_meaning.specs.Value.{Value, Key, IntKey};
 ghost use Rattle.php_meaning.specs.Cause.{Cause, Outcome, Gives, Outside, Came};
 ghost use Rattle.php_meaning.specs.Ints.{fits};
 ghost use Rattle.php_meaning.specs.Text.{Fraction, class};
-ghost use Rattle.php_meaning.specs.Keys.{text_key};
+ghost use Rattle.php_meaning.specs.Keys.{text_key, to_key};
 ghost use Rattle.php_meaning.specs.Differences.{in_version};
 ghost use Rattle.php_meaning.specs.Compare.{compare};
 ghost use Rattle.php_meaning.specs.Arithmetic.{of_numbers, left_of_arithmetic};
@@ -15,7 +15,7 @@ ghost use Rattle.php_meaning.specs.Arrays.{Array, Own, element_at, written, Chan
 ghost use Rattle.php_meaning.specs.Identical.{same_within, is_identical};
 ghost use Rattle.php_meaning.specs.Copies.{copied_within, copied};
 ghost use Rattle.php_meaning.specs.CellLaws.{IsMade, IsClosed};
-ghost use Rattle.php_meaning.specs.ArrayLaws.{DiffersAt, either, HoldsNoCell, is_negative};
+ghost use Rattle.php_meaning.specs.ArrayLaws.{DiffersAt, either, HoldsNoCell, HasContents, IsNumberedFrom, EndsAsOffset, is_negative};
 ghost use Rattle.php_meaning.specs.ValueLaws.{OneClass, IsAntisymmetric, IsPlain, IsIntText, TextOfInt, CastCompares, NullCastCompares, may_differ, is_word, IsCarried};
 
 /// Every text has exactly one of the five classes.
@@ -86,6 +86,21 @@ pub fn union_keeps_the_left()
 /// No part of a copy lies in a cell.
 pub fn copies_hold_no_cell()
     ensures { (cells : Cells) (first : ℕ) (v w : Value) → copied cells first v ≡ Gives w → HoldsNoCell w }
+{}
+
+/// A copy is identical to the original, and has the same largest int key.
+pub fn copies_have_the_contents()
+    ensures { (cells : Cells) (first : ℕ) (v w : Value) → copied cells first v ≡ Gives w → HasContents cells v w }
+{}
+
+/// In each array of a copy the entries have new serial numbers, from the given one on and one after another.
+pub fn copies_are_numbered_anew()
+    ensures { (cells : Cells) (first : ℕ) (v w : Value) → copied cells first v ≡ Gives w → IsNumberedFrom first w }
+{}
+
+/// A value that makes no key ends the run as an offset, whatever value is read, written or unset at it.
+pub fn offsets_make_a_key()
+    ensures { (k : Value) (c : Cause) → to_key k ≡ Outside c → EndsAsOffset k c }
 {}
 
 /// A left operand that ends the run before the right one is evaluated would end an operation on ints with the same
