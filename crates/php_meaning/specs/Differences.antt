@@ -1,5 +1,6 @@
--- Where the two versions differ: each point has a name, and its definition stands here. No other definition asks for
--- the version.
+-- Where the two versions differ: each point has a name. What it says of values is defined here, and values ask for the
+-- version through `chosen` alone. Scripts ask by the step `Ask`, which `is_newer` of `Run` answers. The grammar is no
+-- part of this: that of `echo_form` asks in two places of its own, `nests_left` and `depth_limit`.
 use Rattle.std.specs.Prelude.{ℤ, pos, ◌+ℤ◌}
 use Rattle.php_tree.specs.declared.version.Version.{Version}
 use Rattle.php_tree.specs.declared.version.Version.TheVariants.{V74, V83}
