@@ -39,74 +39,77 @@ fn reports(alloc: Global) -> Result<Vec<Judged>, AllocError>
     Ok(reports)
 }
 
-// Sends an `Add`.
+// What a reply says: the number of a job, and whether it is closed, or the refusal.
+#[derive(Clone, Copy, Debug, PartialEq, Eq)]
+enum Told {
+    Head(u32, bool),
+    KeyTaken,
+    Closed,
+    Full,
+    NoSuch,
+}
+
+fn what_is_told(reply: Reply) -> Told {
+    match reply {
+        Reply::Head(head) => Told::Head(head.job, head.closed),
+        Reply::KeyTaken => Told::KeyTaken,
+        Reply::Closed => Told::Closed,
+        Reply::Full => Told::Full,
+        Reply::NoSuch => Told::NoSuch,
+    }
+}
+
+fn made(alloc: Global) -> Result<Made, AllocError> {
+    let files = files(alloc)?;
+    let reports = reports(alloc)?;
+    Ok(Made {
+        status: 2,
+        edits: 3,
+        files,
+        reports,
+    })
+}
+
+// Ann or Bob sends an `Add`.
 fn add(
     alloc: Global,
     jobs: &mut Jobs,
     owner: &str,
     key: &str,
     request: &[u8],
-) -> Result<Reply, AllocError> {
-    let made = Made {
-        status: 2,
-        edits: 3,
-        files: files(alloc)?,
-        reports: reports(alloc)?,
-    };
+) -> Result<Told, AllocError> {
     let command = Command::Add {
         owner: text(alloc, owner)?,
         key: text(alloc, key)?,
         request: Bytes::new(Vec::from_slice(alloc, request)?),
-        made,
+        made: made(alloc)?,
     };
-    jobs.step(alloc, command)
+    Ok(what_is_told(jobs.step(alloc, command)?))
 }
 
-// Accepts a report.
-fn accept(
-    alloc: Global,
-    jobs: &mut Jobs,
-    owner: &str,
-    job: u32,
-    n: u32,
-) -> Result<Reply, AllocError> {
+// Ann accepts report `n` of her first job.
+fn accept(alloc: Global, jobs: &mut Jobs, n: u32) -> Result<Told, AllocError> {
     let command = Command::Judge {
-        owner: text(alloc, owner)?,
-        job,
+        owner: text(alloc, "ann")?,
+        job: 1,
         n,
         verdict: Verdict::Accept,
         note: text(alloc, "fine")?,
     };
-    jobs.step(alloc, command)
+    Ok(what_is_told(jobs.step(alloc, command)?))
 }
 
-// Closes a job.
-fn close(alloc: Global, jobs: &mut Jobs, owner: &str, job: u32) -> Result<Reply, AllocError> {
+// An owner closes a first job.
+fn close(alloc: Global, jobs: &mut Jobs, owner: &str) -> Result<Told, AllocError> {
     let owner = text(alloc, owner)?;
-    jobs.step(alloc, Command::Close { owner, job })
+    Ok(what_is_told(jobs.step(alloc, Command::Close { owner, job: 1 })?))
 }
 
-// The verdict on the first report of a job.
-fn verdict_of(jobs: &Jobs, owner: &str, job: u32) -> Option<Verdict> {
-    let job = jobs.job(owner, job)?;
+// The verdict on the first report of Ann's first job.
+fn verdict_of(jobs: &Jobs) -> Option<Verdict> {
+    let job = jobs.job("ann", 1)?;
     let report = job.reports.first()?;
     Some(report.verdict)
-}
-
-// The number in a head, or 0 for another reply.
-fn number(reply: &Reply) -> u32 {
-    match reply {
-        Reply::Head(head) => head.job,
-        Reply::KeyTaken | Reply::Closed | Reply::Full | Reply::NoSuch => 0,
-    }
-}
-
-// Whether it is the head of a closed job.
-fn is_closed_head(reply: &Reply) -> bool {
-    match reply {
-        Reply::Head(head) => head.closed,
-        Reply::KeyTaken | Reply::Closed | Reply::Full | Reply::NoSuch => false,
-    }
 }
 
 #[test]
@@ -114,15 +117,24 @@ fn a_repeated_key_acts_once(rt: HostRuntime) -> Result<(), Fail> {
     let alloc = rt.alloc();
     let mut jobs = Jobs::new(alloc)?;
     let first = add(alloc, &mut jobs, "ann", "k1", b"one")?;
-    assert_eq!(rt; number(&first), 1);
+    assert_eq!(rt; first, Told::Head(1, false));
     let again = add(alloc, &mut jobs, "ann", "k1", b"one")?;
-    assert_eq!(rt; number(&again), 1);
-    let taken = add(alloc, &mut jobs, "ann", "k1", b"two")?;
-    assert!(rt; matches!(taken, Reply::KeyTaken));
+    assert_eq!(rt; again, Told::Head(1, false));
+    let other = add(alloc, &mut jobs, "ann", "k1", b"two")?;
+    assert_eq!(rt; other, Told::KeyTaken);
     assert!(rt; jobs.job("ann", 2).is_none());
     assert!(rt; jobs.job("bob", 1).is_none());
     let bobs = add(alloc, &mut jobs, "bob", "k1", b"two")?;
-    assert_eq!(rt; number(&bobs), 1);
+    assert_eq!(rt; bobs, Told::Head(1, false));
+    Ok(())
+}
+
+// Ann sends 10,000 jobs.
+fn fill(alloc: Global, jobs: &mut Jobs) -> Result<(), AllocError> {
+    for i in 0..10_000u32 {
+        let key = format!(in alloc; "k{i}")?;
+        add(alloc, jobs, "ann", key.as_str(), b"one")?;
+    }
     Ok(())
 }
 
@@ -130,14 +142,11 @@ fn a_repeated_key_acts_once(rt: HostRuntime) -> Result<(), Fail> {
 fn an_owner_has_ten_thousand_jobs(rt: HostRuntime) -> Result<(), Fail> {
     let alloc = rt.alloc();
     let mut jobs = Jobs::new(alloc)?;
-    for i in 0..10_000u32 {
-        let key = format!(in alloc; "k{i}")?;
-        let _reply = add(alloc, &mut jobs, "ann", key.as_str(), b"one")?;
-    }
-    let full = add(alloc, &mut jobs, "ann", "new", b"one")?;
-    assert!(rt; matches!(full, Reply::Full));
+    fill(alloc, &mut jobs)?;
+    let more = add(alloc, &mut jobs, "ann", "new", b"one")?;
+    assert_eq!(rt; more, Told::Full);
     let old = add(alloc, &mut jobs, "ann", "k9999", b"one")?;
-    assert_eq!(rt; number(&old), 10_000);
+    assert_eq!(rt; old, Told::Head(10_000, false));
     Ok(())
 }
 
@@ -145,18 +154,14 @@ fn an_owner_has_ten_thousand_jobs(rt: HostRuntime) -> Result<(), Fail> {
 fn a_verdict_wants_an_open_job(rt: HostRuntime) -> Result<(), Fail> {
     let alloc = rt.alloc();
     let mut jobs = Jobs::new(alloc)?;
-    let _added = add(alloc, &mut jobs, "ann", "k1", b"one")?;
-    let judged = accept(alloc, &mut jobs, "ann", 1, 1)?;
-    assert_eq!(rt; number(&judged), 1);
-    assert_eq!(rt; verdict_of(&jobs, "ann", 1), Some(Verdict::Accept));
-    let absent = accept(alloc, &mut jobs, "ann", 1, 2)?;
-    assert!(rt; matches!(absent, Reply::NoSuch));
-    let closed = close(alloc, &mut jobs, "ann", 1)?;
-    assert!(rt; is_closed_head(&closed));
-    let again = close(alloc, &mut jobs, "ann", 1)?;
-    assert!(rt; is_closed_head(&again));
-    let late = accept(alloc, &mut jobs, "ann", 1, 1)?;
-    assert!(rt; matches!(late, Reply::Closed));
+    add(alloc, &mut jobs, "ann", "k1", b"one")?;
+    assert_eq!(rt; accept(alloc, &mut jobs, 1)?, Told::Head(1, false));
+    assert_eq!(rt; accept(alloc, &mut jobs, 2)?, Told::NoSuch);
+    assert_eq!(rt; verdict_of(&jobs), Some(Verdict::Accept));
+    assert_eq!(rt; close(alloc, &mut jobs, "bob")?, Told::NoSuch);
+    assert_eq!(rt; close(alloc, &mut jobs, "ann")?, Told::Head(1, true));
+    assert_eq!(rt; close(alloc, &mut jobs, "ann")?, Told::Head(1, true));
+    assert_eq!(rt; accept(alloc, &mut jobs, 1)?, Told::Closed);
     Ok(())
 }
 
@@ -181,35 +186,63 @@ fn first_job(alloc: Global) -> Result<Job, AllocError>
     })
 }
 
+fn add_first<K: Keeper>(alloc: Global, keeper: &mut K) -> Result<(), KeepFault>
+    requires { IfSome (K.jobs keeper.old) (λ jobs. jobs ≡ []) }
+{
+    let job = first_job(alloc)?;
+    keeper.add(alloc, &job)
+}
+
+fn edits_of<K: Keeper>(alloc: Global, keeper: &mut K) -> Result<u64, KeepFault> {
+    let head = keeper.by_key(alloc, "ann", "k1")?;
+    Ok(head.map_or(0, |head| head.edits))
+}
+
+fn is_closed<K: Keeper>(alloc: Global, keeper: &mut K) -> Result<bool, KeepFault> {
+    let head = keeper.head(alloc, "ann", 1)?;
+    Ok(head.map_or(false, |head| head.closed))
+}
+
+fn has_file<K: Keeper>(alloc: Global, keeper: &mut K) -> Result<bool, KeepFault> {
+    let file = keeper.file(alloc, "ann", 1, 1)?;
+    Ok(file.is_some())
+}
+
+fn report_count<K: Keeper>(alloc: Global, keeper: &mut K) -> Result<usize, KeepFault> {
+    let reports = keeper.reports(alloc, "ann", 1)?;
+    Ok(reports.map_or(0, |reports| reports.len()))
+}
+
 // Each of the eight calls once, with an answer.
 fn calls<K: Keeper>(rt: &impl Abort, alloc: Global, keeper: &mut K) -> Result<(), KeepFault>
     requires { IfSome (K.jobs keeper.old) (λ jobs. jobs ≡ []) }
 {
-    let job = first_job(alloc)?;
-    keeper.add(alloc, &job)?;
+    add_first(alloc, keeper)?;
     assert_eq!(rt; keeper.count("ann")?, 1);
-    let head = keeper.by_key(alloc, "ann", "k1")?.expect(rt, "a head");
-    assert_eq!(rt; head.edits, 3);
+    assert_eq!(rt; edits_of(alloc, keeper)?, 3);
     assert!(rt; keeper.judge(alloc, "ann", 1, 1, Verdict::Reject, "no")?);
     assert!(rt; keeper.close("ann", 1)?);
-    let head = keeper.head(alloc, "ann", 1)?.expect(rt, "a head");
-    assert!(rt; head.closed);
-    let file = keeper.file(alloc, "ann", 1, 1)?.expect(rt, "a file");
-    assert_eq!(rt; file.path.as_str(), "a.php");
-    let reports = keeper.reports(alloc, "ann", 1)?.expect(rt, "reports");
-    assert_eq!(rt; reports.len(), 1);
+    assert!(rt; is_closed(alloc, keeper)?);
+    assert!(rt; has_file(alloc, keeper)?);
+    assert_eq!(rt; report_count(alloc, keeper)?, 1);
     Ok(())
 }
 
 #[test]
-fn keepers_answer_each_call(rt: HostRuntime) -> Result<(), Fail> {
+fn a_calm_keeper_answers(rt: HostRuntime) -> Result<(), Fail> {
     let alloc = rt.alloc();
-    let mut calm = CalmKeeper::new(Jobs::new(alloc)?);
-    calls(&rt, alloc, &mut calm)?;
-    assert_eq!(rt; verdict_of(calm.jobs(), "ann", 1), Some(Verdict::Reject));
+    let mut keeper = CalmKeeper::new(Jobs::new(alloc)?);
+    calls(&rt, alloc, &mut keeper)?;
+    assert_eq!(rt; verdict_of(keeper.jobs()), Some(Verdict::Reject));
+    Ok(())
+}
+
+#[test]
+fn a_keeper_in_memory_answers(rt: HostRuntime) -> Result<(), Fail> {
+    let alloc = rt.alloc();
     let mut keeper = MemoryKeeper::new(Jobs::new(alloc)?, Vec::new(alloc));
     calls(&rt, alloc, &mut keeper)?;
-    assert_eq!(rt; verdict_of(keeper.jobs(), "ann", 1), Some(Verdict::Reject));
+    assert_eq!(rt; verdict_of(keeper.jobs()), Some(Verdict::Reject));
     Ok(())
 }
 
