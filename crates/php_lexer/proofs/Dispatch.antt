@@ -1,19 +1,17 @@
 -- Which rows of code may begin with a byte.
-use Rattle.std.proofs.Common.{◌≡◌, ℕ, zero, suc, ◌+◌, ◌<◌, ◌≤◌, Bool, true, false, not, cond, ◌&&◌, ◌||◌, nat_eq, nat_le, List, [], ◌∷◌, ◌++◌, length, take, drop, Option, Some, None, codes, refl, sym, ap, ◌∙◌, subst, arith}
+use Rattle.std.proofs.Common.{◌≡◌, ℕ, ◌+◌, Bool, true, false, not, cond, ◌&&◌, ◌||◌, nat_eq, nat_le, List, [], ◌∷◌, None, refl, sym, ap, ◌∙◌, arith}
 use Rattle.std.proofs.lemmas.Bool.{eqb-true}
 use Rattle.std.proofs.lemmas.Bool.Decides.{nat_tests}
 use Rattle.php_tree.specs.declared.version.Version.{Version}
 use Rattle.php_tree.specs.declared.version.Version.TheVariants.{V74, V83}
 use Rattle.php_lexer.specs.declared.table.Kind.{Kind}
-use Rattle.php_lexer.specs.declared.table.Kind.TheVariants.{Space, Keyword, Word, Name, Text, Quote, HeredocStart}
+use Rattle.php_lexer.specs.declared.table.Kind.TheVariants.{Space, Word, Name}
 use Rattle.php_lexer.specs.declared.table.State.TheVariants.{First}
 use Rattle.php_lexer.specs.declared.table.Run.TheVariants.{Spaces}
-use Rattle.php_lexer.specs.declared.table.Until.TheVariants.{Simple, Closed, From}
 use Rattle.php_lexer.specs.declared.table.Shape.TheVariants as shape
 use Rattle.php_lexer.specs.declared.table.Spot.TheVariants.{Begin}
-use Rattle.php_lexer.specs.declared.table.Follow.TheVariants.{Anything}
 use Rattle.php_lexer.specs.declared.table.Tail.{Tail}
-use Rattle.php_lexer.specs.declared.table.Tail.TheVariants.{When, SomeOf, UpTo, Shaped, AnyWord, NowdocRest}
+use Rattle.php_lexer.specs.declared.table.Tail.TheVariants.{SomeOf, Shaped, AnyWord}
 use Rattle.php_lexer.specs.Bytes.{is_space, is_digit, is_letter, lower}
 use Rattle.php_lexer.specs.Rules.{Row, rule}
 use Rattle.php_lexer.specs.RulesCode.{number_rows, common_rows, code_rows}

@@ -1,8 +1,8 @@
 -- Documented rows of the token tables, computed.
-use Rattle.std.proofs.Common.{◌≡◌, ℕ, List, [], ◌∷◌, ◌++◌, Option, Some, None, true, false, refl, codes}
+use Rattle.std.proofs.Common.{◌≡◌, Some, None, refl, codes}
 use Rattle.php_tree.specs.declared.version.Version.TheVariants.{V74, V83}
-use Rattle.php_lexer.specs.declared.table.Kind.TheVariants.{Space, Comment, Tag, OpenEcho, InlineHtml, Variable, Word, Label, Keyword, Name, Decimal, Octal, Hexadecimal, Binary, Digits, Float, Text, Quote, Backtick, HeredocStart, Cast, Op, AttributeOpen, Semi, Close, Piece, CurlyOpen, DollarBrace, VarName, QuotedEnd}
-use Rattle.php_lexer.specs.Modes.{html, code, named, quoted, offset, property}
+use Rattle.php_lexer.specs.declared.table.Kind.TheVariants.{Comment, Tag, InlineHtml, Word, Keyword, Name, Octal, Float, Text, Cast, Op}
+use Rattle.php_lexer.specs.Modes.{html, code}
 use Rattle.php_lexer.specs.Scan.{scan}
 
 comment_before_close : scan V74 code (codes "// a ?> b") ≡ Some (Comment, 5)

@@ -1,6 +1,6 @@
 -- How the tokens of a file are put together from its front on.
-use Rattle.std.proofs.Common.{◌≡◌, ℕ, zero, suc, ◌+◌, ◌-◌, ◌<◌, ◌≤◌, Bool, true, false, cond, ◌||◌, codes, List, [], ◌∷◌, ◌++◌, length, take, drop, map, reverse, slice_range, Option, Some, None, Result, Ok, Err, refl, sym, ap, ◌∙◌, subst, append_assoc, arith, length-drop, IfSome}
-use Rattle.std.proofs.lemmas.List.{reverse-append, map-append, take-append-drop, length-take-le}
+use Rattle.std.proofs.Common.{◌≡◌, ℕ, zero, suc, ◌+◌, ◌-◌, ◌<◌, ◌≤◌, Bool, true, false, cond, ◌||◌, codes, List, [], ◌∷◌, ◌++◌, length, take, drop, map, reverse, slice_range, Option, Some, None, Err, refl, sym, ap, ◌∙◌, subst, append_assoc, arith, length-drop}
+use Rattle.std.proofs.lemmas.List.{reverse-append, map-append, length-take-le}
 use Rattle.php_tree.specs.declared.version.Version.{Version}
 use Rattle.php_tree.specs.declared.token.Token.{Token}
 use Rattle.php_tree.specs.declared.token.TokenKind.{TokenKind}
@@ -17,7 +17,7 @@ use Rattle.php_lexer.specs.declared.modes.Turn.{Turn as CodeTurn}
 use Rattle.php_lexer.specs.Bytes.{starts_word}
 use Rattle.php_lexer.specs.Words.{token_of}
 use Rattle.php_lexer.specs.Modes.{Mode, html, code, named, quoted, offset, property, Turn, stay, enter, leave, turn_of, IsLongest, HasNone}
-use Rattle.php_lexer.specs.Lexed.{Lexeme, Stack, Lexed, ends, trivia, token, Stops, here, unended, later, turned_by, turn_at, after, Effect, opens, closes, keeps, effect, deeper, faults_by, opened_by, less, less_one, left_top, left_below, fault_at, code_fault, open_fault, start, lexeme, TokensOf}
+use Rattle.php_lexer.specs.Lexed.{Lexeme, Stack, Lexed, ends, trivia, token, Stops, here, unended, later, turned_by, turn_at, after, Effect, opens, closes, keeps, effect, deeper, faults_by, opened_by, less, less_one, fault_at, code_fault, open_fault, start, lexeme, TokensOf}
 use Rattle.php_lexer.specs.Views.{mode_of, turn_seen, below_of, stack_of, top_after, below_after, IsAfter, IsNoted, first_fault, token_cut, lexemes, Front, Meets}
 use Rattle.php_lexer.proofs.Labels.{drop_drop}
 use Rattle.php_lexer.proofs.Steps.{drop_end}

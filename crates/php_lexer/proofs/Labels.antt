@@ -1,10 +1,10 @@
 -- The label of a heredoc.
-use Rattle.std.proofs.Common.{◌≡◌, ℕ, zero, suc, ◌+◌, ◌-◌, ◌<◌, ◌≤◌, Bool, true, false, cond, nat_le, ◌&&◌, List, [], ◌∷◌, length, take, drop, slice_range, refl, sym, ap, ◌∙◌, subst, arith, length-drop}
+use Rattle.std.proofs.Common.{◌≡◌, ℕ, zero, suc, ◌+◌, ◌-◌, ◌≤◌, true, nat_le, List, [], ◌∷◌, length, take, drop, refl, sym, ap, ◌∙◌, arith}
 use Rattle.std.proofs.lemmas.Bool.{le-leb}
-use Rattle.std.proofs.lemmas.List.{drop-take, length-take-le}
+use Rattle.std.proofs.lemmas.List.{drop-take}
 use Rattle.php_lexer.specs.declared.table.Mark.TheVariants.{Here}
 use Rattle.php_lexer.specs.Bytes.{label_len}
-use Rattle.php_lexer.specs.Modes.{Turn, code, quoted, enter, label_place, label_of}
+use Rattle.php_lexer.specs.Modes.{code, quoted, enter, label_place, label_of}
 use Rattle.php_lexer.specs.Views.{cut}
 
 pub drop_drop : (m n : ℕ) (bs : List ℕ) → drop n (drop m bs) ≡ drop (m + n) bs

@@ -1,14 +1,16 @@
 -- The laws of tokens.
-use Rattle.std.proofs.Common.{◌≡◌, ℕ, ◌+◌, List, [], ◌∷◌, ◌++◌, length, take, drop, map, Some, None, refl, sym, ap, ◌∙◌, subst, append_assoc, arith}
+use Rattle.std.proofs.Common.{◌≡◌, ℕ, ◌+◌, List, [], ◌∷◌, ◌++◌, length, take, drop, map, refl, sym, ap, ◌∙◌, subst, append_assoc}
 use Rattle.std.proofs.lemmas.List.{take-append-drop, append-nil}
+use Rattle.std.proofs.lemmas.Str.{IsUtf8-append, IsUtf8-nil}
+use Rattle.std.specs.Str.{IsUtf8}
 use Rattle.php_tree.specs.declared.version.Version.{Version}
 use Rattle.php_tree.specs.declared.token.Token.{Token}
 use Rattle.php_tree.specs.declared.token.TokenKind.{TokenKind}
 use Rattle.php_tree.specs.Places.{ArePlaced, behind}
 use Rattle.php_tree.specs.Tree.{tokens_bytes}
-use Rattle.php_lexer.specs.declared.fault.LexFault.{LexFault}
-use Rattle.php_lexer.specs.Lexed.{Lexeme, Stack, Lexed, ends, trivia, token, start, lexeme, TokensOf, StopsAt}
-use Rattle.php_lexer.specs.Laws.{OneTokenList, OneFault, NotBoth, NoByteLost}
+use Rattle.php_lexer.specs.Lexed.{Lexeme, Stack, Lexed, ends, trivia, token, start, lexeme}
+use Rattle.php_lexer.specs.Laws.{OneTokenList, OneFault, NotBoth, NoByteLost, AllUtf8, Utf8Kept}
+use Rattle.php_lexer.proofs.TailSeams.{token_utf8}
 use Rattle.php_lexer.proofs.Single.{one_lexing, one_fault, no_stop}
 
 -- ---- one list
@@ -66,3 +68,25 @@ bytes_of (t ∷ ts) = ap (λ (u : List ℕ). (t.lead ++ t.text) ++ u) (bytes_of 
 
 pub no_byte_lost : NoByteLost
 no_byte_lost version bytes ts p = sym (joined p.lexed ∙ bytes_of ts)
+
+-- ---- UTF-8
+
+abbrev LexemesUtf8 : List Lexeme → Type 0
+LexemesUtf8 [] = Unit {0}
+LexemesUtf8 (x ∷ xs) = (IsUtf8 x.lead × IsUtf8 x.text) × LexemesUtf8 xs
+
+lexed_utf8 : {v : Version} {stack : Stack} {lead bytes : List ℕ} {ts : List Lexeme} → Lexed v stack lead bytes ts → IsUtf8 lead → IsUtf8 bytes → LexemesUtf8 ts
+lexed_utf8 (ends e d) p q = ((p, IsUtf8-nil), tt)
+lexed_utf8 (trivia {version = v} {stack} {lead} {bytes} kind n h b l) p q =
+    let parts = token_utf8 v stack.top bytes kind n q h in
+    lexed_utf8 l (IsUtf8-append lead (take n bytes) p parts.0) parts.1
+lexed_utf8 (token {version = v} {stack} {lead} {bytes} kind n t h b l) p q =
+    let parts = token_utf8 v stack.top bytes kind n q h in
+    ((p, parts.0), lexed_utf8 l IsUtf8-nil parts.1)
+
+tokens_utf8 : (ts : List Token) → LexemesUtf8 (map lexeme ts) → AllUtf8 ts
+tokens_utf8 [] h = tt
+tokens_utf8 (t ∷ ts) h = (h.0, tokens_utf8 ts h.1)
+
+pub utf8_kept : Utf8Kept
+utf8_kept version bytes ts u p = tokens_utf8 ts (lexed_utf8 p.lexed IsUtf8-nil u)

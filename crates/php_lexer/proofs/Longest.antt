@@ -1,19 +1,16 @@
 -- What is scanned is the longest token.
-use Rattle.std.proofs.Common.{◌≡◌, ℕ, zero, suc, ◌<◌, ◌≤◌, Bool, true, false, cond, ◌&&◌, List, [], ◌∷◌, ◌++◌, length, take, drop, Option, Some, None, refl, sym, ap, ◌∙◌, subst, arith}
+use Rattle.std.proofs.Common.{◌≡◌, ℕ, zero, suc, ◌<◌, ◌≤◌, Bool, true, false, cond, ◌&&◌, List, [], ◌∷◌, length, drop, Option, Some, None, refl, sym, ◌∙◌, subst, arith}
 use Rattle.std.specs.Prelude.{IfSome, IfNone}
 use Rattle.php_tree.specs.declared.version.Version.{Version}
 use Rattle.php_tree.specs.declared.version.Version.TheVariants.{V74, V83}
 use Rattle.php_lexer.specs.declared.table.Kind.{Kind}
 use Rattle.php_lexer.specs.declared.table.Mark.TheVariants.{Double, Back, Here}
-use Rattle.php_lexer.specs.declared.table.Shape.{Shape}
-use Rattle.php_lexer.specs.declared.table.Spot.{Spot}
 use Rattle.php_lexer.specs.declared.table.Tail.{Tail}
 use Rattle.php_lexer.specs.declared.table.Tail.TheVariants.{When, AnyRun, SomeOf, UpTo, Shaped, AnyWord, BracedName, EndLine, NowdocRest}
 use Rattle.php_lexer.specs.Bytes.{lower}
 use Rattle.php_lexer.specs.Heredocs.{led, is_body, begins_nowdoc, nowdoc_label, nowdoc_head}
 use Rattle.php_lexer.specs.Shapes.{may_end}
 use Rattle.php_lexer.specs.Rules.{Row, rule, is_tail, kind_by}
-use Rattle.php_lexer.specs.RulesCode.{code_rows}
 use Rattle.php_lexer.specs.Modes.{Mode, html, code, named, quoted, offset, property, kind_of, rows_of, label_in, IsLongest, HasNone}
 use Rattle.php_lexer.specs.Scan.{scan}
 use Rattle.php_lexer.proofs.Counts.{Sorts, and_false}

@@ -1,5 +1,5 @@
 -- What is counted of a shape is the longest.
-use Rattle.std.proofs.Common.{◌≡◌, ℕ, zero, suc, ◌+◌, ◌<◌, ◌≤◌, Bool, true, false, not, cond, ◌&&◌, List, [], ◌∷◌, length, take, drop, Option, Some, None, refl, arith}
+use Rattle.std.proofs.Common.{◌≡◌, ℕ, zero, suc, ◌+◌, ◌<◌, ◌≤◌, Bool, true, false, cond, List, [], ◌∷◌, length, take, Option, Some, None, refl, arith}
 use Rattle.php_lexer.specs.declared.table.Shape.{Shape}
 use Rattle.php_lexer.specs.declared.table.Spot.{Spot}
 use Rattle.php_lexer.specs.Shapes.{step, may_end, is_stuck, has_shape}

@@ -1,6 +1,5 @@
 -- What the rows count is the longest.
-use Rattle.std.proofs.Common.{◌≡◌, ℕ, ◌≤◌, List, [], ◌∷◌, length, Option, Some, None, refl}
-use Rattle.php_lexer.specs.declared.table.Kind.{Kind}
+use Rattle.std.proofs.Common.{ℕ, List, [], ◌∷◌, refl}
 use Rattle.php_lexer.specs.declared.table.State.TheVariants.{First}
 use Rattle.php_lexer.specs.declared.table.Tail.{Tail}
 use Rattle.php_lexer.specs.declared.table.Tail.TheVariants.{When, AnyRun, SomeOf, UpTo, Shaped, AnyWord, BracedName, EndLine, NowdocRest}

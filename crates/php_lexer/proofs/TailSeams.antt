@@ -1,5 +1,5 @@
 -- No token ends within a character.
-use Rattle.std.proofs.Common.{◌≡◌, ℕ, zero, suc, ◌+◌, ◌-◌, ◌<◌, ◌≤◌, Bool, true, false, not, cond, ◌&&◌, ◌||◌, nat_eq, nat_lt, List, [], ◌∷◌, length, take, drop, get_or, ◌⊎◌, inl, inr, Option, Some, None, refl, sym, ap, ◌∙◌, subst, arith}
+use Rattle.std.proofs.Common.{◌≡◌, ℕ, zero, suc, ◌+◌, ◌<◌, ◌≤◌, Bool, true, false, not, cond, ◌&&◌, ◌||◌, nat_eq, nat_lt, List, [], ◌∷◌, length, take, drop, get_or, ◌⊎◌, inl, inr, Option, Some, None, refl, sym, ap, ◌∙◌, subst, arith, eq-eqb}
 use Rattle.std.proofs.lemmas.Bool.{ltb-true, eqb-true, cases_lt}
 use Rattle.std.proofs.lemmas.Str.{IsUtf8-take, IsUtf8-drop, IsCharBoundary-before_ascii, IsCharBoundary-after_ascii, IsCharBoundary-end}
 use Rattle.std.specs.Str.{IsUtf8, IsCharBoundary}
@@ -17,7 +17,7 @@ use Rattle.php_lexer.specs.Bytes.{is_blank_byte, is_line_end, is_label_byte, low
 use Rattle.php_lexer.specs.Heredocs.{no_label, ends_heredoc, begins_nowdoc, nowdoc_label, nowdoc_head}
 use Rattle.php_lexer.specs.Rules.{Row, rule, follows, is_b, begins_text}
 use Rattle.php_lexer.specs.Modes.{Mode, html, code, named, quoted, offset, property, rows_of, label_in, IsLongest}
-use Rattle.php_lexer.specs.Scan.{add_to, here_len, some_len, run_len, some_run_len, word_len, word_from, name_len, name_from, last_label_len, end_line_len, body_len, nowdoc_len, tail_len, behind, longer, scan_by, scan}
+use Rattle.php_lexer.specs.Scan.{add_to, here_len, some_len, run_len, some_run_len, word_len, name_len, last_label_len, end_line_len, body_len, nowdoc_len, tail_len, behind, longer, scan_by, scan}
 use Rattle.php_lexer.proofs.Seams.{small, small_front, cuts, cuts_next, cuts_here, or_true, some_same, big_label, big_lower, run_cuts, until_cuts, fits_small}
 use Rattle.php_lexer.proofs.ShapeSeams.{here_zero, shape_cuts, small_fits}
 use Rattle.php_lexer.proofs.Longest.{scanned_longest, scanned_none, longest_some}
@@ -152,12 +152,8 @@ lower_small a b h e true p = refl
 lower_small a b h e false p =
     let same : a ≡ lower b = eqb-true a (lower b) e in
     let other = big_lower b a p h in
-    let c : nat_eq (lower b) a ≡ true = subst (λ (x : ℕ). nat_eq x a ≡ true) same (self a) in
+    let c : nat_eq (lower b) a ≡ true = eq-eqb (lower b) a (sym same) in
     let clash : true ≡ false = sym c ∙ other in absurd cc
-  where
-    self : (n : ℕ) → nat_eq n n ≡ true
-    self zero = refl
-    self (suc n) = self n
 
 word_ahead : (w : List ℕ) (before : ℕ) (bs : List ℕ) (k n : ℕ) → n ≡ length w + k → all_small w ≡ true → starts_by lower w bs ≡ true → small before ≡ true → ((p : ℕ) → small p ≡ true → cuts p (drop (length w) bs) k ≡ true) → cuts before bs n ≡ true
 word_ahead [] before bs k n e all s h f = let size : n ≡ k = omega arith in rw size (f before h)
@@ -213,7 +209,7 @@ longest_by v m bs kind n (Some x) e h =
 
 cuts_at : (before : ℕ) (bs : List ℕ) (m : ℕ) → m < length bs → cuts before bs (suc m) ≡ true → (get_or bs m 0 < 128) ⊎ ((suc m < length bs → get_or bs (suc m) 0 < 128))
 cuts_at before [] m lt e = absurd (omega arith)
-cuts_at before (b ∷ bs) (suc m) lt e = cuts_at b bs m (omega arith) e
+cuts_at before (b ∷ bs) (suc m) lt e = elim (cuts_at b bs m (omega arith) e) [ inl here ↦ inl here | inr next ↦ inr (λ more. next (omega arith)) ]
 cuts_at before (b ∷ bs) zero lt e = by_front bs (small b) refl e
   where
     by_front : (bs : List ℕ) (t : Bool) → small b ≡ t → (t || small_front bs) ≡ true → (b < 128) ⊎ (1 < length (b ∷ bs) → get_or (b ∷ bs) 1 0 < 128)

@@ -1,17 +1,13 @@
 -- What is counted is within the bytes.
-use Rattle.std.proofs.Common.{◌≡◌, ℕ, zero, suc, ◌+◌, ◌≤◌, ◌<◌, nat_eq, ◌∙◌, ap, Bool, true, false, cond, ◌&&◌, List, [], ◌∷◌, length, take, drop, Option, Some, None, refl, sym, subst, arith, length-drop}
+use Rattle.std.proofs.Common.{◌≡◌, ℕ, zero, suc, ◌+◌, ◌≤◌, ◌<◌, nat_eq, ◌∙◌, Bool, true, false, ◌&&◌, List, [], ◌∷◌, length, drop, Option, Some, None, refl, sym, subst, arith, length-drop}
 use Rattle.std.specs.Prelude.{IfSome}
-use Rattle.php_lexer.specs.declared.table.Shape.{Shape}
-use Rattle.php_lexer.specs.declared.table.Spot.{Spot}
 use Rattle.php_lexer.specs.declared.table.Tail.{Tail}
 use Rattle.std.proofs.lemmas.List.Folds.{length-prefix_len}
 use Rattle.php_lexer.specs.Bytes.{is_letter, is_label_byte, is_line_end, begins, begins_by, blanks_len, skip_blanks, label_len}
-use Rattle.php_lexer.specs.Heredocs.{is_body, begins_nowdoc, behind_quote, nowdoc_label, nowdoc_head, is_nowdoc}
-use Rattle.php_lexer.specs.Shapes.{has_shape}
+use Rattle.php_lexer.specs.Heredocs.{is_body, begins_nowdoc, behind_quote, nowdoc_label, nowdoc_head}
 use Rattle.php_lexer.specs.Rules.{is_tail}
-use Rattle.php_lexer.specs.Scan.{shape_len, body_len, nowdoc_len, tail_len}
+use Rattle.php_lexer.specs.Scan.{body_len, tail_len}
 use Rattle.php_lexer.proofs.Counts.{Describes}
-use Rattle.php_lexer.proofs.ShapeCounts.{describes_shape}
 use Rattle.php_lexer.proofs.HeredocCounts.{describes_body}
 use Rattle.php_lexer.proofs.TailCounts.{describes_tail}
 

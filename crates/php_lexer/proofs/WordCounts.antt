@@ -8,7 +8,7 @@ use Rattle.php_lexer.specs.declared.table.Run.TheVariants.{Labels}
 use Rattle.php_lexer.specs.Bytes.{is_empty, begins, lower}
 use Rattle.php_lexer.specs.Tails.{goes, moved, some_run}
 use Rattle.php_lexer.specs.Rules.{is_b, begins_text, is_any_word, is_braced_name}
-use Rattle.php_lexer.specs.Scan.{run_len, some_len, some_run_len, word_from, word_len, name_from, name_len}
+use Rattle.php_lexer.specs.Scan.{run_len, some_len, some_run_len, word_len, name_len}
 use Rattle.php_lexer.proofs.Counts.{Describes, and_false, run_within, run_more, describes_some_run, some_eq}
 
 filtered : (is p : List ℕ → List ℕ → Bool) (bs : List ℕ) (o : Option ℕ) → Describes is bs o → ((k : ℕ) → o ≡ Some k → p (take k bs) (drop k bs) ≡ true) → Describes (λ t rest. is t rest && p t rest) bs o

@@ -1,5 +1,5 @@
 -- Classes of bytes, and how bytes begin.
-use Rattle.std.specs.Prelude.{ℕ, ◌+◌, Bool, true, false, cond, not, ◌&&◌, ◌||◌, nat_le, nat_eq, List, [], ◌∷◌, length, drop}
+use Rattle.std.specs.Prelude.{ℕ, ◌+◌, Bool, true, false, cond, ◌&&◌, ◌||◌, nat_le, nat_eq, List, [], ◌∷◌, drop}
 use Rattle.std.specs.List.{prefix_len}
 
 -- a space or a tab

@@ -1,5 +1,5 @@
 -- A row of the token tables: a kind, the word that its texts begin with, and what may stand behind the word.
-use Rattle.std.specs.Prelude.{ℕ, Bool, true, false, not, ◌&&◌, ◌||◌, cond, nat_eq, List, [], ◌∷◌, ◌++◌, length, take, drop, Option, Some, None, codes}
+use Rattle.std.specs.Prelude.{ℕ, Bool, true, false, not, ◌&&◌, ◌||◌, cond, nat_eq, List, [], ◌∷◌, drop, Option, Some, None, codes}
 use Rattle.php_lexer.specs.declared.table.Kind.{Kind}
 use Rattle.php_lexer.specs.declared.table.State.TheVariants.{First}
 use Rattle.php_lexer.specs.declared.table.Run.TheVariants.{Labels}

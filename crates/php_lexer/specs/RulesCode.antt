@@ -1,5 +1,5 @@
 -- The rows of code and of inline HTML.
-use Rattle.std.specs.Prelude.{ℕ, List, [], ◌∷◌, ◌++◌, map, codes}
+use Rattle.std.specs.Prelude.{List, [], ◌∷◌, ◌++◌, map, codes}
 use Rattle.php_tree.specs.declared.version.Version.{Version}
 use Rattle.php_tree.specs.declared.version.Version.TheVariants.{V74, V83}
 use Rattle.php_lexer.specs.declared.table.Kind.TheVariants.{Space, Comment, Tag, OpenEcho, InlineHtml, Variable, Word, Keyword, Name, Decimal, Octal, Hexadecimal, Binary, Float, Text, Quote, Backtick, HeredocStart, Cast, Op, AttributeOpen, Semi, Close}

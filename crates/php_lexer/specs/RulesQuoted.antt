@@ -1,5 +1,5 @@
 -- The rows of quoted texts: double quotes, backticks and heredocs (PHP manual, "Strings: String interpolation").
-use Rattle.std.specs.Prelude.{ℕ, Bool, true, false, List, [], ◌∷◌, ◌++◌, codes}
+use Rattle.std.specs.Prelude.{Bool, true, false, List, [], ◌∷◌, codes}
 use Rattle.php_tree.specs.declared.version.Version.{Version}
 use Rattle.php_tree.specs.declared.version.Version.TheVariants.{V74, V83}
 use Rattle.php_lexer.specs.declared.table.Kind.TheVariants.{Variable, Label, Digits, Op, Piece, CurlyOpen, DollarBrace, VarName, QuotedEnd}

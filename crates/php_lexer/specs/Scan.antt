@@ -1,5 +1,5 @@
 -- The lengths that the lexer counts, for each row and for the longest token.
-use Rattle.std.specs.Prelude.{ℕ, ◌+◌, Bool, true, false, not, ◌&&◌, ◌||◌, cond, nat_eq, nat_lt, List, [], ◌∷◌, length, take, drop, Option, Some, None}
+use Rattle.std.specs.Prelude.{ℕ, ◌+◌, Bool, false, ◌&&◌, ◌||◌, cond, nat_eq, nat_lt, List, [], ◌∷◌, length, take, drop, Option, Some, None}
 use Rattle.php_tree.specs.declared.version.Version.{Version}
 use Rattle.php_lexer.specs.declared.table.Kind.{Kind}
 use Rattle.php_lexer.specs.declared.table.State.{State}
@@ -9,7 +9,6 @@ use Rattle.php_lexer.specs.declared.table.Run.TheVariants.{Labels}
 use Rattle.php_lexer.specs.declared.table.Until.{Until}
 use Rattle.php_lexer.specs.declared.table.Shape.{Shape}
 use Rattle.php_lexer.specs.declared.table.Spot.{Spot}
-use Rattle.php_lexer.specs.declared.table.Follow.{Follow}
 use Rattle.php_lexer.specs.declared.table.Tail.{Tail}
 use Rattle.php_lexer.specs.declared.table.Tail.TheVariants.{When, AnyRun, SomeOf, UpTo, Shaped, AnyWord, BracedName, EndLine, NowdocRest}
 use Rattle.php_lexer.specs.Bytes.{lower, as_it_is, is_blank_byte, is_line_end, begins, starts_by}

@@ -1,5 +1,5 @@
 -- What may stand behind the word that begins a token. A text is judged whole, together with the bytes that follow it.
-use Rattle.std.specs.Prelude.{ℕ, ◌+◌, Bool, true, false, not, ◌&&◌, ◌||◌, cond, nat_eq, nat_le, List, [], ◌∷◌, ◌++◌, length, drop, codes}
+use Rattle.std.specs.Prelude.{ℕ, Bool, true, false, not, ◌&&◌, ◌||◌, cond, nat_eq, List, [], ◌∷◌, ◌++◌, length, drop, codes}
 use Rattle.php_lexer.specs.declared.table.State.{State}
 use Rattle.php_lexer.specs.declared.table.State.TheVariants.{First, Plain, Escaped}
 use Rattle.php_lexer.specs.declared.table.Mark.{Mark}

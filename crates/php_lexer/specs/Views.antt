@@ -1,5 +1,5 @@
 -- The modes of the code, seen as those of the definition, and what the lexer has read so far.
-use Rattle.std.specs.Prelude.{◌≡◌, ◌≤◌, ◌+◌, ◌++◌, ◌∷◌, ℕ, ◌&&◌, cond, nat_le, List, [], length, slice_range, drop, map, reverse, Option, Some, None, Result, Ok, Err}
+use Rattle.std.specs.Prelude.{◌≡◌, ◌≤◌, ◌++◌, ◌∷◌, ℕ, ◌&&◌, cond, nat_le, List, [], length, slice_range, drop, map, reverse, Option, Some, None, Result, Ok, Err}
 use Rattle.std.specs.declared.alloc.Global.{Global}
 use Rattle.std.specs.declared.vec.Vec.{Vec}
 use Rattle.php_tree.specs.declared.version.Version.{Version}

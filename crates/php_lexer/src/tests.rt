@@ -1,4 +1,6 @@
-use crate::{LexFault, lex, no_byte_is_lost, one_fault, one_token_list, tokens_or_fault};
+use crate::{
+    LexFault, lex, no_byte_is_lost, one_fault, one_token_list, tokens_or_fault, utf8_is_kept,
+};
 use php_tree::{TokenKind, Version};
 use std::alloc::Global;
 use std::fmt::Write;
@@ -195,4 +197,5 @@ fn laws_can_be_called() {
     one_fault();
     tokens_or_fault();
     no_byte_is_lost();
+    utf8_is_kept();
 }

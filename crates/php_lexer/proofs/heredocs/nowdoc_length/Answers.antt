@@ -1,7 +1,6 @@
-use Rattle.std.proofs.Common.{◌≡◌, ℕ, ◌+◌, ◌≤◌, ◌<◌, List, length, drop, Option, Some, None, true, sym, subst, ap, ◌∙◌, arith, length-drop}
+use Rattle.std.proofs.Common.{◌≡◌, ℕ, ◌+◌, ◌≤◌, ◌<◌, length, Option, Some, None, true, sym, ap, arith}
 use Rattle.std.specs.Prelude.{IfSome}
-use Rattle.php_lexer.specs.Bytes.{blanks_len}
-use Rattle.php_lexer.specs.Heredocs.{begins_nowdoc, nowdoc_label}
+use Rattle.php_lexer.specs.Heredocs.{begins_nowdoc}
 use Rattle.php_lexer.proofs.Within.{head_within, body_within}
 use Rattle.php_lexer.proofs.heredocs.nowdoc_length.Goals as goal
 

@@ -1,4 +1,4 @@
-use Rattle.std.proofs.Common.{◌≡◌, ℕ, sym, ap, ◌∙◌, arith}
+use Rattle.std.proofs.Common.{ℕ, sym, ap, ◌∙◌, arith}
 use Rattle.php_lexer.specs.Words.{keywords, words_by, is_word_of}
 use Rattle.php_lexer.proofs.KeywordLemmas.{by_first}
 use Rattle.php_lexer.proofs.keywords.keyword.Goals as goal

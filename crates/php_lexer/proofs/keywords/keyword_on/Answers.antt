@@ -1,6 +1,5 @@
-use Rattle.std.proofs.Common.{◌≡◌, nat_eq, false, true, refl, sym, ap, arith}
+use Rattle.std.proofs.Common.{◌≡◌, false, refl, arith}
 use Rattle.std.proofs.lemmas.Bool.Decides.{nat_tests}
-use Rattle.php_lexer.specs.Words.{is_word_of}
 use Rattle.php_lexer.proofs.KeywordLemmas.{none_by_letter, has_letter, letters}
 use Rattle.php_lexer.proofs.keywords.keyword_on.Goals as goal
 

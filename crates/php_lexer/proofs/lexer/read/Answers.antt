@@ -1,10 +1,9 @@
-use Rattle.std.proofs.Common.{◌≡◌, ℕ, List, [], ◌∷◌, ◌++◌, ◌+◌, take, drop, Some, None, sym, subst, ap, ◌∙◌}
+use Rattle.std.proofs.Common.{◌≡◌, ℕ, List, [], ◌∷◌, ◌++◌, take, drop, Some, None, sym, subst, ap, ◌∙◌}
 use Rattle.php_tree.specs.declared.token.Token.{Token}
 use Rattle.php_lexer.specs.Words.{token_of}
 use Rattle.php_lexer.specs.Modes.{IsLongest, HasNone}
-use Rattle.php_lexer.specs.Lexed.{fault_at, Stops, start}
-use Rattle.php_lexer.specs.Views.{mode_of, Front}
-use Rattle.php_lexer.proofs.Fronts.{front_first, front_trivia, front_token, front_ends, front_stops, front_open, meets_stop}
+use Rattle.php_lexer.specs.Views.{mode_of}
+use Rattle.php_lexer.proofs.Fronts.{front_trivia, front_token, front_ends, front_stops, front_open, meets_stop}
 use Rattle.php_lexer.proofs.lexer.read.Goals as goal
 use Rattle.php_lexer.proofs.lexer.read.Goals.{in-None-token_kind, in-Some-token_kind+in_ok-token-in-Some-token_kind+in_ok-push-in-Some-token_kind}
 

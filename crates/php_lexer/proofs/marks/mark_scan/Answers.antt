@@ -1,4 +1,4 @@
-use Rattle.std.proofs.Common.{◌≡◌, nat_eq, false, true, sym, arith}
+use Rattle.std.proofs.Common.{◌≡◌, false, sym, arith}
 use Rattle.std.proofs.lemmas.Bool.Decides.{nat_tests}
 use Rattle.php_lexer.proofs.Dispatch.{other_scan, has, marks}
 use Rattle.php_lexer.proofs.marks.mark_scan.Goals as goal

@@ -1,4 +1,4 @@
-use Rattle.std.proofs.Common.{◌≡◌, ℕ, ◌+◌, ◌≤◌, ◌<◌, List, length, take, drop, sym, ap, ◌∙◌, arith, length-drop}
+use Rattle.std.proofs.Common.{◌≡◌, ℕ, ◌+◌, ◌≤◌, List, take, drop, ap, ◌∙◌, arith}
 use Rattle.php_lexer.specs.Bytes.{label_len}
 use Rattle.php_lexer.specs.Modes.{label_place, label_of}
 use Rattle.php_lexer.specs.Views.{cut}
