@@ -17,4 +17,5 @@ pub mod KeyLemmas
 pub mod ArithmeticLemmas
 pub mod ArrayLemmas
 pub mod CopyLemmas
+pub mod OrderLemmas
 pub mod CellLemmas
