@@ -59,8 +59,11 @@ pub rewritten_as : (p : Patches) (id : ℕ) (outer : Option NodeKind) (f : Fores
 rewritten_as p id outer none h = refl
 rewritten_as p id outer (leaf t f) h = ap (leaf t) (rewritten_as p id None f h)
 rewritten_as p id outer (node k c f) h =
-    rw (agrees_here p id outer k c f h, rewritten_as p (suc id) (Some k) c (agrees_inside p id outer k c f h),
-      rewritten_as p (suc (id + count c)) None f (agrees_after p id outer k c f h)) refl
+    rw (
+      agrees_here p id outer k c f h,
+      rewritten_as p (suc id) (Some k) c (agrees_inside p id outer k c f h),
+      rewritten_as p (suc (id + count c)) None f (agrees_after p id outer k c f h),
+    ) refl
 
 -- the rewritten statements of a file
 pub rewritten_is : (f : Forest) → rewritten (nested_ternary f) 0 f ≡ regrouped None f
