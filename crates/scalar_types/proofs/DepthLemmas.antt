@@ -1,12 +1,13 @@
 -- Meets, flattening and elements.
-use Rattle.std.proofs.Common.{◌≡◌, ℕ, zero, suc, false, List, [], refl, sym, ap, subst, ◌∙◌, arith}
+use Rattle.std.specs.Int.{bit_at}
+use Rattle.std.proofs.Common.{◌<◌, ◌≡◌, ℕ, zero, suc, false, List, [], refl, sym, ap, subst, ◌∙◌, arith}
 use Rattle.std.specs.List.Sorted.{IsStrictlyIncreasing}
 use Rattle.std.proofs.lemmas.Bool.{and_from, false≢true}
 use Rattle.std.proofs.lemmas.List.Kept.{IsStrictlyIncreasing-filter}
 use Rattle.std.proofs.lemmas.Nat.Bits.{bit_at_and, bit_at-zero}
 use lib.Bits.{and_lt}
 use Rattle.scalar_types.specs.Sets.{IsSubset, union, intersection}
-use Rattle.scalar_types.specs.Terms.{Facts, TypeTerm, any, plain, array, with_labels, AreFactsWellFormed, IsWellFormed, NoLabelsAtAny}
+use Rattle.scalar_types.specs.Terms.{Facts, TypeTerm, any, plain, array, with_labels, of_bits, AreFactsWellFormed, IsWellFormed, NoLabelsAtAny}
 use Rattle.scalar_types.specs.Order.{FactsAmong, LabelsAmong, Below}
 use Rattle.scalar_types.specs.Join.{join_of, common_facts, meet_of, flattened, NestsTo, element_of, nothing, HasNoLabelsAlone}
 use Rattle.scalar_types.proofs.SetLemmas.{Has-subset, subset_from_Has, Has-intersection}
@@ -224,9 +225,13 @@ element-Below (plain f) (array g e) h = Below-nothing e
 element-Below (array f d) (plain g) h = absurd h
 element-Below (array f d) (array g e) h = h.1
 
+pub IsWellFormed-of_bits : (bits : ℕ) → bits < 2048 → bit_at bits 9 ≡ 0 → IsWellFormed (of_bits bits)
+IsWellFormed-of_bits bits h k =
+    (record { eleven_bits = omega arith; labels_ascend = increasing-nil; classes_ascend = increasing-nil }, k)
+
 pub IsWellFormed-element : (a : TypeTerm) → IsWellFormed a → IsWellFormed (element_of a)
 IsWellFormed-element any v = tt
-IsWellFormed-element (plain f) v = (record { eleven_bits = omega arith; labels_ascend = increasing-nil; classes_ascend = increasing-nil }, bit_at-zero 9)
+IsWellFormed-element (plain f) v = IsWellFormed-of_bits 0 (omega arith) (bit_at-zero 9)
 IsWellFormed-element (array f e) v = v.3
 
 pub NestsTo-element : (n : ℕ) (a : TypeTerm) → NestsTo (suc n) a → NestsTo n (element_of a)

@@ -1,7 +1,7 @@
 -- Joins, meets, flattening and elements of types: this project's own.
-use Rattle.std.specs.Prelude.{◌≡◌, ℕ, zero, suc, false, ◌&&◌, ◌||◌, bit_and, bit_or, List, []}
+use Rattle.std.specs.Prelude.{◌≡◌, ℕ, zero, suc, ◌&&◌, ◌||◌, bit_and, bit_or, List, []}
 use Rattle.scalar_types.specs.Sets.{union, intersection}
-use Rattle.scalar_types.specs.Terms.{Facts, TypeTerm, any, plain, array, with_labels}
+use Rattle.scalar_types.specs.Terms.{Facts, TypeTerm, any, plain, array, with_labels, of_bits}
 
 -- ---- joins
 
@@ -85,7 +85,7 @@ NestsTo (suc depth) (array f e) = NestsTo depth e
 
 -- the type of no value
 abbrev pub nothing : TypeTerm
-nothing = plain (record { bits = 0; neg = false; text_keys = false; shared = []; classes = [] })
+nothing = of_bits 0
 
 -- the type of an element: Any of Any; of no value where the type is no array's
 abbrev pub element_of : TypeTerm → TypeTerm

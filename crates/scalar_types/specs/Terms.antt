@@ -71,6 +71,10 @@ facts_of p = record {
 abbrev pub with_labels : Facts → List ℕ → Facts
 with_labels f labels = record f { shared = labels }
 
+-- the known type of these bits alone
+abbrev pub of_bits : ℕ → TypeTerm
+of_bits bits = plain (record { bits = bits; neg = false; text_keys = false; shared = []; classes = [] })
+
 -- ---- well-formed types
 
 -- the bit of arrays is set

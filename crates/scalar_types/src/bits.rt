@@ -8,15 +8,15 @@ pub const BOOL: u16 = 2;
 pub const INT: u16 = 4;
 /// A float: no value of the supported profile.
 pub const FLOAT: u16 = 8;
-/// A text that is a whole number and nothing else.
+/// A text that is an int and nothing else: white space, a sign and digits.
 pub const WHOLE: u16 = 16;
-/// A text that is a whole number with blanks behind it.
+/// A text that is an int with white space alone behind it.
 pub const WHOLE_TAIL: u16 = 32;
-/// A text that is a number with a fraction or an exponent.
+/// A text that begins with an int before a dot or an exponent's letter, or with a dot and a digit.
 pub const FRACTION: u16 = 64;
-/// A text that only begins with a number.
+/// A text that begins with an int, with anything else behind it.
 pub const LEAD: u16 = 128;
-/// A text that doesn't begin with a number.
+/// Any other text.
 pub const WORD: u16 = 256;
 /// An array.
 pub const ARRAY: u16 = 512;

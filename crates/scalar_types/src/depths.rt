@@ -1,10 +1,10 @@
 // Types of less depth, and elements.
 ghost use Rattle.std.specs.Prelude.{◌≡◌, IfOk};
 ghost use Rattle.scalar_types.specs.Terms.{term};
-ghost use Rattle.scalar_types.specs.Join.{flattened, element_of, nothing};
+ghost use Rattle.scalar_types.specs.Join.{flattened, element_of};
 
-use crate::labels::{Classes, Labels};
-use crate::php_type::{Parts, PhpType, copy_array, copy_plain};
+use crate::labels::Labels;
+use crate::php_type::{PhpType, copy_array, copy_plain, plain_of};
 use std::alloc::{AllocError, Global};
 
 /// The type with Any in place of each element that stands deeper than `depth`, and no label beside
@@ -38,22 +38,8 @@ pub fn element(alloc: Global, a: &PhpType) -> Result<PhpType, AllocError>
     match a {
         PhpType::Any => Ok(PhpType::Any),
         PhpType::Known(p) => match &p.element {
-            None => Ok(no_value(alloc)),
+            None => Ok(plain_of(alloc, 0)),
             Some(e) => e.copy(alloc),
         },
     }
-}
-
-// The type of no value.
-fn no_value(alloc: Global) -> PhpType
-    ensures { term result ≡ nothing }
-{
-    PhpType::Known(Parts {
-        bits: 0,
-        element: None,
-        neg: false,
-        text_keys: false,
-        shared: Labels::of(Vec::new(alloc)),
-        classes: Classes::of(Vec::new(alloc)),
-    })
 }

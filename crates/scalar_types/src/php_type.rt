@@ -1,6 +1,7 @@
 // Types.
-ghost use Rattle.std.specs.Prelude.{◌≡◌, ◌↔◌, IsTrue, IfOk};
-ghost use Rattle.scalar_types.specs.Terms.{term, any, plain, array, facts_of, with_labels};
+ghost use Rattle.std.specs.Prelude.{◌≡◌, ◌<◌, ◌↔◌, IsTrue, IfOk};
+ghost use Rattle.scalar_types.specs.Terms.{term, any, plain, array, facts_of, with_labels, of_bits, IsWellFormed};
+ghost use Rattle.std.specs.Int.{bit_at};
 
 use crate::labels::{Classes, Labels};
 use std::alloc::{AllocError, Global};
@@ -15,19 +16,36 @@ pub enum PhpType {
     Known(Parts),
 }
 
-/// What a known type allows.
+/// What a known type allows. It is well-formed where only the eleven bits are set, there is an
+/// element exactly where the bit of arrays is set, and `shared` is empty where the element is Any.
 #[cycle(types)]
 #[derive(Drop)]
 pub struct Parts {
+    /// The kinds of values, by the eleven bits.
     pub bits: u16,
+    /// The type of the elements of an array.
     pub element: Option<Box<PhpType>>,
+    /// Whether the largest int key ever used in an array may be negative.
     pub neg: bool,
+    /// Whether a text key may be in an array.
     pub text_keys: bool,
+    /// The labels of cells that elements of an array may share.
     pub shared: Labels,
+    /// The classes of an object, by their numbers.
     pub classes: Classes,
 }
 
 impl PhpType {
+    /// The known type of these bits, without an array. Takes no memory.
+    pub fn of_bits(alloc: Global, bits: u16) -> PhpType
+        requires eleven_bits { bits < 2048 }
+        requires no_array { bit_at bits 9 ≡ 0 }
+        ensures value { term result ≡ of_bits bits }
+        ensures well_formed { IsWellFormed (term result) }
+    {
+        plain_of(alloc, bits)
+    }
+
     /// Whether the type is Any. Takes no memory.
     pub fn is_any(&self) -> bool
         ensures { IsTrue result ↔ (term self.now ≡ any) }
@@ -50,6 +68,20 @@ impl PhpType {
             },
         }
     }
+}
+
+// The known type of these bits alone.
+pub(crate) fn plain_of(alloc: Global, bits: u16) -> PhpType
+    ensures { term result ≡ of_bits bits }
+{
+    PhpType::Known(Parts {
+        bits,
+        element: None,
+        neg: false,
+        text_keys: false,
+        shared: Labels::of(Vec::new(alloc)),
+        classes: Classes::of(Vec::new(alloc)),
+    })
 }
 
 // The known type of the same facts, without an element.

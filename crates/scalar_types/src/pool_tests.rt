@@ -1,19 +1,6 @@
 // Pools on small types.
-use crate::{Classes, INT, Labels, Parts, PhpType, Pool, TypeId, WORD, laws};
-use std::alloc::Global;
+use crate::{INT, PhpType, Pool, TypeId, WORD, laws};
 use std::test::Fail;
-
-// A known type of one bit.
-fn plain(alloc: Global, bits: u16) -> PhpType {
-    PhpType::Known(Parts {
-        bits,
-        element: None,
-        neg: false,
-        text_keys: false,
-        shared: Labels::of(Vec::new(alloc)),
-        classes: Classes::of(Vec::new(alloc)),
-    })
-}
 
 #[test]
 fn a_new_pool_holds_any_at_number_zero(rt: HostRuntime) -> Result<(), Fail> {
@@ -30,9 +17,9 @@ fn a_new_pool_holds_any_at_number_zero(rt: HostRuntime) -> Result<(), Fail> {
 fn a_type_is_stored_once(rt: HostRuntime) -> Result<(), Fail> {
     let alloc = rt.alloc();
     let mut pool = Pool::new(alloc)?;
-    let first = pool.intern(alloc, &plain(alloc, INT))?;
+    let first = pool.intern(alloc, &PhpType::of_bits(alloc, INT))?;
     let count = pool.count();
-    let second = pool.intern(alloc, &plain(alloc, INT))?;
+    let second = pool.intern(alloc, &PhpType::of_bits(alloc, INT))?;
     assert_eq!(rt; second, first);
     assert_eq!(rt; pool.count(), count);
     assert_eq!(rt; pool.packed(first).map(|p| p.head), Some(4));
@@ -43,8 +30,8 @@ fn a_type_is_stored_once(rt: HostRuntime) -> Result<(), Fail> {
 fn numbers_are_joined_and_compared(rt: HostRuntime) -> Result<(), Fail> {
     let alloc = rt.alloc();
     let mut pool = Pool::new(alloc)?;
-    let int = pool.intern(alloc, &plain(alloc, INT))?;
-    let word = pool.intern(alloc, &plain(alloc, WORD))?;
+    let int = pool.intern(alloc, &PhpType::of_bits(alloc, INT))?;
+    let word = pool.intern(alloc, &PhpType::of_bits(alloc, WORD))?;
     assert!(rt; int.0 < pool.count() && word.0 < pool.count());
     let either = pool.join_ids(alloc, int, word)?;
     assert_eq!(rt; pool.packed(either).map(|p| p.head), Some(260));

@@ -6,18 +6,6 @@ use crate::{
 use std::alloc::{AllocError, Global};
 use std::test::Fail;
 
-// A known type of these bits.
-fn plain(alloc: Global, bits: u16) -> PhpType {
-    PhpType::Known(Parts {
-        bits,
-        element: None,
-        neg: false,
-        text_keys: false,
-        shared: Labels::of(Vec::new(alloc)),
-        classes: Classes::of(Vec::new(alloc)),
-    })
-}
-
 // An array of this element, with these labels beside it.
 fn array(alloc: Global, element: PhpType, shared: Labels) -> Result<PhpType, AllocError> {
     Ok(PhpType::Known(Parts {
@@ -32,7 +20,7 @@ fn array(alloc: Global, element: PhpType, shared: Labels) -> Result<PhpType, All
 
 // Arrays so deep, of ints.
 fn nested(alloc: Global, depth: u32) -> Result<PhpType, AllocError> {
-    let mut a = plain(alloc, INT);
+    let mut a = PhpType::of_bits(alloc, INT);
     for _ in 0..depth {
         a = array(alloc, a, Labels::of(Vec::new(alloc)))?;
     }
@@ -76,8 +64,8 @@ fn at_depth_zero_each_element_is_any(rt: HostRuntime) -> Result<(), Fail> {
 #[test]
 fn the_join_has_the_bits_of_either_and_the_meet_those_of_both(rt: HostRuntime) -> Result<(), Fail> {
     let alloc = rt.alloc();
-    let int = plain(alloc, INT);
-    let either = join(alloc, &int, &plain(alloc, WORD))?;
+    let int = PhpType::of_bits(alloc, INT);
+    let either = join(alloc, &int, &PhpType::of_bits(alloc, WORD))?;
     assert_eq!(rt; bits(&either), Some(INT | WORD));
     assert_eq!(rt; bits(&meet(alloc, &either, &int)?), Some(INT));
     assert!(rt; below(&int, &either));
@@ -92,16 +80,27 @@ fn the_meet_with_any_is_the_type(rt: HostRuntime) -> Result<(), Fail> {
     assert!(rt; are_alike(&meet(alloc, &one, &PhpType::Any)?, &one));
     assert!(rt; are_alike(&meet(alloc, &PhpType::Any, &one)?, &one));
     assert!(rt; are_alike(&one.copy(alloc)?, &one));
-    assert_eq!(rt; bits(&element(alloc, &plain(alloc, NULL))?), Some(0));
+    assert_eq!(rt;
+        bits(&element(alloc, &PhpType::of_bits(alloc, NULL))?),
+        Some(0)
+    );
     Ok(())
 }
 
 #[test]
 fn no_label_joins_the_element_any(rt: HostRuntime) -> Result<(), Fail> {
     let alloc = rt.alloc();
-    let labelled = array(alloc, plain(alloc, INT), Labels::of(vec![in alloc; 4, 7]?))?;
+    let labelled = array(
+        alloc,
+        PhpType::of_bits(alloc, INT),
+        Labels::of(vec![in alloc; 4, 7]?),
+    )?;
     let open = array(alloc, PhpType::Any, Labels::of(Vec::new(alloc)))?;
-    let known = array(alloc, plain(alloc, WORD), Labels::of(vec![in alloc; 5]?))?;
+    let known = array(
+        alloc,
+        PhpType::of_bits(alloc, WORD),
+        Labels::of(vec![in alloc; 5]?),
+    )?;
     assert!(rt; are_alike(&join(alloc, &labelled, &open)?, &open));
     let joined = join(alloc, &labelled, &known)?;
     match &joined {
@@ -119,6 +118,6 @@ fn classes_are_a_list(rt: HostRuntime) -> Result<(), Fail> {
     assert_eq!(rt; classes.copy(alloc)?.as_slice(), [0, 11].as_slice());
     let labels = Labels::of(vec![in alloc; 3]?);
     assert_eq!(rt; labels.copy(alloc)?.as_slice(), [3].as_slice());
-    assert_eq!(rt; bits(&plain(alloc, OBJECT)), Some(1024));
+    assert_eq!(rt; bits(&PhpType::of_bits(alloc, OBJECT)), Some(1024));
     Ok(())
 }
