@@ -1,0 +1,110 @@
+-- Statements one after another, beside the parser on lists.
+use Rattle.std.proofs.Common.{◌≡◌, ℕ, ◌+◌, ◌<◌, ◌≤◌, List, [], ◌∷◌, ◌++◌, length, Option, Some, None, Result, Ok, Err, Bor, refl, sym, ap, ◌∙◌, subst, arith}
+use Rattle.std.specs.Prelude.{IfOk}
+use Rattle.php_tree.specs.declared.token.Token.{Token}
+use Rattle.php_tree.specs.declared.node.Node.{Node as TheNode}
+use Rattle.php_tree.specs.declared.version.Version.{Version}
+use Rattle.php_tree.specs.Tree.{Forest, Tree, none, leaf, node, ◌+++◌, leaves, depth, nodes_forest}
+use Rattle.php_grammar.specs.declared.terminal.Terminal.{Terminal}
+use Rattle.php_grammar.specs.declared.terminal.Terminal.TheVariants as t
+use Rattle.php_grammar.specs.declared.item.Sort.{Sort}
+use Rattle.php_grammar.specs.declared.item.Sort.TheVariants as s
+use Rattle.php_grammar.specs.declared.item.Group.TheVariants.{Statements}
+use Rattle.php_grammar.specs.declared.item.Item.TheVariants.{Node, Turns}
+use Rattle.php_grammar.specs.Ahead.{first_of}
+use Rattle.php_grammar.specs.Grammar.{Tables, Walks, ends}
+use Rattle.php_grammar.specs.Statements.{statements}
+use Rattle.php_grammar.specs.Tables.{php, parts}
+use Rattle.php_grammar.proofs.Ranks.{rank, php_ranked}
+use Rattle.php_exprs.specs.declared.fault.ParseFault.{ParseFault}
+use Rattle.php_exprs.specs.declared.fault.ParseFault.TheVariants.{NotInGrammar, Memory}
+use Rattle.php_exprs.specs.Parsing.{◌>>=◌, Read, Steps, items_at, turns_at, walk, under, parse}
+use Rattle.php_exprs.specs.Parsed.{Extends, GivesStatements, node_at, inner_at, parts_at, turned_at}
+use Rattle.php_exprs.specs.Reading.{ReadsStatements, AnswersStatements}
+use Rattle.php_exprs.proofs.Forests.{some_is}
+use Rattle.php_exprs.proofs.Sound.{Took, parse_sound, walk_sound}
+use Rattle.php_exprs.proofs.Complete.{parse_complete, walk_reads, walk_is}
+use Rattle.php_exprs.proofs.Steps.{append_none, inner_is, to_part}
+
+-- a turn of statements is one statement
+statement_items : (x : Terminal) → 0 < length (statements x) → statements x ≡ Node s.Statement ∷ []
+statement_items t.CloseBrace lt = absurd (omega arith)
+statement_items t.End lt = absurd (omega arith)
+statement_items t.Case lt = absurd (omega arith)
+statement_items t.Default lt = absurd (omega arith)
+statement_items t.Else lt = absurd (omega arith)
+statement_items t.ElseIf lt = absurd (omega arith)
+statement_items t.EndDeclare lt = absurd (omega arith)
+statement_items t.EndFor lt = absurd (omega arith)
+statement_items t.EndForeach lt = absurd (omega arith)
+statement_items t.EndIf lt = absurd (omega arith)
+statement_items t.EndSwitch lt = absurd (omega arith)
+statement_items t.EndWhile lt = absurd (omega arith)
+statement_items _ lt = refl
+
+abbrev nothing_more : List Token → Read Forest
+nothing_more ts = Some (none, ts)
+
+abbrev alone_then : Forest × List Token → Tree → Read Forest
+alone_then f x = Some (node x.0 x.1 f.0, f.1)
+
+abbrev single : Tree × List Token → Read Forest
+single x = nothing_more x.1 >>= λ f. alone_then f x.0
+
+one_node : (T : Tables) (d n : ℕ) (o : Sort) (ts : List Token) → parts_at T d n (Node o ∷ []) ts ≡ (node_at T d o ts >>= to_part)
+unfolding parts_at
+one_node T d n o ts = go (node_at T d o ts)
+  where
+    go : (r : Read Tree) → (r >>= single) ≡ (r >>= to_part)
+    go None = refl
+    go (Some x) = refl
+
+pub one_statement : (v : Version) (d : ℕ) (ts : List Token) → 0 < length (parts v Statements ts) → inner_at (php v) d 7 (parts v Statements ts) ts ≡ (node_at (php v) d s.Statement ts >>= to_part)
+one_statement v d ts has =
+    ap (λ is. inner_at (php v) d 7 is ts) (statement_items (first_of ts) has) ∙ inner_is (php v) d 7 6 (Node s.Statement ∷ []) ts (omega arith) ∙ one_node (php v) d 6 s.Statement ts
+
+-- the statements of the parser on lists, as items
+as_items : (v : Version) (d : ℕ) (ts : List Token) → walk (php v) (parse (php v) 7 d) 7 (Turns Statements ∷ []) ts ≡ (turned_at (php v) d 7 (length ts) Statements ts >>= λ h. Some (h.0 +++ none, h.1))
+unfolding turned_at inner_at node_at
+as_items v d ts = ap (λ (st : Steps). st (Turns Statements ∷ []) ts) (walk_is (php v) (parse (php v) 7 d) 7)
+
+take_none : (r : Read Forest) (y : Forest × List Token) → r ≡ Some y → (r >>= λ h. Some (h.0 +++ none, h.1)) ≡ Some y
+take_none r y e = ap (λ (o : Read Forest). o >>= λ h. Some (h.0 +++ none, h.1)) e ∙ ap (λ (f : Forest). read f y.1) (append_none y.0)
+  where
+    read : Forest → List Token → Read Forest
+    read f ts = Some (f, ts)
+
+drop_none : (r : Read Forest) (y : Forest × List Token) → (r >>= λ h. Some (h.0 +++ none, h.1)) ≡ Some y → r ≡ Some y
+drop_none None y e = absurd cc
+drop_none (Some x) y e = ap (λ (f : Forest). read f x.1) (sym (append_none x.0)) ∙ e
+  where
+    read : Forest → List Token → Read Forest
+    read f ts = Some (f, ts)
+
+pub statements_found : (v : Version) (d : ℕ) (ts : List Token) (r : Result (List TheNode × Bor (List Token)) ParseFault) → GivesStatements r d (turned_at (php v) d 7 (length ts) Statements ts) → IfOk r (λ x. ReadsStatements v d ts (nodes_forest x.0) x.1.now)
+statements_found v d ts (Err e) g = tt
+statements_found v d ts (Ok x) g = go (turned_at (php v) d 7 (length ts) Statements ts) refl g
+  where
+    go : (o : Read Forest) → turned_at (php v) d 7 (length ts) Statements ts ≡ o → Extends (Ok x.1) none (nodes_forest x.0) d o → ReadsStatements v d ts (nodes_forest x.0) x.1.now
+    go None e g = absurd g
+    go (Some y) e g =
+        let w = walk_sound (php v) d (parse (php v) 7 d) (parse_sound (php v) 7 d) 7 (Turns Statements ∷ []) ts y (as_items v d ts ∙ take_none (turned_at (php v) d 7 (length ts) Statements ts) y e) in
+        let P : Forest → List Token → Type 0 = λ f rest. ReadsStatements v d ts f rest in
+        subst (λ (f : Forest). P f x.1.now) (sym g.1) (subst (λ (rest : List Token). P y.0 rest) (sym g.0) (record { walks = w.walks; text = w.text; low = w.low }))
+
+pub turned_is : (v : Version) (d : ℕ) (ts : List Token) (f : Forest) (rest : List Token) → ReadsStatements v d ts f rest → turned_at (php v) d 7 (length ts) Statements ts ≡ Some (f, rest)
+turned_is v d ts f rest p =
+    let w = walk_reads (php v) 7 rank (php_ranked v) d (parse (php v) 7 d) (parse_complete (php v) 7 rank (php_ranked v) d) 7 p.walks (omega arith, tt) p.low in
+    drop_none (turned_at (php v) d 7 (length ts) Statements ts) (f, rest)
+    (sym (as_items v d ts) ∙ ap (walk (php v) (parse (php v) 7 d) 7 (Turns Statements ∷ [])) p.text ∙ w)
+
+pub statements_only : (v : Version) (d : ℕ) (ts : List Token) (r : Result (List TheNode × Bor (List Token)) ParseFault) → GivesStatements r d (turned_at (php v) d 7 (length ts) Statements ts) → (f : Forest) (rest : List Token) → ReadsStatements v d ts f rest → AnswersStatements r f rest
+statements_only v d ts (Err Memory) g f rest p = tt
+statements_only v d ts (Err NotInGrammar) g f rest p = let e = sym (turned_is v d ts f rest p) ∙ g in absurd cc
+statements_only v d ts (Ok x) g f rest p = go (turned_at (php v) d 7 (length ts) Statements ts) refl g
+  where
+    go : (o : Read Forest) → turned_at (php v) d 7 (length ts) Statements ts ≡ o → Extends (Ok x.1) none (nodes_forest x.0) d o → AnswersStatements (Ok x) f rest
+    go None e g = absurd g
+    go (Some y) e g =
+        let same = some_is y (f, rest) (sym e ∙ turned_is v d ts f rest p) in
+        (g.1 ∙ ap (λ (y : Forest × List Token). y.0) same, g.0 ∙ ap (λ (y : Forest × List Token). y.1) same)

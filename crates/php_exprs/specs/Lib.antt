@@ -1,0 +1,5 @@
+pub mod Built
+pub mod Expr
+pub mod Parsing
+pub mod Parsed
+pub mod Reading

@@ -1,0 +1,4 @@
+pub mod EdgeLemmas
+pub mod IndentLemmas
+pub mod Ranks
+pub mod WordLemmas

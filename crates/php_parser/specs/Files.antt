@@ -1,0 +1,38 @@
+-- What it is to be the tree of a file.
+use Rattle.std.specs.Prelude.{◌≡◌, ℕ, ◌≤◌, true, List, [], ◌∷◌, Result, Ok, Err}
+use Rattle.php_tree.specs.declared.file.FileTree.{FileTree}
+use Rattle.php_tree.specs.declared.token.Token.{Token}
+use Rattle.php_tree.specs.declared.version.Version.{Version}
+use Rattle.php_tree.specs.declared.version.Version.TheVariants.{V74, V83}
+use Rattle.php_tree.specs.Tree.{File, depth, file_leaves}
+use Rattle.php_tree.specs.Whole.{file}
+use Rattle.php_grammar.specs.declared.item.Group.TheVariants.{Statements}
+use Rattle.php_grammar.specs.declared.item.Item.TheVariants.{Turns}
+use Rattle.php_grammar.specs.Grammar.{Walks}
+use Rattle.php_grammar.specs.Tables.{php}
+use Rattle.php_exprs.specs.declared.fault.ParseFault.{ParseFault}
+use Rattle.php_exprs.specs.declared.fault.ParseFault.TheVariants.{NotInGrammar, Memory}
+use Rattle.php_parser.specs.Ends.{is_end}
+
+-- how deep nodes may stand in one another
+abbrev pub bound : Version → ℕ
+bound V74 = 500
+bound V83 = 1500
+
+-- The token is the only one, and the end.
+pub record IsLast (rest : List Token) (t : Token) : Type 0 where
+  pub alone : rest ≡ t ∷ []
+  pub ends : is_end t.kind ≡ true
+
+-- The tree is one of the grammar, its tokens are these, and it is within the bound.
+pub record ReadsFile (v : Version) (tokens : List Token) (f : File) : Type 0 where
+  pub walks : Walks (php v) (Turns Statements ∷ []) f.statements (f.end ∷ [])
+  pub text : tokens ≡ file_leaves f
+  pub ends : is_end f.end.kind ≡ true
+  pub low : depth f.statements ≤ bound v
+
+-- The answer is this tree, unless memory ran out.
+abbrev pub Answers : Result FileTree ParseFault → File → Type 0
+Answers (Ok tree) f = file tree ≡ f
+Answers (Err NotInGrammar) f = ⊥
+Answers (Err Memory) f = Unit {0}
