@@ -2,6 +2,7 @@
 ghost use Rattle.std.specs.Prelude.{◌≡◌, IfOk, ◌∷◌, [], codes};
 
 use crate::{Status, run, status_number};
+use echo_form::{MAX_BYTES, read};
 use io_ports::{
     Bytes, CalmSink, CalmSource, CalmTarget, MemorySink, MemorySource, MemoryTarget, PathText,
 };
@@ -240,6 +241,24 @@ fn a_fault_names_its_object(rt: HostRuntime) -> Result<(), Fail> {
         };
         assert!(rt; ran.was(status, line, written), "{source} {target} {out}");
     }
+    Ok(())
+}
+
+// Whether the copy of a file has as many nodes, as deep in one another.
+fn is_copied(alloc: Global, bytes: &[u8]) -> Result<bool, AllocError> {
+    if bytes.len() > MAX_BYTES {
+        return Ok(false);
+    }
+    let Some(file) = read(alloc, bytes)? else {
+        return Ok(false);
+    };
+    let copy = file.clone_tree(alloc)?;
+    Ok(copy.nodes() == file.nodes() && copy.depth() == file.depth())
+}
+
+#[test]
+fn a_tree_is_copied(rt: HostRuntime) -> Result<(), Fail> {
+    assert!(rt; is_copied(rt.alloc(), b"<?php echo (true ? 1 : 2);")?);
     Ok(())
 }
 
