@@ -4,12 +4,12 @@ use Rattle.std.proofs.lemmas.Bool.{lt-ltb}
 use Rattle.php_tree.specs.declared.token.Token.{Token}
 use Rattle.php_tree.specs.declared.kind.NodeKind.{NodeKind}
 use Rattle.php_tree.specs.Tree.{depth, Forest, Tree, none, leaf, node, ◌+++◌, leaves}
-use Rattle.php_grammar.specs.declared.terminal.Terminal.{Terminal}
-use Rattle.php_grammar.specs.declared.item.Sort.{Sort}
-use Rattle.php_grammar.specs.declared.item.Group.{Group}
-use Rattle.php_grammar.specs.declared.item.Item.{Item}
-use Rattle.php_grammar.specs.declared.item.Item.TheVariants.{Word, Node, Part, Turns, Span}
-use Rattle.php_grammar.specs.Grammar.{Tables, Walks, ends, word, child, part, stop, turn, span, IsFlat, Grows, head, onward, Spells, IsNested, Ranked}
+use Rattle.php_terminals.specs.declared.terminal.Terminal.{Terminal}
+use Rattle.php_forms.specs.declared.item.Sort.{Sort}
+use Rattle.php_forms.specs.declared.item.Group.{Group}
+use Rattle.php_forms.specs.declared.item.Item.{Item}
+use Rattle.php_forms.specs.declared.item.Item.TheVariants.{Word, Node, Part, Turns, Span}
+use Rattle.php_forms.specs.Grammar.{Tables, Walks, ends, word, child, part, stop, turn, span, IsFlat, Grows, head, onward, Spells, IsNested, Ranked}
 use Rattle.php_exprs.specs.Parsing.{◌>>=◌, Read, Steps, turns_at, run_at, items_at, walk, under, grow, begin, parse}
 use Rattle.php_exprs.proofs.Forests.{bind_some, some_is, leaves_append, depth_append, forest_assoc}
 

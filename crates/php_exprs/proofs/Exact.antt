@@ -6,10 +6,10 @@ use Rattle.php_exprs.specs.declared.build.Built.{Built}
 use Rattle.php_exprs.specs.Built.{tree_in}
 use Rattle.php_tree.specs.Tree.{Tree, leaves, depth}
 use Rattle.php_tree.specs.declared.version.Version.{Version}
-use Rattle.php_grammar.specs.declared.item.Sort.{Sort}
+use Rattle.php_forms.specs.declared.item.Sort.{Sort}
 use Rattle.php_exprs.specs.declared.fault.ParseFault.{ParseFault}
 use Rattle.php_exprs.specs.declared.fault.ParseFault.TheVariants.{NotInGrammar, Memory}
-use Rattle.php_grammar.specs.Grammar.{Spells}
+use Rattle.php_forms.specs.Grammar.{Spells}
 use Rattle.php_exprs.specs.Parsing.{Read, parse}
 use Rattle.php_grammar.specs.Tables.{php}
 use Rattle.php_exprs.specs.Parsed.{GivesTree, node_at}

@@ -9,12 +9,12 @@ use Rattle.php_tree.specs.declared.token.TokenKind.TheVariants as kind
 use Rattle.php_tree.specs.declared.version.Version.{Version}
 use Rattle.php_tree.specs.declared.version.Version.TheVariants.{V74, V83}
 use Rattle.php_tree.specs.Tree.{Forest, Tree, none, leaf, node}
-use Rattle.php_grammar.specs.declared.item.Sort.{Sort}
-use Rattle.php_grammar.specs.declared.item.Sort.TheVariants.{Statement, Operand}
+use Rattle.php_forms.specs.declared.item.Sort.{Sort}
+use Rattle.php_forms.specs.declared.item.Sort.TheVariants.{Statement, Operand}
 use Rattle.php_grammar.specs.Edges.{edge}
-use Rattle.php_grammar.specs.Indents.{is_misindented}
+use Rattle.php_terminals.specs.Indents.{is_misindented}
 use Rattle.php_grammar.specs.Tables.{php}
-use Rattle.php_grammar.specs.Words.{keywords, operators, labels}
+use Rattle.php_terminals.specs.Words.{keywords, operators, labels}
 use Rattle.php_exprs.specs.Parsing.{Read, parse}
 
 -- ---- tokens and trees

@@ -3,11 +3,11 @@ use Rattle.std.proofs.Common.{◌≡◌, ℕ, zero, suc, ◌+◌, ◌<◌, ◌�
 use Rattle.std.proofs.lemmas.Bool.{ltb-true}
 use Rattle.php_tree.specs.declared.token.Token.{Token}
 use Rattle.php_tree.specs.Tree.{depth, Forest, Tree, none, leaf, node, ◌+++◌, leaves}
-use Rattle.php_grammar.specs.declared.item.Sort.{Sort}
-use Rattle.php_grammar.specs.declared.item.Group.{Group}
-use Rattle.php_grammar.specs.declared.item.Item.{Item}
-use Rattle.php_grammar.specs.declared.item.Item.TheVariants.{Word, Node, Part, Turns, Span}
-use Rattle.php_grammar.specs.Grammar.{Form, Tables, Walks, ends, word, child, part, stop, turn, span, IsFlat, Grows, head, onward, Spells}
+use Rattle.php_forms.specs.declared.item.Sort.{Sort}
+use Rattle.php_forms.specs.declared.item.Group.{Group}
+use Rattle.php_forms.specs.declared.item.Item.{Item}
+use Rattle.php_forms.specs.declared.item.Item.TheVariants.{Word, Node, Part, Turns, Span}
+use Rattle.php_forms.specs.Grammar.{Form, Tables, Walks, ends, word, child, part, stop, turn, span, IsFlat, Grows, head, onward, Spells}
 use Rattle.php_exprs.specs.Parsing.{◌>>=◌, Read, given, Steps, turn_at, turns_at, run_at, items_at, walk, grown, grow, begin, parse}
 use Rattle.php_exprs.proofs.Forests.{bind_some, given_some, some_is, leaves_append, depth_append, forest_assoc}
 

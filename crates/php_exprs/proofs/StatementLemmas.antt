@@ -5,15 +5,15 @@ use Rattle.php_tree.specs.declared.token.Token.{Token}
 use Rattle.php_tree.specs.declared.node.Node.{Node as TheNode}
 use Rattle.php_tree.specs.declared.version.Version.{Version}
 use Rattle.php_tree.specs.Tree.{Forest, Tree, none, leaf, node, ◌+++◌, leaves, depth, nodes_forest}
-use Rattle.php_grammar.specs.declared.terminal.Terminal.{Terminal}
-use Rattle.php_grammar.specs.declared.terminal.Terminal.TheVariants as t
-use Rattle.php_grammar.specs.declared.item.Sort.{Sort}
-use Rattle.php_grammar.specs.declared.item.Sort.TheVariants as s
-use Rattle.php_grammar.specs.declared.item.Group.TheVariants.{Statements}
-use Rattle.php_grammar.specs.declared.item.Item.TheVariants.{Node, Turns}
-use Rattle.php_grammar.specs.Ahead.{first_of}
-use Rattle.php_grammar.specs.Grammar.{Tables, Walks, ends}
-use Rattle.php_grammar.specs.Statements.{statements}
+use Rattle.php_terminals.specs.declared.terminal.Terminal.{Terminal}
+use Rattle.php_terminals.specs.declared.terminal.Terminal.TheVariants as t
+use Rattle.php_forms.specs.declared.item.Sort.{Sort}
+use Rattle.php_forms.specs.declared.item.Sort.TheVariants as s
+use Rattle.php_forms.specs.declared.item.Group.TheVariants.{Statements}
+use Rattle.php_forms.specs.declared.item.Item.TheVariants.{Node, Turns}
+use Rattle.php_terminals.specs.Ahead.{first_of}
+use Rattle.php_forms.specs.Grammar.{Tables, Walks, ends}
+use Rattle.php_forms.specs.Statements.{statements}
 use Rattle.php_grammar.specs.Tables.{php, parts}
 use Rattle.php_grammar.proofs.Ranks.{rank, php_ranked}
 use Rattle.php_exprs.specs.declared.fault.ParseFault.{ParseFault}

@@ -2,18 +2,18 @@
 use Rattle.std.proofs.Common.{◌≡◌, ℕ, zero, suc, ◌+◌, ◌-◌, ◌<◌, ◌≤◌, max, Bool, true, false, List, [], ◌∷◌, ◌++◌, length, get_or, take, drop, Option, Some, None, Result, Ok, Err, Bor, nat_lt, refl, sym, ap, ◌∙◌, subst, append_assoc, arith, add-one, drop-cons}
 use Rattle.std.proofs.lemmas.Bool.{lt-ltb, le-ltb}
 use Rattle.php_tree.specs.declared.token.Token.{Token}
-use Rattle.php_grammar.specs.declared.terminal.Terminal.{Terminal}
+use Rattle.php_terminals.specs.declared.terminal.Terminal.{Terminal}
 use Rattle.php_tree.specs.declared.kind.NodeKind.{NodeKind}
 use Rattle.php_exprs.specs.declared.build.Built.{Built}
 use Rattle.php_exprs.specs.Built.{tree_in}
 use Rattle.php_tree.specs.Tree.{Forest, Tree, none, leaf, node, ◌+++◌, depth}
-use Rattle.php_grammar.specs.declared.item.Sort.{Sort}
-use Rattle.php_grammar.specs.declared.item.Group.{Group}
-use Rattle.php_grammar.specs.declared.item.Item.{Item}
-use Rattle.php_grammar.specs.declared.item.Item.TheVariants.{Word, Node, Part, Turns, Span}
+use Rattle.php_forms.specs.declared.item.Sort.{Sort}
+use Rattle.php_forms.specs.declared.item.Group.{Group}
+use Rattle.php_forms.specs.declared.item.Item.{Item}
+use Rattle.php_forms.specs.declared.item.Item.TheVariants.{Word, Node, Part, Turns, Span}
 use Rattle.php_exprs.specs.declared.fault.ParseFault.{ParseFault}
 use Rattle.php_exprs.specs.declared.fault.ParseFault.TheVariants.{NotInGrammar, Memory}
-use Rattle.php_grammar.specs.Grammar.{Form, Tables}
+use Rattle.php_forms.specs.Grammar.{Form, Tables}
 use Rattle.php_exprs.specs.Parsing.{◌>>=◌, given, Read, Steps, items_at, run_at, turn_at, turns_at, walk, under, begin, grown, grow, parse}
 use Rattle.php_exprs.specs.Parsed.{run_read, Extends, GivesTree, node_at, inner_at, parts_at, turned_at, grown_at, item_at, word_at, as_part, with_front, Walked, Turned}
 use Rattle.php_exprs.proofs.Forests.{depth_append, forest_assoc}

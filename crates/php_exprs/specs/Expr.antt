@@ -3,7 +3,7 @@ use Rattle.std.specs.Prelude.{◌≡◌, ℕ, ◌-◌, ◌<◌, ◌≤◌, List,
 use Rattle.php_tree.specs.declared.token.Token.{Token}
 use Rattle.php_tree.specs.declared.version.Version.{Version}
 use Rattle.php_tree.specs.Tree.{Tree}
-use Rattle.php_grammar.specs.declared.item.Sort.TheVariants.{Operand}
+use Rattle.php_forms.specs.declared.item.Sort.TheVariants.{Operand}
 use Rattle.php_exprs.specs.Reading.{Reads}
 
 -- the tokens from one place to another

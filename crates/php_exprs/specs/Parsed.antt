@@ -6,16 +6,16 @@ use Rattle.php_exprs.specs.declared.build.Built.{Built}
 use Rattle.php_exprs.specs.Built.{tree_in}
 use Rattle.php_tree.specs.declared.node.Node.{Node as TheNode}
 use Rattle.php_tree.specs.Tree.{Forest, Tree, ◌+++◌, depth}
-use Rattle.php_grammar.specs.declared.item.Sort.{Sort}
-use Rattle.php_grammar.specs.declared.item.Group.{Group}
-use Rattle.php_grammar.specs.declared.item.Item.{Item}
+use Rattle.php_forms.specs.declared.item.Sort.{Sort}
+use Rattle.php_forms.specs.declared.item.Group.{Group}
+use Rattle.php_forms.specs.declared.item.Item.{Item}
 use Rattle.php_exprs.specs.declared.fault.ParseFault.{ParseFault}
 use Rattle.php_exprs.specs.declared.fault.ParseFault.TheVariants.{NotInGrammar, Memory}
-use Rattle.php_grammar.specs.Grammar.{Tables}
+use Rattle.php_forms.specs.Grammar.{Tables}
 use Rattle.php_exprs.specs.Parsing.{◌>>=◌, given, Read, Steps, items_at, run_at, turns_at, walk, under, grow, parse}
 use Rattle.php_tree.specs.Tree.{none, leaf, node, nodes_forest}
-use Rattle.php_grammar.specs.declared.terminal.Terminal.{Terminal}
-use Rattle.php_grammar.specs.declared.item.Item.TheVariants.{Word, Node, Part, Turns, Span}
+use Rattle.php_terminals.specs.declared.terminal.Terminal.{Terminal}
+use Rattle.php_forms.specs.declared.item.Item.TheVariants.{Word, Node, Part, Turns, Span}
 
 -- The parts grew by what was read.
 abbrev pub Extends : Result (Bor (List Token)) ParseFault → Forest → Forest → ℕ → Read Forest → Type 0

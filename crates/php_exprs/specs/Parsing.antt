@@ -2,11 +2,11 @@
 use Rattle.std.specs.Prelude.{ℕ, zero, suc, ◌+◌, nat_lt, Bool, true, false, List, [], ◌∷◌, length, Option, Some, None}
 use Rattle.php_tree.specs.declared.token.Token.{Token}
 use Rattle.php_tree.specs.Tree.{depth, Forest, Tree, none, leaf, node, ◌+++◌}
-use Rattle.php_grammar.specs.declared.item.Sort.{Sort}
-use Rattle.php_grammar.specs.declared.item.Group.{Group}
-use Rattle.php_grammar.specs.declared.item.Item.{Item}
-use Rattle.php_grammar.specs.declared.item.Item.TheVariants.{Word, Node, Part, Turns, Span}
-use Rattle.php_grammar.specs.Grammar.{Form, Tables}
+use Rattle.php_forms.specs.declared.item.Sort.{Sort}
+use Rattle.php_forms.specs.declared.item.Group.{Group}
+use Rattle.php_forms.specs.declared.item.Item.{Item}
+use Rattle.php_forms.specs.declared.item.Item.TheVariants.{Word, Node, Part, Turns, Span}
+use Rattle.php_forms.specs.Grammar.{Form, Tables}
 
 infixl 10 ◌>>=◌
 abbrev pub ◌>>=◌ : {A B : Type 0} → Option A → (A → Option B) → Option B

@@ -7,12 +7,12 @@ use Rattle.php_exprs.specs.Built.{tree_in}
 use Rattle.php_tree.specs.declared.node.Node.{Node}
 use Rattle.php_tree.specs.Tree.{Forest, Tree, leaves, depth, nodes_forest}
 use Rattle.php_tree.specs.declared.version.Version.{Version}
-use Rattle.php_grammar.specs.declared.item.Sort.{Sort}
+use Rattle.php_forms.specs.declared.item.Sort.{Sort}
 use Rattle.php_exprs.specs.declared.fault.ParseFault.{ParseFault}
 use Rattle.php_exprs.specs.declared.fault.ParseFault.TheVariants.{NotInGrammar, Memory}
-use Rattle.php_grammar.specs.declared.item.Group.TheVariants.{Statements}
-use Rattle.php_grammar.specs.declared.item.Item.TheVariants.{Turns}
-use Rattle.php_grammar.specs.Grammar.{Spells, Walks}
+use Rattle.php_forms.specs.declared.item.Group.TheVariants.{Statements}
+use Rattle.php_forms.specs.declared.item.Item.TheVariants.{Turns}
+use Rattle.php_forms.specs.Grammar.{Spells, Walks}
 use Rattle.php_grammar.specs.Tables.{php}
 
 -- The tokens are those of the tree and then the rest, and the tree is less than d deep.

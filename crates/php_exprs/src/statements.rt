@@ -2,7 +2,7 @@
 ghost use Rattle.std.specs.Prelude.{◌≡◌, ◌≤◌, ◌<◌, ◌^◌, List, IfOk, length};
 ghost use Rattle.php_tree.specs.declared.token.Token.{Token};
 ghost use Rattle.php_tree.specs.Tree.{Forest, count, nodes_forest};
-ghost use Rattle.php_grammar.specs.declared.item.Group.TheVariants.{Statements};
+ghost use Rattle.php_forms.specs.declared.item.Group.TheVariants.{Statements};
 ghost use Rattle.php_grammar.specs.Tables.{php};
 ghost use Rattle.php_exprs.specs.Parsed.{GivesStatements, turned_at};
 ghost use Rattle.php_exprs.specs.Reading.{AnswersStatements, ReadsStatements};

@@ -1,4 +1,2 @@
 pub mod EdgeLemmas
-pub mod IndentLemmas
 pub mod Ranks
-pub mod WordLemmas

@@ -6,31 +6,31 @@ use Rattle.php_tree.specs.declared.token.Token.{Token}
 use Rattle.php_tree.specs.declared.version.Version.{Version}
 use Rattle.php_tree.specs.declared.version.Version.TheVariants.{V74, V83}
 use Rattle.php_tree.specs.Tree.{Tree}
-use Rattle.php_grammar.specs.declared.terminal.Terminal.{Terminal}
-use Rattle.php_grammar.specs.declared.terminal.Terminal.TheVariants as t
-use Rattle.php_grammar.specs.declared.item.Sort.{Sort}
-use Rattle.php_grammar.specs.declared.item.Sort.TheVariants as s
-use Rattle.php_grammar.specs.declared.item.Group.{Group}
-use Rattle.php_grammar.specs.declared.item.Group.TheVariants as g
-use Rattle.php_grammar.specs.declared.item.Item.{Item}
-use Rattle.php_grammar.specs.Ahead.{behind_name, first_of, is_called, past_group, second_of, third_of}
+use Rattle.php_terminals.specs.declared.terminal.Terminal.{Terminal}
+use Rattle.php_terminals.specs.declared.terminal.Terminal.TheVariants as t
+use Rattle.php_forms.specs.declared.item.Sort.{Sort}
+use Rattle.php_forms.specs.declared.item.Sort.TheVariants as s
+use Rattle.php_forms.specs.declared.item.Group.{Group}
+use Rattle.php_forms.specs.declared.item.Group.TheVariants as g
+use Rattle.php_forms.specs.declared.item.Item.{Item}
+use Rattle.php_terminals.specs.Ahead.{behind_name, first_of, is_called, past_group, second_of, third_of}
 use Rattle.php_grammar.specs.Bases.{is_callee, is_class_base, is_list, is_member_base, is_offset_base, is_target, is_variable}
-use Rattle.php_grammar.specs.Classify.{is_any_label}
-use Rattle.php_grammar.specs.Forms.{or_else, refused, when}
-use Rattle.php_grammar.specs.Grammar.{Form, IsNested, Ranked}
-use Rattle.php_grammar.specs.Heads.{attribute, attribute_83, behind_modifiers, case_form, chosen_by, chosen_form, function_form, if_form, label_form, modified_form, name_of_function, namespace_form, static_form, trait_use_form}
-use Rattle.php_grammar.specs.Indents.{is_misindented}
+use Rattle.php_terminals.specs.Classify.{is_any_label}
+use Rattle.php_forms.specs.Forms.{or_else, refused, when}
+use Rattle.php_forms.specs.Grammar.{Form, IsNested, Ranked}
+use Rattle.php_forms.specs.Heads.{attribute, attribute_83, behind_modifiers, case_form, chosen_by, chosen_form, function_form, if_form, label_form, modified_form, name_of_function, namespace_form, static_form, trait_use_form}
+use Rattle.php_terminals.specs.Indents.{is_misindented}
 use Rattle.php_grammar.specs.Levels.{binary_items, binary_level, dot_items, left_limit}
-use Rattle.php_grammar.specs.Marks.{begins_place, ends_item, goes_on, is_assign, is_double_arrow, is_double_colon, is_name_part, is_variable_start}
+use Rattle.php_terminals.specs.Marks.{begins_place, ends_item, goes_on, is_assign, is_double_arrow, is_double_colon, is_name_part, is_variable_start}
 use Rattle.php_grammar.specs.Operands.{array_word_form, bracket_form, chosen_operand, class_ref_form, created, created_by, dollar_form, entry_by, entry_list_form, instance_by, instance_ref, name_by, name_form, named_form, named_prop_form, old_cast_form, operand_by, operand_form, place_form, simple_variable_by, simple_variable_form, static_by, static_member_form, static_name_form, static_prop_form, target_by, target_list_form, yield_by}
 use Rattle.php_grammar.specs.Tables.{form, parts, php, plain_variable_form, tail}
 use Rattle.php_grammar.specs.Tails.{assign_tail, binary_tail, brace_tail, chosen_tail, class_ref_by, entry_end, entry_tail, interpolated_by, left_edge, left_fits, member_tail, operand_tail, operator_by, operator_tail, place_tail, postfix_by, postfix_tail, read_tail, refused_unless, short_left_fits, static_tail, target_tail, ternary_tail}
-use Rattle.php_grammar.specs.Atoms.{atom_form, closure_use, ctor_args, exit_code, exit_value, member, more_used, offset_key, static_member, yield_to}
-use Rattle.php_grammar.specs.Declarations.{alias, by_ref, class_alias, class_grouped, class_modifiers, class_use_rest, extends, first_value, grouped, implements, members, method_body, modifiers, more_class_consts, more_class_grouped, more_class_grouped_last, more_class_uses, more_consts, more_grouped, more_grouped_last, more_params, more_uses, more_variables, namespace_body, namespace_rest, nullable, param_type, params, parents, property_type, return_type, trait_rules, type_word, use_body, use_rest, used_class, used_grouped, variadic}
-use Rattle.php_grammar.specs.Lists.{arg_list, array_items, entry_value, item_form, item_value, list_head, list_item_form, list_more, more_args, more_args_last, more_items, more_items_last}
-use Rattle.php_grammar.specs.Names.{called_name, grouped_class, grouped_name, imported_class, imported_name, more_names, name, name_lead, name_more, name_more_label, namespace_name, root_lead}
-use Rattle.php_grammar.specs.Quoted.{named_key, quoted_parts, quoted_parts_name, simple_key}
-use Rattle.php_grammar.specs.Statements.{alt_else, alt_else_ifs, case_mark, cases, catches, caught_names, declare_body, else_ifs, else_part, exprs, finally_part, first_semi, for_body, foreach_body, foreach_target, foreach_value, handlers, loop_count, more_directives, more_exprs, more_globals, more_unset, more_unset_last, return_value, simple_form, statements, switch_body, while_body}
+use Rattle.php_forms.specs.Atoms.{atom_form, closure_use, ctor_args, exit_code, exit_value, member, more_used, offset_key, static_member, yield_to}
+use Rattle.php_forms.specs.Declarations.{alias, by_ref, class_alias, class_grouped, class_modifiers, class_use_rest, extends, first_value, grouped, implements, members, method_body, modifiers, more_class_consts, more_class_grouped, more_class_grouped_last, more_class_uses, more_consts, more_grouped, more_grouped_last, more_params, more_uses, more_variables, namespace_body, namespace_rest, nullable, param_type, params, parents, property_type, return_type, trait_rules, type_word, use_body, use_rest, used_class, used_grouped, variadic}
+use Rattle.php_forms.specs.Lists.{arg_list, array_items, entry_value, item_form, item_value, list_head, list_item_form, list_more, more_args, more_args_last, more_items, more_items_last}
+use Rattle.php_forms.specs.Names.{called_name, grouped_class, grouped_name, imported_class, imported_name, more_names, name, name_lead, name_more, name_more_label, namespace_name, root_lead}
+use Rattle.php_forms.specs.Quoted.{named_key, quoted_parts, quoted_parts_name, simple_key}
+use Rattle.php_forms.specs.Statements.{alt_else, alt_else_ifs, case_mark, cases, catches, caught_names, declare_body, else_ifs, else_part, exprs, finally_part, first_semi, for_body, foreach_body, foreach_target, foreach_value, handlers, loop_count, more_directives, more_exprs, more_globals, more_unset, more_unset_last, return_value, simple_form, statements, switch_body, while_body}
 
 -- how deep groups stand in a group
 abbrev pub rank : Group → ℕ

@@ -1,13 +1,13 @@
--- What a form asks of a token (PHP manual, "List of Keywords" and "List of other reserved words"; the RFC "Match
--- expression v2", and the UPGRADING notes of 8.0, 8.1 and 8.3 on `match`, `readonly`, `mixed` and `never`).
+-- What a form asks of a token (PHP manual, "List of Keywords" and "List of other reserved words"; the RFC on match
+-- expressions, and the UPGRADING notes of 8.0, 8.1 and 8.3 on `match`, `readonly`, `mixed` and `never`).
 use Rattle.std.specs.Prelude.{Bool, false, not, ◌||◌, ◌&&◌, nat_eq, nat_lt}
 use Rattle.php_tree.specs.declared.token.Token.{Token}
 use Rattle.php_tree.specs.declared.version.Version.{Version}
 use Rattle.php_tree.specs.declared.version.Version.TheVariants.{V74, V83}
-use Rattle.php_grammar.specs.declared.terminal.Terminal.{Terminal}
-use Rattle.php_grammar.specs.declared.terminal.Terminal.TheVariants as t
-use Rattle.php_grammar.specs.Terminals.{code}
-use Rattle.php_grammar.specs.Classify.{is_any_label, is_attribute, is_called_label, is_class, is_constant_label, is_full, is_modifier, is_plain_label, is_qualified, is_relative, is_sign_or_tight, is_word_token, names_refused, terminal}
+use Rattle.php_terminals.specs.declared.terminal.Terminal.{Terminal}
+use Rattle.php_terminals.specs.declared.terminal.Terminal.TheVariants as t
+use Rattle.php_terminals.specs.Terminals.{code}
+use Rattle.php_terminals.specs.Classify.{is_any_label, is_attribute, is_called_label, is_class, is_constant_label, is_full, is_modifier, is_plain_label, is_qualified, is_relative, is_sign_or_tight, is_word_token, names_refused, terminal}
 use Rattle.php_grammar.specs.Levels.{binary_level}
 
 -- a label that a constant, an alias, a goto or a directive may have, and a name alone: 8.3 refuses `match` and `readonly`

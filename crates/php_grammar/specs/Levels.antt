@@ -6,12 +6,12 @@ use Rattle.php_tree.specs.declared.kind.NodeKind.TheVariants as k
 use Rattle.php_tree.specs.declared.version.Version.{Version}
 use Rattle.php_tree.specs.declared.version.Version.TheVariants.{V74, V83}
 use Rattle.php_tree.specs.Tree.{Tree, none, leaf, node}
-use Rattle.php_grammar.specs.declared.terminal.Terminal.{Terminal}
-use Rattle.php_grammar.specs.declared.terminal.Terminal.TheVariants as t
-use Rattle.php_grammar.specs.declared.item.Sort.TheVariants.{Operand}
-use Rattle.php_grammar.specs.declared.item.Item.{Item}
-use Rattle.php_grammar.specs.declared.item.Item.TheVariants.{Word, Node}
-use Rattle.php_grammar.specs.Classify.{terminal}
+use Rattle.php_terminals.specs.declared.terminal.Terminal.{Terminal}
+use Rattle.php_terminals.specs.declared.terminal.Terminal.TheVariants as t
+use Rattle.php_forms.specs.declared.item.Sort.TheVariants.{Operand}
+use Rattle.php_forms.specs.declared.item.Item.{Item}
+use Rattle.php_forms.specs.declared.item.Item.TheVariants.{Word, Node}
+use Rattle.php_terminals.specs.Classify.{terminal}
 
 -- the level of `.`: 7.4 has it with `+` and `-`, 8.3 behind the shifts
 abbrev pub dot_level : Version → ℕ

@@ -4,17 +4,17 @@ use Rattle.php_tree.specs.declared.kind.NodeKind.TheVariants as k
 use Rattle.php_tree.specs.declared.token.Token.{Token}
 use Rattle.php_tree.specs.declared.version.Version.{Version}
 use Rattle.php_tree.specs.declared.version.Version.TheVariants.{V74, V83}
-use Rattle.php_grammar.specs.declared.terminal.Terminal.{Terminal}
-use Rattle.php_grammar.specs.declared.terminal.Terminal.TheVariants as t
-use Rattle.php_grammar.specs.declared.item.Sort.TheVariants as s
-use Rattle.php_grammar.specs.declared.item.Group.TheVariants as g
-use Rattle.php_grammar.specs.declared.item.Item.{Item}
-use Rattle.php_grammar.specs.declared.item.Item.TheVariants.{Word, Node, Part, Turns}
-use Rattle.php_grammar.specs.Ahead.{behind_name, first_of, is_called, past_group, second_of}
-use Rattle.php_grammar.specs.Atoms.{atom_form}
-use Rattle.php_grammar.specs.Forms.{any, or_else}
-use Rattle.php_grammar.specs.Grammar.{Form}
-use Rattle.php_grammar.specs.Marks.{begins_place, ends_item, goes_on, is_assign, is_double_colon, is_name_part, is_variable_start}
+use Rattle.php_terminals.specs.declared.terminal.Terminal.{Terminal}
+use Rattle.php_terminals.specs.declared.terminal.Terminal.TheVariants as t
+use Rattle.php_forms.specs.declared.item.Sort.TheVariants as s
+use Rattle.php_forms.specs.declared.item.Group.TheVariants as g
+use Rattle.php_forms.specs.declared.item.Item.{Item}
+use Rattle.php_forms.specs.declared.item.Item.TheVariants.{Word, Node, Part, Turns}
+use Rattle.php_terminals.specs.Ahead.{behind_name, first_of, is_called, past_group, second_of}
+use Rattle.php_forms.specs.Atoms.{atom_form}
+use Rattle.php_forms.specs.Forms.{any, or_else}
+use Rattle.php_forms.specs.Grammar.{Form}
+use Rattle.php_terminals.specs.Marks.{begins_place, ends_item, goes_on, is_assign, is_double_colon, is_name_part, is_variable_start}
 
 -- a variable that begins with `$`
 abbrev pub dollar_form : Terminal → Form

@@ -4,24 +4,24 @@ use Rattle.php_tree.specs.declared.kind.NodeKind.TheVariants as k
 use Rattle.php_tree.specs.declared.token.Token.{Token}
 use Rattle.php_tree.specs.declared.version.Version.{Version}
 use Rattle.php_tree.specs.Tree.{Tree}
-use Rattle.php_grammar.specs.declared.terminal.Terminal.{Terminal}
-use Rattle.php_grammar.specs.declared.terminal.Terminal.TheVariants as t
-use Rattle.php_grammar.specs.declared.item.Sort.{Sort}
-use Rattle.php_grammar.specs.declared.item.Sort.TheVariants as s
-use Rattle.php_grammar.specs.declared.item.Group.{Group}
-use Rattle.php_grammar.specs.declared.item.Group.TheVariants as g
-use Rattle.php_grammar.specs.declared.item.Item.{Item}
-use Rattle.php_grammar.specs.declared.item.Item.TheVariants.{Word, Part, Turns}
+use Rattle.php_terminals.specs.declared.terminal.Terminal.{Terminal}
+use Rattle.php_terminals.specs.declared.terminal.Terminal.TheVariants as t
+use Rattle.php_forms.specs.declared.item.Sort.{Sort}
+use Rattle.php_forms.specs.declared.item.Sort.TheVariants as s
+use Rattle.php_forms.specs.declared.item.Group.{Group}
+use Rattle.php_forms.specs.declared.item.Group.TheVariants as g
+use Rattle.php_forms.specs.declared.item.Item.{Item}
+use Rattle.php_forms.specs.declared.item.Item.TheVariants.{Word, Part, Turns}
 use Rattle.php_grammar.specs.Accepts.{accepts}
-use Rattle.php_grammar.specs.Ahead.{first_of, second_of, spanned}
-use Rattle.php_grammar.specs.Names.{called_name, grouped_class, grouped_name, imported_class, imported_name, more_names, name, name_lead, name_more, namespace_name, root_lead}
-use Rattle.php_grammar.specs.Statements.{alt_else, alt_else_ifs, case_mark, cases, catches, caught_names, declare_body, else_ifs, else_part, exprs, finally_part, first_semi, for_body, foreach_body, foreach_target, foreach_value, handlers, loop_count, more_directives, more_exprs, more_globals, more_unset, return_value, statements, switch_body, while_body}
-use Rattle.php_grammar.specs.Declarations.{alias, by_ref, class_alias, class_grouped, class_modifiers, class_use_rest, extends, first_value, grouped, implements, members, method_body, modifiers, more_class_consts, more_class_grouped, more_class_uses, more_consts, more_grouped, more_params, more_uses, more_variables, namespace_body, namespace_rest, nullable, param_type, params, parents, property_type, return_type, trait_rules, type_word, use_body, use_rest, used_class, used_grouped, variadic}
-use Rattle.php_grammar.specs.Lists.{arg_list, array_items, entry_value, item_form, item_value, list_head, list_item_form, list_more, more_args, more_items}
-use Rattle.php_grammar.specs.Quoted.{named_key, quoted_parts, simple_key}
-use Rattle.php_grammar.specs.Atoms.{closure_use, ctor_args, exit_code, exit_value, member, more_used, offset_key, static_member, yield_to}
-use Rattle.php_grammar.specs.Grammar.{Form, Tables}
-use Rattle.php_grammar.specs.Heads.{attribute, case_form, member_form, statement_form}
+use Rattle.php_terminals.specs.Ahead.{first_of, second_of, spanned}
+use Rattle.php_forms.specs.Names.{called_name, grouped_class, grouped_name, imported_class, imported_name, more_names, name, name_lead, name_more, namespace_name, root_lead}
+use Rattle.php_forms.specs.Statements.{alt_else, alt_else_ifs, case_mark, cases, catches, caught_names, declare_body, else_ifs, else_part, exprs, finally_part, first_semi, for_body, foreach_body, foreach_target, foreach_value, handlers, loop_count, more_directives, more_exprs, more_globals, more_unset, return_value, statements, switch_body, while_body}
+use Rattle.php_forms.specs.Declarations.{alias, by_ref, class_alias, class_grouped, class_modifiers, class_use_rest, extends, first_value, grouped, implements, members, method_body, modifiers, more_class_consts, more_class_grouped, more_class_uses, more_consts, more_grouped, more_params, more_uses, more_variables, namespace_body, namespace_rest, nullable, param_type, params, parents, property_type, return_type, trait_rules, type_word, use_body, use_rest, used_class, used_grouped, variadic}
+use Rattle.php_forms.specs.Lists.{arg_list, array_items, entry_value, item_form, item_value, list_head, list_item_form, list_more, more_args, more_items}
+use Rattle.php_forms.specs.Quoted.{named_key, quoted_parts, simple_key}
+use Rattle.php_forms.specs.Atoms.{closure_use, ctor_args, exit_code, exit_value, member, more_used, offset_key, static_member, yield_to}
+use Rattle.php_forms.specs.Grammar.{Form, Tables}
+use Rattle.php_forms.specs.Heads.{attribute, case_form, member_form, statement_form}
 use Rattle.php_grammar.specs.Operands.{class_ref_form, created, entry_form, instance_ref, operand_form, place_form, simple_variable_form, target_form, yield_value}
 use Rattle.php_grammar.specs.Tails.{class_ref_tail, entry_tail, interpolated_tail, place_tail, read_tail, target_tail}
 

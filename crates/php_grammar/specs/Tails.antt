@@ -7,19 +7,19 @@ use Rattle.php_tree.specs.declared.token.Token.{Token}
 use Rattle.php_tree.specs.declared.version.Version.{Version}
 use Rattle.php_tree.specs.declared.version.Version.TheVariants.{V74, V83}
 use Rattle.php_tree.specs.Tree.{Tree}
-use Rattle.php_grammar.specs.declared.terminal.Terminal.{Terminal}
-use Rattle.php_grammar.specs.declared.terminal.Terminal.TheVariants as t
-use Rattle.php_grammar.specs.declared.item.Sort.TheVariants as s
-use Rattle.php_grammar.specs.declared.item.Group.TheVariants as g
-use Rattle.php_grammar.specs.declared.item.Item.TheVariants.{Word, Node, Part}
-use Rattle.php_grammar.specs.Ahead.{first_of, is_called, second_of}
+use Rattle.php_terminals.specs.declared.terminal.Terminal.{Terminal}
+use Rattle.php_terminals.specs.declared.terminal.Terminal.TheVariants as t
+use Rattle.php_forms.specs.declared.item.Sort.TheVariants as s
+use Rattle.php_forms.specs.declared.item.Group.TheVariants as g
+use Rattle.php_forms.specs.declared.item.Item.TheVariants.{Word, Node, Part}
+use Rattle.php_terminals.specs.Ahead.{first_of, is_called, second_of}
 use Rattle.php_grammar.specs.Bases.{is_callee, is_class_base, is_list, is_member_base, is_offset_base, is_short_ternary, is_target, is_variable}
 use Rattle.php_grammar.specs.Edges.{edge}
-use Rattle.php_grammar.specs.Forms.{any, or_else, refused, when}
-use Rattle.php_grammar.specs.Grammar.{Form}
-use Rattle.php_grammar.specs.Indents.{is_misindented}
+use Rattle.php_forms.specs.Forms.{any, or_else, refused, when}
+use Rattle.php_forms.specs.Grammar.{Form}
+use Rattle.php_terminals.specs.Indents.{is_misindented}
 use Rattle.php_grammar.specs.Levels.{binary_items, binary_level, left_limit}
-use Rattle.php_grammar.specs.Marks.{is_double_arrow, is_variable_start}
+use Rattle.php_terminals.specs.Marks.{is_double_arrow, is_variable_start}
 
 -- an offset
 abbrev pub offset_form : Form

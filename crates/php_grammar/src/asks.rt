@@ -2,13 +2,13 @@
 ghost use Rattle.std.specs.Prelude.{◌≡◌};
 ghost use Rattle.php_grammar.specs.Accepts.{accepts, in_set, is_class_label, is_free_label, is_function_label, same_class};
 
-use crate::classify::{
+use crate::levels::binary_level;
+use php_terminals::classify::{
     is_any_label, is_attribute, is_called_label, is_class, is_constant_label, is_full, is_modifier,
     is_plain_label, is_qualified, is_relative, is_sign_or_tight, is_word_token, names_refused,
     terminal,
 };
-use crate::levels::binary_level;
-use crate::terminal::{Terminal, code};
+use php_terminals::terminal::{Terminal, code};
 use php_tree::{Token, Version};
 
 // A label that a constant, an alias, a goto or a directive may have, and a name alone.

@@ -3,10 +3,10 @@ ghost use Rattle.std.specs.Prelude.{◌≡◌};
 ghost use Rattle.php_tree.specs.Tree.{tree};
 ghost use Rattle.php_grammar.specs.Levels.{binary_items, binary_level, dot_items, dot_level, first_leaf, is_alone, left_limit, level, middle_leaf, prefix_level};
 
-use crate::classify::terminal;
-use crate::item::Item::{self, Node as Operand, Word};
-use crate::item::{NOTHING, Sort};
-use crate::terminal::Terminal;
+use php_forms::item::Item::{self, Node as Operand, Word};
+use php_forms::item::{NOTHING, Sort};
+use php_terminals::classify::terminal;
+use php_terminals::terminal::Terminal;
 use php_tree::{Node, NodeKind, Part, Version};
 
 // The level of `.`: 7.4 has it with `+` and `-`, 8.3 behind the shifts.

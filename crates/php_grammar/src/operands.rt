@@ -1,22 +1,22 @@
 // How expressions begin.
 ghost use Rattle.std.specs.Prelude.{◌≡◌, ◌↔◌, IsTrue, true};
-ghost use Rattle.php_grammar.specs.Ahead.{first_of, second_of};
-ghost use Rattle.php_grammar.specs.Forms.{form_view};
+ghost use Rattle.php_terminals.specs.Ahead.{first_of, second_of};
+ghost use Rattle.php_forms.specs.Forms.{form_view};
 ghost use Rattle.php_grammar.specs.Operands.{array_word_form, bracket_form, chosen_operand, class_ref_form, created, dollar_form, entry_form, entry_list_form, instance_ref, name_form, named_form, named_prop_form, old_cast_form, operand_form, place_form, simple_variable_form, static_member_form, static_name_form, static_operand, static_prop_form, target_form, target_list_form, yield_value};
 
-use crate::ahead::{behind, behind_name, first, is_called, past_group, second};
-use crate::atoms::{
+use php_forms::atoms::{
     ARRAY_BRACKETS, ARRAY_WORD, CALL, CONSTANT, CREATED_CLASS, CREATED_NAME, CREATED_REF,
     CREATED_STATIC, LIST_BRACKETS, LIST_WORD, NAME_CALL, NAME_CONST, NAME_PROP, OLD_CAST, REF,
     STATIC, STATIC_ARROW, STATIC_CALL, STATIC_CLOSURE, STATIC_CONST, STATIC_PROP, VARIABLE,
     VARIABLE_BRACES, VARIABLE_DOLLAR, YIELDED, atom_form,
 };
-use crate::forms::or_else;
-use crate::item::{Form, Item, NOTHING};
-use crate::marks::{
+use php_forms::forms::or_else;
+use php_forms::item::{Form, Item, NOTHING};
+use php_terminals::ahead::{behind, behind_name, first, is_called, past_group, second};
+use php_terminals::marks::{
     begins_place, ends_item, goes_on, is_assign, is_double_colon, is_name_part, is_variable_start,
 };
-use crate::terminal::Terminal;
+use php_terminals::terminal::Terminal;
 use php_tree::{NodeKind, Token, Version};
 
 // A variable that begins with `$`.

@@ -1,22 +1,22 @@
 // How expressions go on.
 ghost use Rattle.std.specs.Prelude.{◌≡◌};
 ghost use Rattle.php_tree.specs.Tree.{tree};
-ghost use Rattle.php_grammar.specs.Forms.{form_view, when};
+ghost use Rattle.php_forms.specs.Forms.{form_view, when};
 ghost use Rattle.php_grammar.specs.Tails.{assign_tail, binary_tail, brace_tail, chosen_tail, class_ref_tail, entry_end, entry_tail, interpolated_tail, left_edge, left_fits, member_tail, operand_tail, operator_tail, place_tail, postfix_tail, read_tail, refused_unless, short_left_fits, static_tail, target_tail, ternary_tail};
 
-use crate::ahead::{behind, first, is_called, second};
 use crate::bases::{
     is_callee, is_class_base, is_list, is_member_base, is_offset_base, is_short_ternary, is_target,
     is_variable,
 };
 use crate::edges::edge;
-use crate::forms::or_else;
-use crate::indents::is_misindented;
-use crate::item::Item::{self, Node as Operand, Part, Word};
-use crate::item::{ANY, Form, Group, Sort};
 use crate::levels::{binary_items, binary_level, left_limit};
-use crate::marks::{is_double_arrow, is_variable_start};
-use crate::terminal::Terminal;
+use php_forms::forms::or_else;
+use php_forms::item::Item::{self, Node as Operand, Part, Word};
+use php_forms::item::{ANY, Form, Group, Sort};
+use php_terminals::ahead::{behind, first, is_called, second};
+use php_terminals::indents::is_misindented;
+use php_terminals::marks::{is_double_arrow, is_variable_start};
+use php_terminals::terminal::Terminal;
 use php_tree::{Node, NodeKind, Token, Version};
 
 static OFFSET: [Item; 3] = [

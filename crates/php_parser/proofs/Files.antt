@@ -4,9 +4,9 @@ use Rattle.php_tree.specs.declared.token.Token.{Token}
 use Rattle.php_tree.specs.declared.node.Node.{Node}
 use Rattle.php_tree.specs.declared.version.Version.{Version}
 use Rattle.php_tree.specs.Tree.{File, Forest, depth, leaves, file_leaves, nodes_forest}
-use Rattle.php_grammar.specs.declared.item.Group.TheVariants.{Statements}
-use Rattle.php_grammar.specs.declared.item.Item.TheVariants.{Turns}
-use Rattle.php_grammar.specs.Grammar.{Walks}
+use Rattle.php_forms.specs.declared.item.Group.TheVariants.{Statements}
+use Rattle.php_forms.specs.declared.item.Item.TheVariants.{Turns}
+use Rattle.php_forms.specs.Grammar.{Walks}
 use Rattle.php_grammar.specs.Tables.{php}
 use Rattle.php_exprs.specs.Reading.{ReadsStatements}
 use Rattle.php_exprs.proofs.Forests.{some_is}

@@ -6,9 +6,9 @@ use Rattle.php_tree.specs.declared.version.Version.{Version}
 use Rattle.php_tree.specs.declared.version.Version.TheVariants.{V74, V83}
 use Rattle.php_tree.specs.Tree.{File, depth, file_leaves}
 use Rattle.php_tree.specs.Whole.{file}
-use Rattle.php_grammar.specs.declared.item.Group.TheVariants.{Statements}
-use Rattle.php_grammar.specs.declared.item.Item.TheVariants.{Turns}
-use Rattle.php_grammar.specs.Grammar.{Walks}
+use Rattle.php_forms.specs.declared.item.Group.TheVariants.{Statements}
+use Rattle.php_forms.specs.declared.item.Item.TheVariants.{Turns}
+use Rattle.php_forms.specs.Grammar.{Walks}
 use Rattle.php_grammar.specs.Tables.{php}
 use Rattle.php_exprs.specs.declared.fault.ParseFault.{ParseFault}
 use Rattle.php_exprs.specs.declared.fault.ParseFault.TheVariants.{NotInGrammar, Memory}

@@ -6,7 +6,7 @@ use Rattle.php_tree.specs.Tree.{depth, tree, Forest, Tree, node, none, ◌+++◌
 use Rattle.php_grammar.specs.Tables.{php, parts, form, tail}
 use Rattle.php_exprs.specs.Built.{forest_in, tree_in}
 use Rattle.php_exprs.specs.Parsed.{item_at, run_read, inner_at, Extends, Walked}
-use Rattle.php_grammar.specs.declared.item.Item.{Item}
+use Rattle.php_forms.specs.declared.item.Item.{Item}
 use Rattle.php_exprs.proofs.Steps.{child_extends, child_fails, walked_first, walked_more, walked_fails, walked_ends, turned_first, turned_ends, turned_fails, turned_stays, turned_more, inner_none, inner_is, node_none, node_no_form, node_fails, node_grows, grow_ends, grow_deep, grow_fails, grow_goes, extends_low, extends_high, drop_past, stays_none, turned_breaks, turned_on}
 use Rattle.php_exprs.proofs.engine.+engine.Goals as goal
 

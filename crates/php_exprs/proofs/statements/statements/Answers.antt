@@ -3,8 +3,8 @@ use Rattle.std.proofs.lemmas.Grind.{common_steps}
 use Rattle.std.proofs.lemmas.Result.{err_from_is_err_and}
 use Rattle.php_tree.specs.declared.node.Node.{Node}
 use Rattle.php_tree.specs.Tree.{Forest, ◌+++◌, alone, none, nodes_forest, tree}
-use Rattle.php_grammar.specs.declared.item.Group.TheVariants.{Statements}
-use Rattle.php_grammar.specs.declared.item.Sort.TheVariants.{Statement}
+use Rattle.php_forms.specs.declared.item.Group.TheVariants.{Statements}
+use Rattle.php_forms.specs.declared.item.Sort.TheVariants.{Statement}
 use Rattle.php_grammar.specs.Tables.{php, parts}
 use Rattle.php_exprs.specs.Parsing.{Read}
 use Rattle.php_exprs.specs.Parsed.{Extends, inner_at, node_at}

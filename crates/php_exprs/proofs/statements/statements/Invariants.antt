@@ -1,6 +1,6 @@
 use Rattle.std.proofs.Common.{length}
 use Rattle.php_tree.specs.Tree.{none, nodes_forest}
-use Rattle.php_grammar.specs.declared.item.Group.TheVariants.{Statements}
+use Rattle.php_forms.specs.declared.item.Group.TheVariants.{Statements}
 use Rattle.php_grammar.specs.Tables.{php}
 use Rattle.php_exprs.specs.Parsed.{Turned}
 use Rattle.php_exprs.proofs.statements.statements.Given as goal

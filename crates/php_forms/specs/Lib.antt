@@ -1,0 +1,9 @@
+pub mod Atoms
+pub mod Declarations
+pub mod Forms
+pub mod Grammar
+pub mod Heads
+pub mod Lists
+pub mod Names
+pub mod Quoted
+pub mod Statements

@@ -1,0 +1,6 @@
+pub mod Ahead
+pub mod Classify
+pub mod Indents
+pub mod Marks
+pub mod Terminals
+pub mod Words

@@ -1,0 +1,10 @@
+//! What tokens are to the grammar of PHP: the class of each, words told by their texts, what stands ahead, and the
+//! indentation of heredocs.
+#![tactic(auto)]
+
+pub mod ahead;
+pub mod classify;
+pub mod indents;
+pub mod marks;
+pub mod terminal;
+pub mod words;
