@@ -1,6 +1,6 @@
 -- What is counted behind a word is the longest.
 use Rattle.std.proofs.Common.{◌≡◌, ℕ, zero, suc, ◌+◌, ◌<◌, ◌≤◌, Bool, true, false, cond, ◌&&◌, nat_eq, List, [], ◌∷◌, length, take, drop, Option, Some, None, refl, ap, subst, arith}
-use Rattle.php_lexer.specs.Bytes.{is_empty, starts_by}
+use Rattle.php_spellings.specs.Bytes.{is_empty, starts_by}
 use Rattle.php_lexer.specs.Heredocs.{led, no_more}
 use Rattle.php_lexer.specs.Scan.{add_to, here_len, nothing_if, behind}
 use Rattle.php_lexer.proofs.Counts.{Describes, some_take}

@@ -2,11 +2,11 @@
 use Rattle.std.proofs.Common.{◌≡◌, ℕ, zero, suc, ◌+◌, ◌<◌, ◌≤◌, Bool, true, false, not, cond, ◌&&◌, nat_eq, nat_lt, List, [], ◌∷◌, length, take, drop, Option, Some, None, refl, sym, ap, ◌∙◌, subst, arith}
 use Rattle.std.proofs.lemmas.List.{take-append-drop}
 use Rattle.std.proofs.lemmas.Bool.{ltb-true, ltb-false, eqb-true}
-use Rattle.php_lexer.specs.declared.table.Kind.{Kind}
-use Rattle.php_lexer.specs.declared.table.State.{State}
-use Rattle.php_lexer.specs.declared.table.Run.{Run}
-use Rattle.php_lexer.specs.declared.table.Until.{Until}
-use Rattle.php_lexer.specs.Bytes.{is_empty}
+use Rattle.php_spellings.specs.declared.table.Kind.{Kind}
+use Rattle.php_spellings.specs.declared.table.State.{State}
+use Rattle.php_spellings.specs.declared.table.Run.{Run}
+use Rattle.php_spellings.specs.declared.table.Until.{Until}
+use Rattle.php_spellings.specs.Bytes.{is_empty}
 use Rattle.php_lexer.specs.Tails.{goes, moved, closes, bars, turned, is_run, is_until, some_run}
 use Rattle.php_lexer.specs.Scan.{add_to, run_len, until_len, some_len, some_run_len, longer}
 

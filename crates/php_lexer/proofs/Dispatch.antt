@@ -4,15 +4,15 @@ use Rattle.std.proofs.lemmas.Bool.{eqb-true}
 use Rattle.std.proofs.lemmas.Bool.Decides.{nat_tests}
 use Rattle.php_tree.specs.declared.version.Version.{Version}
 use Rattle.php_tree.specs.declared.version.Version.TheVariants.{V74, V83}
-use Rattle.php_lexer.specs.declared.table.Kind.{Kind}
-use Rattle.php_lexer.specs.declared.table.Kind.TheVariants.{Space, Word, Name}
-use Rattle.php_lexer.specs.declared.table.State.TheVariants.{First}
-use Rattle.php_lexer.specs.declared.table.Run.TheVariants.{Spaces}
-use Rattle.php_lexer.specs.declared.table.Shape.TheVariants as shape
-use Rattle.php_lexer.specs.declared.table.Spot.TheVariants.{Begin}
-use Rattle.php_lexer.specs.declared.table.Tail.{Tail}
-use Rattle.php_lexer.specs.declared.table.Tail.TheVariants.{SomeOf, Shaped, AnyWord}
-use Rattle.php_lexer.specs.Bytes.{is_space, is_digit, is_letter, lower}
+use Rattle.php_spellings.specs.declared.table.Kind.{Kind}
+use Rattle.php_spellings.specs.declared.table.Kind.TheVariants.{Space, Word, Name}
+use Rattle.php_spellings.specs.declared.table.State.TheVariants.{First}
+use Rattle.php_spellings.specs.declared.table.Run.TheVariants.{Spaces}
+use Rattle.php_spellings.specs.declared.table.Shape.TheVariants as shape
+use Rattle.php_spellings.specs.declared.table.Spot.TheVariants.{Begin}
+use Rattle.php_spellings.specs.declared.table.Tail.{Tail}
+use Rattle.php_spellings.specs.declared.table.Tail.TheVariants.{SomeOf, Shaped, AnyWord}
+use Rattle.php_spellings.specs.Bytes.{is_space, is_digit, is_letter, lower}
 use Rattle.php_lexer.specs.Rules.{Row, rule}
 use Rattle.php_lexer.specs.RulesCode.{number_rows, common_rows, code_rows}
 use Rattle.php_lexer.specs.Letters.{letter_rows}

@@ -1,7 +1,7 @@
 -- Documented rows of the token tables, computed.
 use Rattle.std.proofs.Common.{◌≡◌, Some, None, refl, codes}
 use Rattle.php_tree.specs.declared.version.Version.TheVariants.{V74, V83}
-use Rattle.php_lexer.specs.declared.table.Kind.TheVariants.{Comment, Tag, InlineHtml, Word, Keyword, Name, Octal, Float, Text, Cast, Op}
+use Rattle.php_spellings.specs.declared.table.Kind.TheVariants.{Comment, Tag, InlineHtml, Word, Keyword, Name, Octal, Float, Text, Cast, Op}
 use Rattle.php_lexer.specs.Modes.{html, code}
 use Rattle.php_lexer.specs.Scan.{scan}
 

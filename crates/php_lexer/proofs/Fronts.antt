@@ -6,21 +6,21 @@ use Rattle.php_tree.specs.declared.token.Token.{Token}
 use Rattle.php_tree.specs.declared.token.TokenKind.{TokenKind}
 use Rattle.php_tree.specs.declared.token.TokenKind.TheVariants.{End}
 use Rattle.php_tree.specs.Places.{ArePlaced, behind}
-use Rattle.php_lexer.specs.declared.table.Kind.{Kind}
-use Rattle.php_lexer.specs.declared.table.Mark.{Mark}
-use Rattle.php_lexer.specs.declared.table.Mark.TheVariants.{Double, Back, Here}
+use Rattle.php_spellings.specs.declared.table.Kind.{Kind}
+use Rattle.php_spellings.specs.declared.table.Mark.{Mark}
+use Rattle.php_spellings.specs.declared.table.Mark.TheVariants.{Double, Back, Here}
 use Rattle.php_lexer.specs.declared.fault.LexFault.{LexFault}
 use Rattle.php_lexer.specs.declared.fault.LexFault.TheVariants.{OpenText, OpenComment, OpenHeredoc, BadByte, TooLong, Memory}
 use Rattle.php_lexer.specs.declared.modes.Mode.{Mode as CodeMode}
 use Rattle.php_lexer.specs.declared.modes.Mode.TheVariants.{Html}
 use Rattle.php_lexer.specs.declared.modes.Turn.{Turn as CodeTurn}
-use Rattle.php_lexer.specs.Bytes.{starts_word}
-use Rattle.php_lexer.specs.Words.{token_of}
+use Rattle.php_spellings.specs.Bytes.{starts_word}
+use Rattle.php_spellings.specs.Words.{token_of}
 use Rattle.php_lexer.specs.Modes.{Mode, html, code, named, quoted, offset, property, Turn, stay, enter, leave, turn_of, IsLongest, HasNone}
 use Rattle.php_lexer.specs.Lexed.{Lexeme, Stack, Lexed, ends, trivia, token, Stops, here, unended, later, turned_by, turn_at, after, Effect, opens, closes, keeps, effect, deeper, faults_by, opened_by, less, less_one, fault_at, code_fault, open_fault, start, lexeme, TokensOf}
 use Rattle.php_lexer.specs.Views.{mode_of, turn_seen, below_of, stack_of, top_after, below_after, IsAfter, IsNoted, first_fault, token_cut, lexemes, Front, Meets}
 use Rattle.php_lexer.proofs.Labels.{drop_drop}
-use Rattle.php_lexer.proofs.Steps.{drop_end}
+use Rattle.php_spellings.proofs.StartLemmas.{drop_end}
 
 abbrev Some_fault : LexFault → Option LexFault
 Some_fault f = Some f

@@ -1,7 +1,7 @@
 -- What is counted of the end of a heredoc and of a nowdoc is the longest.
 use Rattle.std.proofs.Common.{◌≡◌, ℕ, zero, suc, ◌+◌, ◌<◌, ◌≤◌, Bool, true, false, cond, ◌&&◌, List, [], ◌∷◌, length, take, drop, Option, Some, None, refl, sym, ap, ◌∙◌, subst, arith}
 use Rattle.std.proofs.lemmas.List.{take-append-drop}
-use Rattle.php_lexer.specs.Bytes.{as_it_is, is_blank_byte, is_line_end}
+use Rattle.php_spellings.specs.Bytes.{as_it_is, is_blank_byte, is_line_end}
 use Rattle.php_lexer.specs.Heredocs.{led, no_more, no_label, ends_heredoc, is_end_line, is_body, begins_nowdoc, nowdoc_label, nowdoc_head, is_nowdoc}
 use Rattle.php_lexer.specs.Scan.{add_to, behind, nothing_if, last_label_len, end_line_len, body_len, nowdoc_len}
 use Rattle.php_lexer.proofs.Counts.{Describes}

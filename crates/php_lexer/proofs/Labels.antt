@@ -2,8 +2,8 @@
 use Rattle.std.proofs.Common.{◌≡◌, ℕ, zero, suc, ◌+◌, ◌-◌, ◌≤◌, true, nat_le, List, [], ◌∷◌, length, take, drop, refl, sym, ap, ◌∙◌, arith}
 use Rattle.std.proofs.lemmas.Bool.{le-leb}
 use Rattle.std.proofs.lemmas.List.{drop-take}
-use Rattle.php_lexer.specs.declared.table.Mark.TheVariants.{Here}
-use Rattle.php_lexer.specs.Bytes.{label_len}
+use Rattle.php_spellings.specs.declared.table.Mark.TheVariants.{Here}
+use Rattle.php_spellings.specs.Bytes.{label_len}
 use Rattle.php_lexer.specs.Modes.{code, quoted, enter, label_place, label_of}
 use Rattle.php_lexer.specs.Views.{cut}
 

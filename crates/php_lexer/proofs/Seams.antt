@@ -1,14 +1,14 @@
 -- Where UTF-8 may be cut: behind or before an ASCII byte. No run, text or shape ends within a character.
 use Rattle.std.proofs.Common.{◌≡◌, ℕ, zero, suc, ◌+◌, Bool, true, false, cond, ◌&&◌, ◌||◌, nat_eq, nat_lt, nat_le, List, [], ◌∷◌, Option, Some, None, refl, sym, ◌∙◌, arith}
 use Rattle.std.proofs.lemmas.Bool.Decides.{nat_tests}
-use Rattle.php_lexer.specs.declared.table.State.{State}
-use Rattle.php_lexer.specs.declared.table.State.TheVariants.{First, Plain, Escaped}
-use Rattle.php_lexer.specs.declared.table.Mark.TheVariants.{Double, Back, Here}
-use Rattle.php_lexer.specs.declared.table.Run.{Run}
-use Rattle.php_lexer.specs.declared.table.Run.TheVariants.{Spaces, Labels, Line, HashLine, Html, Body}
-use Rattle.php_lexer.specs.declared.table.Until.{Until}
-use Rattle.php_lexer.specs.declared.table.Until.TheVariants.{Simple, Closed, Block, CastWord, From}
-use Rattle.php_lexer.specs.Bytes.{is_line_end, is_space, is_letter, is_label_byte, lower}
+use Rattle.php_spellings.specs.declared.table.State.{State}
+use Rattle.php_spellings.specs.declared.table.State.TheVariants.{First, Plain, Escaped}
+use Rattle.php_spellings.specs.declared.table.Mark.TheVariants.{Double, Back, Here}
+use Rattle.php_spellings.specs.declared.table.Run.{Run}
+use Rattle.php_spellings.specs.declared.table.Run.TheVariants.{Spaces, Labels, Line, HashLine, Html, Body}
+use Rattle.php_spellings.specs.declared.table.Until.{Until}
+use Rattle.php_spellings.specs.declared.table.Until.TheVariants.{Simple, Closed, Block, CastWord, From}
+use Rattle.php_spellings.specs.Bytes.{is_line_end, is_space, is_letter, is_label_byte, lower}
 use Rattle.php_lexer.specs.Tails.{begins_part, in_piece, in_line, goes, escape, moved, closes, bars, turned}
 use Rattle.php_lexer.specs.Scan.{add_to, run_len, until_len}
 

@@ -1,7 +1,7 @@
 -- What is counted of a shape is the longest.
 use Rattle.std.proofs.Common.{◌≡◌, ℕ, zero, suc, ◌+◌, ◌<◌, ◌≤◌, Bool, true, false, cond, List, [], ◌∷◌, length, take, Option, Some, None, refl, arith}
-use Rattle.php_lexer.specs.declared.table.Shape.{Shape}
-use Rattle.php_lexer.specs.declared.table.Spot.{Spot}
+use Rattle.php_spellings.specs.declared.table.Shape.{Shape}
+use Rattle.php_spellings.specs.declared.table.Spot.{Spot}
 use Rattle.php_lexer.specs.Shapes.{step, may_end, is_stuck, has_shape}
 use Rattle.php_lexer.specs.Scan.{add_to, or_else, here_len, shape_len}
 use Rattle.php_lexer.proofs.Counts.{Describes}

@@ -1,11 +1,11 @@
 -- No shape ends within a character.
 use Rattle.std.proofs.Common.{◌≡◌, ℕ, ◌+◌, Bool, true, false, cond, ◌&&◌, ◌||◌, nat_le, List, [], ◌∷◌, ◌⊎◌, inl, inr, Option, Some, None, refl, sym, ◌∙◌, arith}
 use Rattle.std.proofs.lemmas.Bool.Decides.{nat_tests}
-use Rattle.php_lexer.specs.declared.table.Shape.{Shape}
-use Rattle.php_lexer.specs.declared.table.Shape.TheVariants as shape
-use Rattle.php_lexer.specs.declared.table.Spot.{Spot}
-use Rattle.php_lexer.specs.declared.table.Spot.TheVariants.{Begin, Whole, WholeGap, LeadPoint, Point, Part, PartGap, Mark, Sign, Power, PowerGap, FirstLabel, Backslash, LaterLabel, OpenedLabel, QuotedLabel, ClosedLabel, Return, Line, Stuck}
-use Rattle.php_lexer.specs.Bytes.{is_blank_byte, is_digit, lower}
+use Rattle.php_spellings.specs.declared.table.Shape.{Shape}
+use Rattle.php_spellings.specs.declared.table.Shape.TheVariants as shape
+use Rattle.php_spellings.specs.declared.table.Spot.{Spot}
+use Rattle.php_spellings.specs.declared.table.Spot.TheVariants.{Begin, Whole, WholeGap, LeadPoint, Point, Part, PartGap, Mark, Sign, Power, PowerGap, FirstLabel, Backslash, LaterLabel, OpenedLabel, QuotedLabel, ClosedLabel, Return, Line, Stuck}
+use Rattle.php_spellings.specs.Bytes.{is_blank_byte, is_digit, lower}
 use Rattle.php_lexer.specs.Shapes.{is_octal_digit, is_binary_digit, is_hex_digit, is_exponent, is_sign, digits_step, decimal_step, float_step, heredoc_step, step, may_end, is_stuck}
 use Rattle.php_lexer.specs.Scan.{add_to, or_else, here_len, shape_len}
 use Rattle.php_lexer.proofs.Seams.{small, cuts, cuts_next, or_true, some_same, big_eq, big_letter, big_label, big_lower}

@@ -3,9 +3,9 @@ use Rattle.std.proofs.Common.{Option, Some, None, inl, inr, ◌≡◌, ℕ, ◌+
 use Rattle.std.proofs.lemmas.Bool.{cases_lt}
 use Rattle.php_tree.specs.declared.version.Version.{Version}
 use Rattle.php_tree.specs.declared.token.TokenKind.{TokenKind}
-use Rattle.php_lexer.specs.declared.table.Kind.{Kind}
+use Rattle.php_spellings.specs.declared.table.Kind.{Kind}
 use Rattle.php_lexer.specs.declared.fault.LexFault.{LexFault}
-use Rattle.php_lexer.specs.Words.{token_of}
+use Rattle.php_spellings.specs.Words.{token_of}
 use Rattle.php_lexer.specs.Modes.{Mode, html, code, named, quoted, offset, property, kind_of, IsLongest, Turn, stay, enter, leave}
 use Rattle.php_lexer.specs.Lexed.{Lexeme, Stack, Lexed, ends, trivia, token, Stops, here, unended, later, turn_at, after, opened_by, effect, deeper, turned_by}
 use Rattle.php_lexer.proofs.Longest.{longest_some}

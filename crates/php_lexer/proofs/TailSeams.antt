@@ -5,15 +5,15 @@ use Rattle.std.proofs.lemmas.Str.{IsUtf8-take, IsUtf8-drop, IsCharBoundary-befor
 use Rattle.std.specs.Str.{IsUtf8, IsCharBoundary}
 use Rattle.php_tree.specs.declared.version.Version.{Version}
 use Rattle.php_tree.specs.declared.version.Version.TheVariants.{V74, V83}
-use Rattle.php_lexer.specs.declared.table.Kind.{Kind}
-use Rattle.php_lexer.specs.declared.table.Mark.TheVariants.{Double, Back, Here}
-use Rattle.php_lexer.specs.declared.table.State.{State}
-use Rattle.php_lexer.specs.declared.table.State.TheVariants.{First}
-use Rattle.php_lexer.specs.declared.table.Run.{Run}
-use Rattle.php_lexer.specs.declared.table.Run.TheVariants.{Labels}
-use Rattle.php_lexer.specs.declared.table.Tail.{Tail}
-use Rattle.php_lexer.specs.declared.table.Tail.TheVariants.{When, AnyRun, SomeOf, UpTo, Shaped, AnyWord, BracedName, EndLine, NowdocRest}
-use Rattle.php_lexer.specs.Bytes.{is_blank_byte, is_line_end, is_label_byte, lower, as_it_is, begins, starts_by}
+use Rattle.php_spellings.specs.declared.table.Kind.{Kind}
+use Rattle.php_spellings.specs.declared.table.Mark.TheVariants.{Double, Back, Here}
+use Rattle.php_spellings.specs.declared.table.State.{State}
+use Rattle.php_spellings.specs.declared.table.State.TheVariants.{First}
+use Rattle.php_spellings.specs.declared.table.Run.{Run}
+use Rattle.php_spellings.specs.declared.table.Run.TheVariants.{Labels}
+use Rattle.php_spellings.specs.declared.table.Tail.{Tail}
+use Rattle.php_spellings.specs.declared.table.Tail.TheVariants.{When, AnyRun, SomeOf, UpTo, Shaped, AnyWord, BracedName, EndLine, NowdocRest}
+use Rattle.php_spellings.specs.Bytes.{is_blank_byte, is_line_end, is_label_byte, lower, as_it_is, begins, starts_by}
 use Rattle.php_lexer.specs.Heredocs.{no_label, ends_heredoc, begins_nowdoc, nowdoc_label, nowdoc_head}
 use Rattle.php_lexer.specs.Rules.{Row, rule, follows, is_b, begins_text}
 use Rattle.php_lexer.specs.Modes.{Mode, html, code, named, quoted, offset, property, rows_of, label_in, IsLongest}

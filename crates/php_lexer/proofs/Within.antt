@@ -1,9 +1,9 @@
 -- What is counted is within the bytes.
 use Rattle.std.proofs.Common.{◌≡◌, ℕ, zero, suc, ◌+◌, ◌≤◌, ◌<◌, nat_eq, ◌∙◌, Bool, true, false, ◌&&◌, List, [], ◌∷◌, length, drop, Option, Some, None, refl, sym, subst, arith, length-drop}
 use Rattle.std.specs.Prelude.{IfSome}
-use Rattle.php_lexer.specs.declared.table.Tail.{Tail}
+use Rattle.php_spellings.specs.declared.table.Tail.{Tail}
 use Rattle.std.proofs.lemmas.List.Folds.{length-prefix_len}
-use Rattle.php_lexer.specs.Bytes.{is_letter, is_label_byte, is_line_end, begins, begins_by, blanks_len, skip_blanks, label_len}
+use Rattle.php_spellings.specs.Bytes.{is_letter, is_label_byte, is_line_end, begins, begins_by, blanks_len, skip_blanks, label_len}
 use Rattle.php_lexer.specs.Heredocs.{is_body, begins_nowdoc, behind_quote, nowdoc_label, nowdoc_head}
 use Rattle.php_lexer.specs.Rules.{is_tail}
 use Rattle.php_lexer.specs.Scan.{body_len, tail_len}

@@ -2,10 +2,10 @@
 use Rattle.std.proofs.Common.{◌≡◌, ℕ, zero, suc, ◌+◌, ◌<◌, ◌≤◌, Bool, true, false, not, cond, ◌&&◌, ◌||◌, nat_eq, List, [], ◌∷◌, length, take, drop, ◌⊎◌, inl, inr, Option, Some, None, refl, subst, arith}
 use Rattle.std.proofs.lemmas.Bool.{eqb-true, cases_lt}
 use Rattle.std.proofs.lemmas.List.{length-take-le}
-use Rattle.php_lexer.specs.declared.table.State.{State}
-use Rattle.php_lexer.specs.declared.table.State.TheVariants.{First, Plain, Escaped}
-use Rattle.php_lexer.specs.declared.table.Run.TheVariants.{Labels}
-use Rattle.php_lexer.specs.Bytes.{is_empty, begins, lower}
+use Rattle.php_spellings.specs.declared.table.State.{State}
+use Rattle.php_spellings.specs.declared.table.State.TheVariants.{First, Plain, Escaped}
+use Rattle.php_spellings.specs.declared.table.Run.TheVariants.{Labels}
+use Rattle.php_spellings.specs.Bytes.{is_empty, begins, lower}
 use Rattle.php_lexer.specs.Tails.{goes, moved, some_run}
 use Rattle.php_lexer.specs.Rules.{is_b, begins_text, is_any_word, is_braced_name}
 use Rattle.php_lexer.specs.Scan.{run_len, some_len, some_run_len, word_len, name_len}

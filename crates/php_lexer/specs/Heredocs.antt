@@ -1,7 +1,7 @@
 -- The ends of heredocs and nowdocs (PHP manual, "Strings: Heredoc" and "Nowdoc"; RFC "Flexible Heredoc and Nowdoc
 -- Syntaxes").
 use Rattle.std.specs.Prelude.{ℕ, ◌+◌, Bool, false, cond, not, ◌&&◌, nat_eq, List, [], ◌∷◌, ◌++◌, length, take, drop}
-use Rattle.php_lexer.specs.Bytes.{is_blank_byte, is_line_end, is_letter, is_label_byte, as_it_is, is_empty, starts, begins, begins_by, skip_blanks, blanks_len, label_len}
+use Rattle.php_spellings.specs.Bytes.{is_blank_byte, is_line_end, is_letter, is_label_byte, as_it_is, is_empty, starts, begins, begins_by, skip_blanks, blanks_len, label_len}
 
 -- no byte of a label follows
 abbrev pub no_label : List ℕ → Bool

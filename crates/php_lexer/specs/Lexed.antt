@@ -5,13 +5,13 @@ use Rattle.php_tree.specs.declared.token.TokenKind.{TokenKind}
 use Rattle.php_tree.specs.declared.token.TokenKind.TheVariants.{End}
 use Rattle.php_tree.specs.declared.token.Token.{Token}
 use Rattle.php_tree.specs.Places.{ArePlaced}
-use Rattle.php_lexer.specs.declared.table.Kind.{Kind}
-use Rattle.php_lexer.specs.declared.table.Mark.{Mark}
-use Rattle.php_lexer.specs.declared.table.Mark.TheVariants.{Double, Back, Here}
+use Rattle.php_spellings.specs.declared.table.Kind.{Kind}
+use Rattle.php_spellings.specs.declared.table.Mark.{Mark}
+use Rattle.php_spellings.specs.declared.table.Mark.TheVariants.{Double, Back, Here}
 use Rattle.php_lexer.specs.declared.fault.LexFault.{LexFault}
 use Rattle.php_lexer.specs.declared.fault.LexFault.TheVariants.{OpenText, OpenComment, OpenHeredoc, BadByte, TooLong, Memory}
-use Rattle.php_lexer.specs.Bytes.{starts_word}
-use Rattle.php_lexer.specs.Words.{token_of}
+use Rattle.php_spellings.specs.Bytes.{starts_word}
+use Rattle.php_spellings.specs.Words.{token_of}
 use Rattle.php_lexer.specs.Modes.{Mode, html, code, named, quoted, offset, property, Turn, stay, enter, leave, turn_of, IsLongest, HasNone}
 
 -- A token without its place: its kind, the trivia before it, and its text.

@@ -1,8 +1,6 @@
-pub mod Bytes
 pub mod Heredocs
 pub mod Tails
 pub mod Shapes
-pub mod Words
 pub mod Rules
 pub mod RulesCode
 pub mod RulesQuoted

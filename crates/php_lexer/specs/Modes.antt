@@ -3,11 +3,11 @@ use Rattle.std.specs.Prelude.{◌≡◌, ℕ, ◌-◌, ◌<◌, ◌≤◌, Bool,
 use Rattle.std.specs.List.{prefix_len}
 use Rattle.php_tree.specs.declared.version.Version.{Version}
 use Rattle.php_tree.specs.declared.version.Version.TheVariants.{V74, V83}
-use Rattle.php_lexer.specs.declared.table.Kind.{Kind}
-use Rattle.php_lexer.specs.declared.table.Kind.TheVariants.{InlineHtml, Variable, Label, Quote, Backtick, HeredocStart, Op, Close, CurlyOpen, DollarBrace, QuotedEnd}
-use Rattle.php_lexer.specs.declared.table.Mark.{Mark}
-use Rattle.php_lexer.specs.declared.table.Mark.TheVariants.{Double, Back, Here}
-use Rattle.php_lexer.specs.Bytes.{is_letter, is_line_end, begins, begins_by, label_len}
+use Rattle.php_spellings.specs.declared.table.Kind.{Kind}
+use Rattle.php_spellings.specs.declared.table.Kind.TheVariants.{InlineHtml, Variable, Label, Quote, Backtick, HeredocStart, Op, Close, CurlyOpen, DollarBrace, QuotedEnd}
+use Rattle.php_spellings.specs.declared.table.Mark.{Mark}
+use Rattle.php_spellings.specs.declared.table.Mark.TheVariants.{Double, Back, Here}
+use Rattle.php_spellings.specs.Bytes.{is_letter, is_line_end, begins, begins_by, label_len}
 use Rattle.php_lexer.specs.Rules.{Row, kind_by}
 use Rattle.php_lexer.specs.RulesCode.{html_rows, code_rows}
 use Rattle.php_lexer.specs.RulesQuoted.{quoted_rows, named_rows, offset_rows, property_rows}

@@ -1,13 +1,13 @@
 -- A row of the token tables: a kind, the word that its texts begin with, and what may stand behind the word.
 use Rattle.std.specs.Prelude.{ℕ, Bool, true, false, not, ◌&&◌, ◌||◌, cond, nat_eq, List, [], ◌∷◌, drop, Option, Some, None, codes}
-use Rattle.php_lexer.specs.declared.table.Kind.{Kind}
-use Rattle.php_lexer.specs.declared.table.State.TheVariants.{First}
-use Rattle.php_lexer.specs.declared.table.Run.TheVariants.{Labels}
-use Rattle.php_lexer.specs.declared.table.Follow.{Follow}
-use Rattle.php_lexer.specs.declared.table.Follow.TheVariants.{Anything, Nothing, NoStar, Dollar, NoNowdocAfterOne, NoNowdocAfterTwo}
-use Rattle.php_lexer.specs.declared.table.Tail.{Tail}
-use Rattle.php_lexer.specs.declared.table.Tail.TheVariants.{When, AnyRun, SomeOf, UpTo, Shaped, AnyWord, BracedName, EndLine, NowdocRest}
-use Rattle.php_lexer.specs.Bytes.{lower, is_empty, starts_word, begins, begins_by}
+use Rattle.php_spellings.specs.declared.table.Kind.{Kind}
+use Rattle.php_spellings.specs.declared.table.State.TheVariants.{First}
+use Rattle.php_spellings.specs.declared.table.Run.TheVariants.{Labels}
+use Rattle.php_spellings.specs.declared.table.Follow.{Follow}
+use Rattle.php_spellings.specs.declared.table.Follow.TheVariants.{Anything, Nothing, NoStar, Dollar, NoNowdocAfterOne, NoNowdocAfterTwo}
+use Rattle.php_spellings.specs.declared.table.Tail.{Tail}
+use Rattle.php_spellings.specs.declared.table.Tail.TheVariants.{When, AnyRun, SomeOf, UpTo, Shaped, AnyWord, BracedName, EndLine, NowdocRest}
+use Rattle.php_spellings.specs.Bytes.{lower, is_empty, starts_word, begins, begins_by}
 use Rattle.php_lexer.specs.Heredocs.{led, no_more, is_end_line, begins_nowdoc, is_nowdoc}
 use Rattle.php_lexer.specs.Tails.{is_run, some_run, is_until}
 use Rattle.php_lexer.specs.Shapes.{has_shape}

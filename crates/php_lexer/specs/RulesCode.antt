@@ -2,15 +2,15 @@
 use Rattle.std.specs.Prelude.{List, [], ◌∷◌, ◌++◌, map, codes}
 use Rattle.php_tree.specs.declared.version.Version.{Version}
 use Rattle.php_tree.specs.declared.version.Version.TheVariants.{V74, V83}
-use Rattle.php_lexer.specs.declared.table.Kind.TheVariants.{Space, Comment, Tag, OpenEcho, InlineHtml, Variable, Word, Keyword, Name, Decimal, Octal, Hexadecimal, Binary, Float, Text, Quote, Backtick, HeredocStart, Cast, Op, AttributeOpen, Semi, Close}
-use Rattle.php_lexer.specs.declared.table.State.TheVariants.{First}
-use Rattle.php_lexer.specs.declared.table.Run.TheVariants.{Spaces, Labels, Line, HashLine, Html}
-use Rattle.php_lexer.specs.declared.table.Until.TheVariants.{Simple, Closed, Block, CastWord, From}
-use Rattle.php_lexer.specs.declared.table.Shape.TheVariants as shape
-use Rattle.php_lexer.specs.declared.table.Spot.TheVariants.{Begin, Whole}
-use Rattle.php_lexer.specs.declared.table.Follow.TheVariants.{Anything, Nothing, NoStar, NoNowdocAfterOne, NoNowdocAfterTwo}
-use Rattle.php_lexer.specs.declared.table.Tail.TheVariants.{When, AnyRun, SomeOf, UpTo, Shaped, AnyWord, NowdocRest}
-use Rattle.php_lexer.specs.Words.{operators}
+use Rattle.php_spellings.specs.declared.table.Kind.TheVariants.{Space, Comment, Tag, OpenEcho, InlineHtml, Variable, Word, Keyword, Name, Decimal, Octal, Hexadecimal, Binary, Float, Text, Quote, Backtick, HeredocStart, Cast, Op, AttributeOpen, Semi, Close}
+use Rattle.php_spellings.specs.declared.table.State.TheVariants.{First}
+use Rattle.php_spellings.specs.declared.table.Run.TheVariants.{Spaces, Labels, Line, HashLine, Html}
+use Rattle.php_spellings.specs.declared.table.Until.TheVariants.{Simple, Closed, Block, CastWord, From}
+use Rattle.php_spellings.specs.declared.table.Shape.TheVariants as shape
+use Rattle.php_spellings.specs.declared.table.Spot.TheVariants.{Begin, Whole}
+use Rattle.php_spellings.specs.declared.table.Follow.TheVariants.{Anything, Nothing, NoStar, NoNowdocAfterOne, NoNowdocAfterTwo}
+use Rattle.php_spellings.specs.declared.table.Tail.TheVariants.{When, AnyRun, SomeOf, UpTo, Shaped, AnyWord, NowdocRest}
+use Rattle.php_spellings.specs.Words.{operators}
 use Rattle.php_lexer.specs.Rules.{Row, rule}
 
 -- ---- code

@@ -2,16 +2,16 @@
 use Rattle.std.specs.Prelude.{Bool, true, false, List, [], ◌∷◌, codes}
 use Rattle.php_tree.specs.declared.version.Version.{Version}
 use Rattle.php_tree.specs.declared.version.Version.TheVariants.{V74, V83}
-use Rattle.php_lexer.specs.declared.table.Kind.TheVariants.{Variable, Label, Digits, Op, Piece, CurlyOpen, DollarBrace, VarName, QuotedEnd}
-use Rattle.php_lexer.specs.declared.table.State.{State}
-use Rattle.php_lexer.specs.declared.table.State.TheVariants.{First, Plain}
-use Rattle.php_lexer.specs.declared.table.Mark.{Mark}
-use Rattle.php_lexer.specs.declared.table.Mark.TheVariants.{Double, Back, Here}
-use Rattle.php_lexer.specs.declared.table.Run.TheVariants.{Labels, Body}
-use Rattle.php_lexer.specs.declared.table.Shape.TheVariants as shape
-use Rattle.php_lexer.specs.declared.table.Spot.TheVariants.{Begin}
-use Rattle.php_lexer.specs.declared.table.Follow.TheVariants.{Anything, Dollar}
-use Rattle.php_lexer.specs.declared.table.Tail.TheVariants.{When, SomeOf, Shaped, BracedName, EndLine}
+use Rattle.php_spellings.specs.declared.table.Kind.TheVariants.{Variable, Label, Digits, Op, Piece, CurlyOpen, DollarBrace, VarName, QuotedEnd}
+use Rattle.php_spellings.specs.declared.table.State.{State}
+use Rattle.php_spellings.specs.declared.table.State.TheVariants.{First, Plain}
+use Rattle.php_spellings.specs.declared.table.Mark.{Mark}
+use Rattle.php_spellings.specs.declared.table.Mark.TheVariants.{Double, Back, Here}
+use Rattle.php_spellings.specs.declared.table.Run.TheVariants.{Labels, Body}
+use Rattle.php_spellings.specs.declared.table.Shape.TheVariants as shape
+use Rattle.php_spellings.specs.declared.table.Spot.TheVariants.{Begin}
+use Rattle.php_spellings.specs.declared.table.Follow.TheVariants.{Anything, Dollar}
+use Rattle.php_spellings.specs.declared.table.Tail.TheVariants.{When, SomeOf, Shaped, BracedName, EndLine}
 use Rattle.php_lexer.specs.Rules.{Row, rule}
 use Rattle.php_lexer.specs.RulesCode.{code_rows}
 

@@ -1,17 +1,17 @@
 -- The lengths that the lexer counts, for each row and for the longest token.
 use Rattle.std.specs.Prelude.{ℕ, ◌+◌, Bool, false, ◌&&◌, ◌||◌, cond, nat_eq, nat_lt, List, [], ◌∷◌, length, take, drop, Option, Some, None}
 use Rattle.php_tree.specs.declared.version.Version.{Version}
-use Rattle.php_lexer.specs.declared.table.Kind.{Kind}
-use Rattle.php_lexer.specs.declared.table.State.{State}
-use Rattle.php_lexer.specs.declared.table.State.TheVariants.{First}
-use Rattle.php_lexer.specs.declared.table.Run.{Run}
-use Rattle.php_lexer.specs.declared.table.Run.TheVariants.{Labels}
-use Rattle.php_lexer.specs.declared.table.Until.{Until}
-use Rattle.php_lexer.specs.declared.table.Shape.{Shape}
-use Rattle.php_lexer.specs.declared.table.Spot.{Spot}
-use Rattle.php_lexer.specs.declared.table.Tail.{Tail}
-use Rattle.php_lexer.specs.declared.table.Tail.TheVariants.{When, AnyRun, SomeOf, UpTo, Shaped, AnyWord, BracedName, EndLine, NowdocRest}
-use Rattle.php_lexer.specs.Bytes.{lower, as_it_is, is_blank_byte, is_line_end, begins, starts_by}
+use Rattle.php_spellings.specs.declared.table.Kind.{Kind}
+use Rattle.php_spellings.specs.declared.table.State.{State}
+use Rattle.php_spellings.specs.declared.table.State.TheVariants.{First}
+use Rattle.php_spellings.specs.declared.table.Run.{Run}
+use Rattle.php_spellings.specs.declared.table.Run.TheVariants.{Labels}
+use Rattle.php_spellings.specs.declared.table.Until.{Until}
+use Rattle.php_spellings.specs.declared.table.Shape.{Shape}
+use Rattle.php_spellings.specs.declared.table.Spot.{Spot}
+use Rattle.php_spellings.specs.declared.table.Tail.{Tail}
+use Rattle.php_spellings.specs.declared.table.Tail.TheVariants.{When, AnyRun, SomeOf, UpTo, Shaped, AnyWord, BracedName, EndLine, NowdocRest}
+use Rattle.php_spellings.specs.Bytes.{lower, as_it_is, is_blank_byte, is_line_end, begins, starts_by}
 use Rattle.php_lexer.specs.Heredocs.{no_label, ends_heredoc, begins_nowdoc, nowdoc_label, nowdoc_head}
 use Rattle.php_lexer.specs.Tails.{goes, moved, closes, bars, turned}
 use Rattle.php_lexer.specs.Shapes.{step, may_end, is_stuck}

@@ -1,14 +1,14 @@
 -- What may stand behind the word that begins a token. A text is judged whole, together with the bytes that follow it.
 use Rattle.std.specs.Prelude.{ℕ, Bool, true, false, not, ◌&&◌, ◌||◌, cond, nat_eq, List, [], ◌∷◌, ◌++◌, length, drop, codes}
-use Rattle.php_lexer.specs.declared.table.State.{State}
-use Rattle.php_lexer.specs.declared.table.State.TheVariants.{First, Plain, Escaped}
-use Rattle.php_lexer.specs.declared.table.Mark.{Mark}
-use Rattle.php_lexer.specs.declared.table.Mark.TheVariants.{Double, Back, Here}
-use Rattle.php_lexer.specs.declared.table.Run.{Run}
-use Rattle.php_lexer.specs.declared.table.Run.TheVariants.{Spaces, Labels, Line, HashLine, Html, Body}
-use Rattle.php_lexer.specs.declared.table.Until.{Until}
-use Rattle.php_lexer.specs.declared.table.Until.TheVariants.{Simple, Closed, Block, CastWord, From}
-use Rattle.php_lexer.specs.Bytes.{is_blank_byte, is_line_end, is_space, is_letter, is_label_byte, lower, is_empty, starts_word, begins, begins_by}
+use Rattle.php_spellings.specs.declared.table.State.{State}
+use Rattle.php_spellings.specs.declared.table.State.TheVariants.{First, Plain, Escaped}
+use Rattle.php_spellings.specs.declared.table.Mark.{Mark}
+use Rattle.php_spellings.specs.declared.table.Mark.TheVariants.{Double, Back, Here}
+use Rattle.php_spellings.specs.declared.table.Run.{Run}
+use Rattle.php_spellings.specs.declared.table.Run.TheVariants.{Spaces, Labels, Line, HashLine, Html, Body}
+use Rattle.php_spellings.specs.declared.table.Until.{Until}
+use Rattle.php_spellings.specs.declared.table.Until.TheVariants.{Simple, Closed, Block, CastWord, From}
+use Rattle.php_spellings.specs.Bytes.{is_blank_byte, is_line_end, is_space, is_letter, is_label_byte, lower, is_empty, starts_word, begins, begins_by}
 use Rattle.php_lexer.specs.Heredocs.{no_label, ends_heredoc}
 
 -- ---- runs: texts that go on byte by byte

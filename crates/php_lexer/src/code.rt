@@ -1,14 +1,14 @@
 // The longest token of code.
 ghost use Rattle.std.specs.Prelude.{◌≡◌, ◌∷◌, [], true, false, nat_eq, IsTrue};
-ghost use Rattle.php_lexer.specs.Bytes.{is_letter, is_digit, is_space};
+ghost use Rattle.php_spellings.specs.Bytes.{is_letter, is_digit, is_space};
 ghost use Rattle.php_lexer.specs.RulesCode.{common_rows, code_rows, number_rows};
 ghost use Rattle.php_lexer.specs.Letters.{letter_rows};
 ghost use Rattle.php_lexer.specs.Scan.{scan_by};
 
-use crate::classes::{digit, letter, lower, space};
 use crate::marks::{hash, mark_scan};
 use crate::rows::{longer, word};
-use crate::table::{Follow, Kind, Run, Shape, Spot, State, Tail, Until};
+use php_spellings::classes::{digit, letter, lower, space};
+use php_spellings::table::{Follow, Kind, Run, Shape, Spot, State, Tail, Until};
 use php_tree::Version;
 
 // A letter that begins `yield`, or is `b` before a text.

@@ -1,15 +1,15 @@
 // The ends of heredocs and nowdocs.
 ghost use Rattle.std.specs.Prelude.{◌≡◌, ◌≤◌, ◌<◌, ◌+◌, ◌^◌, ◌∷◌, [], length, drop, IfSome, false};
-ghost use Rattle.php_lexer.specs.Bytes.{skip_blanks};
+ghost use Rattle.php_spellings.specs.Bytes.{skip_blanks};
 ghost use Rattle.php_lexer.specs.Heredocs.{begins_label, ends_heredoc, behind_quote, begins_nowdoc, nowdoc_label, nowdoc_head};
 ghost use Rattle.php_lexer.specs.Scan.{end_line_len, body_len, nowdoc_len, add_to};
 
-use crate::classes::{
+use php_spellings::classes::{
     blanks, first_is, first_letter, first_line_end, label_byte, label_bytes, line_end, starts_with,
 };
 
 // Whether the bytes begin with the label, and no byte of a label follows it.
-#[tactic(auto, using(crate::proofs::Steps::starts_within))]
+#[tactic(auto, using(php_spellings::proofs::StartLemmas::starts_within))]
 fn label_only(label: &[u8], bytes: &[u8]) -> bool
     ensures { result ≡ begins_label label.now bytes.now }
 {
@@ -32,7 +32,7 @@ pub fn last_line(label: &[u8], bytes: &[u8]) -> bool
 }
 
 // The length of blanks and the label, where no byte of a label follows.
-#[tactic(auto, using(crate::proofs::Steps::end_line_is, crate::proofs::Steps::starts_within, crate::proofs::Steps::label_len_is))]
+#[tactic(auto, using(crate::proofs::Steps::end_line_is, php_spellings::proofs::StartLemmas::starts_within, crate::proofs::Steps::label_len_is))]
 pub fn end_line_length(label: &[u8], bytes: &[u8]) -> Option<usize>
     ensures count { result ≡ end_line_len label.now bytes.now }
     ensures within { IfSome result (λ n. n ≤ length bytes.now) }

@@ -3,12 +3,12 @@ ghost use Rattle.std.specs.Prelude.{◌≡◌, ◌≤◌, ◌<◌, ◌^◌, ◌+
 ghost use Rattle.php_lexer.specs.Lexed.{fault_at, code_fault, open_fault, byte_limit, TokensOf, IsFault};
 ghost use Rattle.php_lexer.specs.Views.{token_cut, mode_of, Meets, IsAfter, IsNoted, first_fault};
 
-use crate::classes::starts_word;
 use crate::fault::LexFault;
 use crate::modes::{Mode, Turn, turn_of};
-use crate::numbers::token_kind;
 use crate::scan::next;
-use crate::table::Mark;
+use php_spellings::classes::starts_word;
+use php_spellings::numbers::token_kind;
+use php_spellings::table::Mark;
 use php_tree::{Token, TokenKind, Version};
 use span_edits::Bytes;
 use std::alloc::{AllocError, Global};

@@ -1,20 +1,16 @@
 //! The tokens of PHP 7.4 and 8.3, each the longest of its mode, with no byte lost.
 #![tactic(auto)]
 
-mod classes;
 mod code;
 mod fault;
 mod heredocs;
-mod keywords;
 mod laws;
 mod lexer;
 mod marks;
 mod modes;
-mod numbers;
 mod rows;
 mod scan;
 mod shapes;
-mod table;
 mod walks;
 
 pub use fault::LexFault;

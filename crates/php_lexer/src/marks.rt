@@ -1,18 +1,18 @@
 // The longest token of code that begins with a mark, by the bytes behind the mark.
 ghost use Rattle.std.specs.Prelude.{◌≡◌, ◌≤◌, ◌<◌, ◌+◌, ◌^◌, ◌∷◌, [], length, drop, cond, IfSome, Some, None, false};
 ghost use Rattle.php_tree.specs.declared.version.Version.TheVariants.{V74};
-ghost use Rattle.php_lexer.specs.Bytes.{starts_word, is_letter, is_space, is_digit};
+ghost use Rattle.php_spellings.specs.Bytes.{starts_word, is_letter, is_space, is_digit};
 ghost use Rattle.php_lexer.specs.RulesCode.{common_rows, code_rows};
 ghost use Rattle.php_lexer.specs.Scan.{add_to, tail_len, scan_by};
 
-use crate::classes::starts_word;
 use crate::rows::{bounded_length, longer, word};
-use crate::table::{Follow, Kind, Run, Shape, Spot, State, Tail, Until};
+use php_spellings::classes::starts_word;
+use php_spellings::table::{Follow, Kind, Run, Shape, Spot, State, Tail, Until};
 use php_tree::Version;
 
 // The length of a word, by the part of it behind the mark and its whole length, and of what stands
 // behind it.
-#[tactic(auto, using(crate::proofs::Steps::word_within))]
+#[tactic(auto, using(php_spellings::proofs::StartLemmas::word_within))]
 fn behind(word: &[u8], len: usize, tail: Tail, rest: &[u8]) -> Option<usize>
     requires short { len ≤ 8 }
     ensures { result ≡ cond (starts_word word.now rest.now) (add_to len (tail_len [] tail (drop (length word.now) rest.now))) None }

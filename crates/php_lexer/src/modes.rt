@@ -1,11 +1,11 @@
 // Which mode a token leaves.
 ghost use Rattle.std.specs.Prelude.{◌≡◌, ◌≤◌, ◌+◌, ◌<◌, ◌∷◌, [], length, take, drop, nat_eq, true};
-ghost use Rattle.php_lexer.specs.declared.table.Mark.TheVariants.{Here};
+ghost use Rattle.php_spellings.specs.declared.table.Mark.TheVariants.{Here};
 ghost use Rattle.php_lexer.specs.Modes.{is_byte, brace_turn, begins_arrow, begins_property, part_turn, ends_line, code_turn, quoted_turn, turn_of, html, code, quoted, offset, property, enter, label_of, label_place};
 ghost use Rattle.php_lexer.specs.Views.{mode_of, turn_seen, cut};
 
-use crate::classes::{first_is, first_letter, label_bytes, letter, line_end};
-use crate::table::{Kind, Mark};
+use php_spellings::classes::{first_is, first_letter, label_bytes, letter, line_end};
+use php_spellings::table::{Kind, Mark};
 use php_tree::Version;
 
 /// A mode of the lexer; a heredoc's label stands at `from..to`.

@@ -1,16 +1,16 @@
 // The lengths that the rows of the token tables count.
 ghost use Rattle.std.specs.Prelude.{◌≡◌, ◌≤◌, ◌<◌, ◌+◌, ◌∷◌, ◌&&◌, [], length, take, drop, cond, IfSome, Some, None};
-ghost use Rattle.php_lexer.specs.declared.table.State.TheVariants.{First};
-ghost use Rattle.php_lexer.specs.Bytes.{lower, starts_word};
+ghost use Rattle.php_spellings.specs.declared.table.State.TheVariants.{First};
+ghost use Rattle.php_spellings.specs.Bytes.{lower, starts_word};
 ghost use Rattle.php_lexer.specs.Heredocs.{begins_nowdoc};
 ghost use Rattle.php_lexer.specs.Rules.{follows, begins_text, is_b};
 ghost use Rattle.php_lexer.specs.Scan.{some_len, some_run_len, word_len, name_len, here_len, nothing_if, tail_len, behind, longer};
 
-use crate::classes::{first_is, lower, starts_word};
 use crate::heredocs::{end_line_length, nowdoc_length, opens_nowdoc};
 use crate::shapes::shape_length;
-use crate::table::{Follow, Kind, Run, State, Tail};
 use crate::walks::{run_length, until_length};
+use php_spellings::classes::{first_is, lower, starts_word};
+use php_spellings::table::{Follow, Kind, Run, State, Tail};
 
 fn positive(n: usize) -> Option<usize>
     ensures { result ≡ some_len n }
@@ -19,7 +19,7 @@ fn positive(n: usize) -> Option<usize>
 }
 
 // Whether the first line of a nowdoc begins behind these of its `<<<`.
-#[tactic(auto, using(crate::proofs::Steps::word_within))]
+#[tactic(auto, using(php_spellings::proofs::StartLemmas::word_within))]
 fn nowdoc_behind(marks: &[u8], bytes: &[u8]) -> bool
     ensures { result ≡ (starts_word marks.now bytes.now && begins_nowdoc (drop (length marks.now) bytes.now)) }
 {
@@ -132,7 +132,7 @@ pub fn bounded_length(tail: Tail, label: &[u8], bytes: &[u8]) -> Option<usize>
 }
 
 // The length of the word and what stands behind it.
-#[tactic(auto, using(crate::proofs::Steps::word_within))]
+#[tactic(auto, using(php_spellings::proofs::StartLemmas::word_within))]
 pub fn word(word: &[u8], tail: Tail, label: &[u8], bytes: &[u8]) -> Option<usize>
     ensures { result ≡ behind lower word.now (tail_len label.now tail) bytes.now }
 {

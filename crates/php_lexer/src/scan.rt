@@ -3,16 +3,16 @@ ghost use Rattle.std.specs.Prelude.{cond, Some, None, ◌≡◌, ◌≤◌, ◌+
 ghost use Rattle.php_lexer.specs.RulesCode.{html_rows};
 ghost use Rattle.php_lexer.specs.RulesQuoted.{end_rows, from_line, quoted_rows, offset_rows, property_rows};
 ghost use Rattle.php_lexer.specs.Modes.{kind_of, IsLongest, HasNone};
-ghost use Rattle.php_lexer.specs.declared.table.Follow.TheVariants.{Anything};
-ghost use Rattle.php_lexer.specs.declared.table.Tail.TheVariants.{When};
-ghost use Rattle.php_lexer.specs.Bytes.{lower};
+ghost use Rattle.php_spellings.specs.declared.table.Follow.TheVariants.{Anything};
+ghost use Rattle.php_spellings.specs.declared.table.Tail.TheVariants.{When};
+ghost use Rattle.php_spellings.specs.Bytes.{lower};
 ghost use Rattle.php_lexer.specs.Scan.{behind, tail_len, scan_by, scan};
 ghost use Rattle.php_lexer.specs.Views.{mode_of, cut};
 
 use crate::code::code_scan;
 use crate::modes::Mode;
 use crate::rows::{longer, word};
-use crate::table::{Follow, Kind, Mark, Run, Shape, Spot, State, Tail};
+use php_spellings::table::{Follow, Kind, Mark, Run, Shape, Spot, State, Tail};
 use php_tree::Version;
 
 fn alone(text: &[u8], bytes: &[u8]) -> Option<usize>

@@ -2,10 +2,10 @@
 ghost use Rattle.std.specs.Prelude.{◌≡◌, ◌≤◌, ◌+◌, length, IfSome, cond, Some, nat_eq};
 ghost use Rattle.php_lexer.specs.Shapes.{is_octal_digit, is_binary_digit, is_hex_digit, is_exponent, is_sign, digits_step, decimal_step, float_step, name_step, line_end_step, heredoc_step, step, may_end, is_stuck};
 ghost use Rattle.php_lexer.specs.Scan.{shape_len};
-ghost use Rattle.php_lexer.specs.declared.table.Shape.TheVariants.{Decimal};
+ghost use Rattle.php_spellings.specs.declared.table.Shape.TheVariants.{Decimal};
 
-use crate::classes::{blank_byte, digit, label_byte, letter, lower};
-use crate::table::{Shape, Spot};
+use php_spellings::classes::{blank_byte, digit, label_byte, letter, lower};
+use php_spellings::table::{Shape, Spot};
 
 fn octal_digit(byte: u8) -> bool
     ensures { result ≡ is_octal_digit byte }

@@ -1,15 +1,15 @@
 // How far runs go, and where texts with a closing byte end.
 ghost use Rattle.std.specs.Prelude.{◌≡◌, ◌≤◌, ◌+◌, ◌∷◌, length, drop, IfSome, codes};
-ghost use Rattle.php_lexer.specs.declared.table.State.TheVariants.{First};
+ghost use Rattle.php_spellings.specs.declared.table.State.TheVariants.{First};
 ghost use Rattle.php_lexer.specs.Heredocs.{no_label};
 ghost use Rattle.php_lexer.specs.Tails.{begins_part, begins_tag, in_piece, in_line, goes, escape, moved, word_alone, begins_type, closes, bars, turned};
 ghost use Rattle.php_lexer.specs.Scan.{run_len, until_len};
 
-use crate::classes::{
+use crate::heredocs::last_line;
+use php_spellings::classes::{
     blank_byte, first_is, first_space, label_byte, letter, line_end, lower, space, starts_word,
 };
-use crate::heredocs::last_line;
-use crate::table::{Mark, Run, State, Until};
+use php_spellings::table::{Mark, Run, State, Until};
 
 // Whether a part of a quoted text begins with the byte.
 fn part(byte: u8, rest: &[u8]) -> bool
@@ -22,7 +22,7 @@ fn part(byte: u8, rest: &[u8]) -> bool
 }
 
 // Whether an opening tag begins, behind its `<`.
-#[tactic(auto, using(crate::proofs::Steps::word_within))]
+#[tactic(auto, using(php_spellings::proofs::StartLemmas::word_within))]
 fn tag(rest: &[u8]) -> bool
     ensures { result ≡ begins_tag rest.now }
 {
@@ -131,7 +131,7 @@ fn next_state(run: Run, state: State, byte: u8) -> State
 }
 
 // The length of the run.
-#[tactic(auto, using(crate::proofs::Steps::run_step, crate::proofs::Steps::run_stop, crate::proofs::Steps::run_end, crate::proofs::Steps::split))]
+#[tactic(auto, using(crate::proofs::Steps::run_step, crate::proofs::Steps::run_stop, crate::proofs::Steps::run_end, php_spellings::proofs::StartLemmas::split))]
 pub fn run_length(run: Run, label: &[u8], first: State, bytes: &[u8]) -> usize
     ensures count { result ≡ run_len run label.now first bytes.now }
     ensures within { result ≤ length bytes.now }
@@ -149,7 +149,7 @@ pub fn run_length(run: Run, label: &[u8], first: State, bytes: &[u8]) -> usize
 }
 
 // Whether the word begins the bytes, and no byte of a label follows it.
-#[tactic(auto, using(crate::proofs::Steps::word_within))]
+#[tactic(auto, using(php_spellings::proofs::StartLemmas::word_within))]
 fn word_only(word: &[u8], bytes: &[u8]) -> bool
     ensures { result ≡ word_alone word.now bytes.now }
 {
@@ -282,7 +282,7 @@ fn later_state(until: Until, state: State, byte: u8) -> State
 }
 
 // The length of a text up to its closing byte.
-#[tactic(auto, using(crate::proofs::Steps::until_step, crate::proofs::Steps::until_bar, crate::proofs::Steps::until_close, crate::proofs::Steps::until_end, crate::proofs::Steps::split))]
+#[tactic(auto, using(crate::proofs::Steps::until_step, crate::proofs::Steps::until_bar, crate::proofs::Steps::until_close, crate::proofs::Steps::until_end, php_spellings::proofs::StartLemmas::split))]
 pub fn until_length(until: Until, bytes: &[u8]) -> Option<usize>
     ensures count { result ≡ until_len until First bytes.now }
     ensures within { IfSome result (λ n. n ≤ length bytes.now) }

@@ -5,8 +5,8 @@ use Rattle.std.proofs.lemmas.List.{take-append-le, length-append}
 use Rattle.std.proofs.Math.Seq.{take-append-add}
 use Rattle.php_tree.specs.declared.version.Version.{Version}
 use Rattle.php_tree.specs.declared.version.Version.TheVariants.{V74, V83}
-use Rattle.php_lexer.specs.declared.table.Kind.{Kind}
-use Rattle.php_lexer.specs.Bytes.{begins}
+use Rattle.php_spellings.specs.declared.table.Kind.{Kind}
+use Rattle.php_spellings.specs.Bytes.{begins}
 use Rattle.php_lexer.specs.RulesCode.{code_rows}
 use Rattle.php_lexer.specs.Modes.{code, kind_of, IsLongest}
 use Rattle.php_relexing.specs.Tiles.{Tile, tile, joined, Tiled, is_bracket, is_far, begins_words, leaves_words, is_near, AllNear, BracketComesIn}

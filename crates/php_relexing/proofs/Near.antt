@@ -1,15 +1,15 @@
 -- No token that looks near goes over a bracket, or asks what follows one.
 use Rattle.std.proofs.Common.{◌≡◌, ℕ, Bool, true, false, not, nat_eq, ◌&&◌, ◌||◌, List, [], ◌∷◌, ◌++◌, ◌⊎◌, inl, inr, None, refl, sym, ap, ◌∙◌, arith}
 use Rattle.std.proofs.lemmas.Bool.Decides.{nat_tests}
-use Rattle.php_lexer.specs.declared.table.Kind.{Kind}
-use Rattle.php_lexer.specs.declared.table.State.{State}
-use Rattle.php_lexer.specs.declared.table.State.TheVariants.{First, Plain, Escaped}
-use Rattle.php_lexer.specs.declared.table.Run.{Run}
-use Rattle.php_lexer.specs.declared.table.Run.TheVariants.{Spaces, Labels, Line, HashLine, Html, Body}
-use Rattle.php_lexer.specs.declared.table.Follow.TheVariants.{Anything, Nothing, NoStar, Dollar, NoNowdocAfterOne, NoNowdocAfterTwo}
-use Rattle.php_lexer.specs.declared.table.Tail.{Tail}
-use Rattle.php_lexer.specs.declared.table.Tail.TheVariants.{When, AnyRun, SomeOf, UpTo, Shaped, AnyWord, BracedName, EndLine, NowdocRest}
-use Rattle.php_lexer.specs.Bytes.{is_empty, lower, begins}
+use Rattle.php_spellings.specs.declared.table.Kind.{Kind}
+use Rattle.php_spellings.specs.declared.table.State.{State}
+use Rattle.php_spellings.specs.declared.table.State.TheVariants.{First, Plain, Escaped}
+use Rattle.php_spellings.specs.declared.table.Run.{Run}
+use Rattle.php_spellings.specs.declared.table.Run.TheVariants.{Spaces, Labels, Line, HashLine, Html, Body}
+use Rattle.php_spellings.specs.declared.table.Follow.TheVariants.{Anything, Nothing, NoStar, Dollar, NoNowdocAfterOne, NoNowdocAfterTwo}
+use Rattle.php_spellings.specs.declared.table.Tail.{Tail}
+use Rattle.php_spellings.specs.declared.table.Tail.TheVariants.{When, AnyRun, SomeOf, UpTo, Shaped, AnyWord, BracedName, EndLine, NowdocRest}
+use Rattle.php_spellings.specs.Bytes.{is_empty, lower, begins}
 use Rattle.php_lexer.specs.Heredocs.{led}
 use Rattle.php_lexer.specs.Tails.{goes, moved, is_run, some_run}
 use Rattle.php_lexer.specs.Rules.{Row, rule, is_tail, is_b, begins_text, is_any_word, kind_by}

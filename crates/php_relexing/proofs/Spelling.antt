@@ -3,8 +3,8 @@ use Rattle.std.proofs.Common.{◌≡◌, ℕ, suc, Option, Some, None, List, [],
 use Rattle.std.proofs.Math.Seq.{take-append_seam, drop-append_seam}
 use Rattle.php_tree.specs.declared.version.Version.{Version}
 use Rattle.php_tree.specs.declared.token.TokenKind.{TokenKind}
-use Rattle.php_lexer.specs.declared.table.Kind.{Kind}
-use Rattle.php_lexer.specs.Words.{token_of}
+use Rattle.php_spellings.specs.declared.table.Kind.{Kind}
+use Rattle.php_spellings.specs.Words.{token_of}
 use Rattle.php_lexer.specs.Modes.{IsLongest}
 use Rattle.php_lexer.specs.Lexed.{Stack, Lexed, ends, trivia, token, after}
 use Rattle.php_relexing.specs.Tiles.{Tile, joined}

@@ -2,12 +2,12 @@
 use Rattle.std.proofs.Common.{◌≡◌, ℕ, suc, ◌+◌, ◌≤◌, Bool, true, false, cond, List, [], ◌∷◌, ◌++◌, length, Option, Some, None, codes, refl, subst, arith}
 use Rattle.php_tree.specs.declared.version.Version.{Version}
 use Rattle.php_tree.specs.declared.version.Version.TheVariants.{V74, V83}
-use Rattle.php_lexer.specs.declared.table.Kind.TheVariants.{Op, Cast, Text}
-use Rattle.php_lexer.specs.declared.table.State.{State}
-use Rattle.php_lexer.specs.declared.table.State.TheVariants.{First}
-use Rattle.php_lexer.specs.declared.table.Until.{Until}
-use Rattle.php_lexer.specs.declared.table.Until.TheVariants.{Simple, CastWord}
-use Rattle.php_lexer.specs.Bytes.{is_blank_byte}
+use Rattle.php_spellings.specs.declared.table.Kind.TheVariants.{Op, Cast, Text}
+use Rattle.php_spellings.specs.declared.table.State.{State}
+use Rattle.php_spellings.specs.declared.table.State.TheVariants.{First}
+use Rattle.php_spellings.specs.declared.table.Until.{Until}
+use Rattle.php_spellings.specs.declared.table.Until.TheVariants.{Simple, CastWord}
+use Rattle.php_spellings.specs.Bytes.{is_blank_byte}
 use Rattle.php_lexer.specs.Tails.{bars, closes, turned, begins_type}
 use Rattle.php_lexer.specs.Modes.{code, IsLongest}
 use Rattle.php_lexer.specs.Scan.{scan, until_len, add_to, longer}

@@ -1,8 +1,8 @@
 -- Tokens and trivia of code in a row, and where a bracket may come in between two of them.
 use Rattle.std.specs.Prelude.{◌≡◌, ℕ, suc, Bool, true, not, ◌&&◌, ◌||◌, cond, nat_eq, List, [], ◌∷◌, ◌++◌, length}
 use Rattle.php_tree.specs.declared.version.Version.{Version}
-use Rattle.php_lexer.specs.declared.table.Kind.{Kind}
-use Rattle.php_lexer.specs.Bytes.{lower, begins}
+use Rattle.php_spellings.specs.declared.table.Kind.{Kind}
+use Rattle.php_spellings.specs.Bytes.{lower, begins}
 use Rattle.php_lexer.specs.Modes.{code, IsLongest}
 
 -- A token or a piece of trivia: its kind, its first byte and the others.

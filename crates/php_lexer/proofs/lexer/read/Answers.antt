@@ -1,6 +1,6 @@
 use Rattle.std.proofs.Common.{◌≡◌, ℕ, List, [], ◌∷◌, ◌++◌, take, drop, Some, None, sym, subst, ap, ◌∙◌}
 use Rattle.php_tree.specs.declared.token.Token.{Token}
-use Rattle.php_lexer.specs.Words.{token_of}
+use Rattle.php_spellings.specs.Words.{token_of}
 use Rattle.php_lexer.specs.Modes.{IsLongest, HasNone}
 use Rattle.php_lexer.specs.Views.{mode_of}
 use Rattle.php_lexer.proofs.Fronts.{front_trivia, front_token, front_ends, front_stops, front_open, meets_stop}

@@ -1,5 +1,5 @@
 use Rattle.std.proofs.Common.{◌≡◌, ℕ, ◌+◌, ◌≤◌, List, take, drop, ap, ◌∙◌, arith}
-use Rattle.php_lexer.specs.Bytes.{label_len}
+use Rattle.php_spellings.specs.Bytes.{label_len}
 use Rattle.php_lexer.specs.Modes.{label_place, label_of}
 use Rattle.php_lexer.specs.Views.{cut}
 use Rattle.php_lexer.proofs.Labels.{label_is, start_is}

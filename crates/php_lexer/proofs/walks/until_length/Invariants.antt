@@ -1,5 +1,5 @@
 use Rattle.std.proofs.Common.{◌≡◌, drop}
-use Rattle.php_lexer.specs.declared.table.State.TheVariants.{First}
+use Rattle.php_spellings.specs.declared.table.State.TheVariants.{First}
 use Rattle.php_lexer.specs.Scan.{until_len, add_to}
 use Rattle.php_lexer.proofs.walks.until_length.Given as goal
 

@@ -1,6 +1,6 @@
 // The keywords.
 ghost use Rattle.std.specs.Prelude.{◌≡◌, ◌∷◌, []};
-ghost use Rattle.php_lexer.specs.Words.{keywords, words_by, is_word, is_word_of, is_keyword};
+ghost use Rattle.php_spellings.specs.Words.{keywords, words_by, is_word, is_word_of, is_keyword};
 
 use crate::classes::{lower, starts_word};
 

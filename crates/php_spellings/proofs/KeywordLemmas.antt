@@ -1,8 +1,8 @@
 -- Keywords by their first letter.
 use Rattle.std.proofs.Common.{◌≡◌, ℕ, ◌<◌, get_or, Bool, true, false, cond, ◌&&◌, ◌||◌, nat_eq, List, [], ◌∷◌, length, refl, sym, ap, ◌∙◌, arith}
 use Rattle.std.proofs.lemmas.Bool.{eqb-true}
-use Rattle.php_lexer.specs.Bytes.{lower, starts_word}
-use Rattle.php_lexer.specs.Words.{keywords, words_by, is_word, is_word_of, is_keyword}
+use Rattle.php_spellings.specs.Bytes.{lower, starts_word}
+use Rattle.php_spellings.specs.Words.{keywords, words_by, is_word, is_word_of, is_keyword}
 
 and_false : (b : Bool) → (b && false) ≡ false
 and_false true = refl

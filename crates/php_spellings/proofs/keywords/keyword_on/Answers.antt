@@ -1,7 +1,7 @@
 use Rattle.std.proofs.Common.{◌≡◌, false, refl, arith}
 use Rattle.std.proofs.lemmas.Bool.Decides.{nat_tests}
-use Rattle.php_lexer.proofs.KeywordLemmas.{none_by_letter, has_letter, letters}
-use Rattle.php_lexer.proofs.keywords.keyword_on.Goals as goal
+use Rattle.php_spellings.proofs.KeywordLemmas.{none_by_letter, has_letter, letters}
+use Rattle.php_spellings.proofs.keywords.keyword_on.Goals as goal
 
 pub returns-in_default : goal.returns-in_default
 returns-in_default c =

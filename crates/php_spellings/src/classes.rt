@@ -1,6 +1,6 @@
 // Classes of bytes, and how bytes begin.
 ghost use Rattle.std.specs.Prelude.{◌≡◌, ◌≤◌, length, nat_eq, IsTrue};
-ghost use Rattle.php_lexer.specs.Bytes.{is_blank_byte, is_line_end, is_space, is_digit, is_letter, is_label_byte, lower, starts, starts_word, begins, begins_by, blanks_len, label_len};
+ghost use Rattle.php_spellings.specs.Bytes.{is_blank_byte, is_line_end, is_space, is_digit, is_letter, is_label_byte, lower, starts, starts_word, begins, begins_by, blanks_len, label_len};
 
 pub fn blank_byte(byte: u8) -> bool
     ensures { result ≡ is_blank_byte byte }
@@ -49,7 +49,7 @@ pub fn lower(byte: u8) -> u8
 }
 
 // Whether the bytes begin with these.
-#[tactic(auto, using(crate::proofs::Steps::starts_step, crate::proofs::Steps::starts_short, crate::proofs::Steps::starts_differ, crate::proofs::Steps::starts_end))]
+#[tactic(auto, using(crate::proofs::StartLemmas::starts_step, crate::proofs::StartLemmas::starts_short, crate::proofs::StartLemmas::starts_differ, crate::proofs::StartLemmas::starts_end))]
 pub fn starts_with(word: &[u8], bytes: &[u8]) -> bool
     ensures { result ≡ starts word.now bytes.now }
 {
@@ -66,7 +66,7 @@ pub fn starts_with(word: &[u8], bytes: &[u8]) -> bool
 }
 
 // Whether the bytes begin with a word, without ASCII case; the word is in lower case.
-#[tactic(auto, using(crate::proofs::Steps::word_step, crate::proofs::Steps::word_short, crate::proofs::Steps::word_differ, crate::proofs::Steps::word_end))]
+#[tactic(auto, using(crate::proofs::StartLemmas::word_step, crate::proofs::StartLemmas::word_short, crate::proofs::StartLemmas::word_differ, crate::proofs::StartLemmas::word_end))]
 pub fn starts_word(word: &[u8], bytes: &[u8]) -> bool
     ensures { result ≡ starts_word word.now bytes.now }
 {

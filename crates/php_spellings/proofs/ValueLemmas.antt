@@ -3,8 +3,8 @@ use Rattle.std.proofs.Common.{◌≡◌, ℕ, ◌+◌, ◌*◌, ◌<◌, ◌≤�
 use Rattle.std.proofs.Math.Nat.{le-mul_of_pos_right}
 use Rattle.std.proofs.lemmas.Bool.{le-leb}
 use Rattle.std.proofs.lemmas.Bool.Decides.{nat_tests}
-use Rattle.php_lexer.specs.Words.{greatest_int, digit_value, value_step, value_from}
-use Rattle.php_lexer.proofs.Steps.{split, drop_end}
+use Rattle.php_spellings.specs.Words.{greatest_int, digit_value, value_step, value_from}
+use Rattle.php_spellings.proofs.StartLemmas.{split, drop_end}
 
 times : (value base : ℕ) → 1 ≤ base → value ≤ value * base
 times value base h = let some : 0 < base = omega arith in le-mul_of_pos_right value some

@@ -1,7 +1,7 @@
 use Rattle.std.proofs.Common.{◌≡◌, length, nat_eq, false, sym, ◌∙◌, arith}
 use Rattle.std.proofs.lemmas.Bool.Decides.{nat_tests}
-use Rattle.php_lexer.proofs.KeywordLemmas.{word_full, word_other}
-use Rattle.php_lexer.proofs.keywords.same.Goals as goal
+use Rattle.php_spellings.proofs.KeywordLemmas.{word_full, word_other}
+use Rattle.php_spellings.proofs.keywords.same.Goals as goal
 
 pub returns-then-word-text : goal.returns-then-word-text
 returns-then-word-text c = c.starts_word.ensures ∙ sym (word_full c.args.word.now c.args.text.now c.if-word-text.true)

@@ -1,8 +1,8 @@
 // The kinds of tokens whose text settles them: words, and whole numbers.
 ghost use Rattle.std.specs.Prelude.{◌≡◌, ◌≤◌, ◌<◌, ◌+◌, ◌*◌, ◌^◌, ◌∷◌, [], nat_le, length, drop, cond, IfSome, IfNone, Some, true, false};
 ghost use Rattle.php_tree.specs.declared.token.TokenKind.TheVariants.{Int, Float};
-ghost use Rattle.php_lexer.specs.declared.table.Kind.TheVariants.{Word};
-ghost use Rattle.php_lexer.specs.Words.{greatest_int, digit_value, value_step, value_from, whole_number, token_of};
+ghost use Rattle.php_spellings.specs.declared.table.Kind.TheVariants.{Word};
+ghost use Rattle.php_spellings.specs.Words.{greatest_int, digit_value, value_step, value_from, whole_number, token_of};
 
 use crate::classes::{digit, lower};
 use crate::keywords::keyword;

@@ -1,6 +1,6 @@
 use Rattle.std.proofs.Common.{◌≡◌, ◌≤◌, drop}
-use Rattle.php_lexer.specs.Words.{greatest_int, value_from}
-use Rattle.php_lexer.proofs.numbers.fits.Given as goal
+use Rattle.php_spellings.specs.Words.{greatest_int, value_from}
+use Rattle.php_spellings.proofs.numbers.fits.Given as goal
 
 abbrev pub invariant-loop-byte : goal.invariant-loop-byte
 invariant-loop-byte l = record {
