@@ -4,7 +4,7 @@ use Rattle.php_tree.specs.declared.token.Token.{Token}
 use Rattle.php_terminals.specs.declared.terminal.Terminal.{Terminal}
 use Rattle.php_terminals.specs.declared.terminal.Terminal.TheVariants as t
 use Rattle.php_terminals.specs.Classify.{terminal}
-use Rattle.php_terminals.specs.Marks.{closes, closes_brace, is_dollar, is_name_part, is_open_brace, is_open_paren, opens, opens_brace}
+use Rattle.php_terminals.specs.Marks.{closes, is_dollar, is_name_part, is_open_brace, is_open_paren, opens}
 
 -- the class of the first token, and that of the end where there is none
 abbrev pub first_of : List Token → Terminal
@@ -26,12 +26,12 @@ past_group n (x ∷ xs) =
     cond (opens (terminal x)) (past_group (n + 1) xs)
     (cond (closes (terminal x)) (cond (nat_le n 1) xs (past_group (n - 1) xs)) (past_group n xs))
 
--- how many tokens there are before the brace that closes none, where so many are open
+-- how many tokens there are before the bracket that closes none, where so many are open
 abbrev pub spanned : ℕ → List Token → ℕ
 spanned n [] = 0
 spanned n (x ∷ xs) =
-    cond (opens_brace (terminal x)) (suc (spanned (n + 1) xs))
-    (cond (closes_brace (terminal x)) (cond (nat_eq n 0) 0 (suc (spanned (n - 1) xs))) (suc (spanned n xs)))
+    cond (opens (terminal x)) (suc (spanned (n + 1) xs))
+    (cond (closes (terminal x)) (cond (nat_eq n 0) 0 (suc (spanned (n - 1) xs))) (suc (spanned n xs)))
 
 -- whether a token is a part of a name
 abbrev pub is_in_name : Token → Bool

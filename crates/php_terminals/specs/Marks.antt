@@ -20,18 +20,6 @@ closes t.CloseBracket = true
 closes t.CloseBrace = true
 closes _ = false
 
--- an opening brace
-abbrev pub opens_brace : Terminal → Bool
-opens_brace t.OpenBrace = true
-opens_brace t.CurlyOpen = true
-opens_brace t.DollarBrace = true
-opens_brace _ = false
-
--- a closing brace
-abbrev pub closes_brace : Terminal → Bool
-closes_brace t.CloseBrace = true
-closes_brace _ = false
-
 -- a part of a name
 abbrev pub is_name_part : Terminal → Bool
 is_name_part t.Label = true

@@ -3,9 +3,7 @@ ghost use Rattle.std.specs.Prelude.{◌≡◌, ◌+◌, ◌≤◌, length, drop}
 ghost use Rattle.php_terminals.specs.Ahead.{behind_member, behind_name, behind_rest, behind_variable, dollars, first_of, is_called, is_in_name, is_some_dollar, name_len, past_group, second_of, spanned, third_of};
 
 use crate::classify::terminal;
-use crate::marks::{
-    closes, closes_brace, is_dollar, is_name_part, is_open_brace, is_open_paren, opens, opens_brace,
-};
+use crate::marks::{closes, is_dollar, is_name_part, is_open_brace, is_open_paren, opens};
 use crate::terminal::Terminal;
 use php_tree::Token;
 
@@ -66,18 +64,18 @@ pub fn past_group(tokens: &[Token]) -> Terminal
     Terminal::End
 }
 
-/// How many tokens there are before the brace that closes no brace among them.
+/// How many tokens there are before the bracket that closes none among them.
 pub fn spanned(tokens: &[Token]) -> usize
     ensures { result ≡ spanned 0 tokens.now }
 {
     let mut open = 0usize;
     for (i, token) in tokens.iter().enumerate() {
         let class = terminal(token);
-        if opens_brace(class) {
+        if opens(class) {
             open += 1;
             continue;
         }
-        if !closes_brace(class) {
+        if !closes(class) {
             continue;
         }
         if open == 0 {

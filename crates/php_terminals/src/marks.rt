@@ -1,6 +1,6 @@
 // Classes of tokens that tables look for.
 ghost use Rattle.std.specs.Prelude.{◌≡◌};
-ghost use Rattle.php_terminals.specs.Marks.{begins_place, closes, closes_brace, ends_item, goes_on, is_ampersand, is_assign, is_colon, is_dollar, is_double_arrow, is_double_colon, is_name_part, is_open_brace, is_open_paren, is_variable_start, opens, opens_brace};
+ghost use Rattle.php_terminals.specs.Marks.{begins_place, closes, ends_item, goes_on, is_ampersand, is_assign, is_colon, is_dollar, is_double_arrow, is_double_colon, is_name_part, is_open_brace, is_open_paren, is_variable_start, opens};
 
 use crate::terminal::Terminal;
 
@@ -25,26 +25,6 @@ pub fn closes(terminal: Terminal) -> bool
 {
     match terminal {
         Terminal::CloseParen | Terminal::CloseBracket | Terminal::CloseBrace => true,
-        _ => false,
-    }
-}
-
-// An opening brace.
-pub fn opens_brace(terminal: Terminal) -> bool
-    ensures { result ≡ opens_brace terminal }
-{
-    match terminal {
-        Terminal::OpenBrace | Terminal::CurlyOpen | Terminal::DollarBrace => true,
-        _ => false,
-    }
-}
-
-// A closing brace.
-pub fn closes_brace(terminal: Terminal) -> bool
-    ensures { result ≡ closes_brace terminal }
-{
-    match terminal {
-        Terminal::CloseBrace => true,
         _ => false,
     }
 }
