@@ -1,0 +1,4 @@
+pub mod Joining
+pub mod Splicing
+pub mod Replaced
+pub mod Unchanged

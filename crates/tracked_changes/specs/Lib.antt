@@ -1,0 +1,4 @@
+pub mod Pieces
+pub mod Draft
+pub mod Edits
+pub mod Laws

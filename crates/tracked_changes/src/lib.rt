@@ -1,0 +1,51 @@
+//! Changes of trees, tracked: one draft of the new tree, from which the source's bytes, the edits and the rewritten tree
+//! are all read off. The definitions stand in `specs/`; the functions here carry the laws that they agree.
+#![tactic(auto)]
+
+ghost use Rattle.tracked_changes.specs.Laws.{SplicedIsRewritten, EditsAreApart, EachComesNext, KeptBytesStay, TakenBytesGo, UnchangedIsTheFile};
+
+/// The source's bytes with a draft's edits made are the rewritten file, printed.
+pub fn spliced_is_rewritten()
+    ensures { SplicedIsRewritten }
+{}
+
+/// A draft's edits stand in order within the source, and none reaches into the next.
+pub fn edits_are_apart()
+    ensures { EditsAreApart }
+{}
+
+/// A draft's edits can be added one after another: `Edits::add` of `span_edits` refuses none for its place, and keeps
+/// them in this order.
+pub fn each_comes_next()
+    ensures { EachComesNext }
+{}
+
+/// No edit of a draft replaces a byte that the draft keeps.
+pub fn kept_bytes_stay()
+    ensures { KeptBytesStay }
+{}
+
+/// Some edit of a draft replaces each byte that the draft takes out.
+pub fn taken_bytes_go()
+    ensures { TakenBytesGo }
+{}
+
+/// The draft of a file as it stands has no edit; its source and its rewritten tree are the file.
+pub fn unchanged_is_the_file()
+    ensures { UnchangedIsTheFile }
+{}
+
+#[cfg(test)]
+mod tests {
+    use super::*;
+
+    #[test]
+    fn laws_can_be_called() {
+        spliced_is_rewritten();
+        edits_are_apart();
+        each_comes_next();
+        kept_bytes_stay();
+        taken_bytes_go();
+        unchanged_is_the_file();
+    }
+}
