@@ -2,3 +2,5 @@ pub mod Joining
 pub mod Splicing
 pub mod Replaced
 pub mod Unchanged
+pub mod Walking
+pub mod Wrapping

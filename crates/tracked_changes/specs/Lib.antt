@@ -2,3 +2,5 @@ pub mod Pieces
 pub mod Draft
 pub mod Edits
 pub mod Laws
+pub mod Walk
+pub mod Parens

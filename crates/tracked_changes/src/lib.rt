@@ -3,6 +3,8 @@
 #![tactic(auto)]
 
 ghost use Rattle.tracked_changes.specs.Laws.{SplicedIsRewritten, EditsAreApart, EachComesNext, KeptBytesStay, TakenBytesGo, UnchangedIsTheFile};
+ghost use Rattle.tracked_changes.specs.Walk.{WalksKeepTheSource};
+ghost use Rattle.tracked_changes.specs.Parens.{ParensStandRound, WrappingIsRewritten};
 
 /// The source's bytes with a draft's edits made are the rewritten file, printed.
 pub fn spliced_is_rewritten()
@@ -35,6 +37,23 @@ pub fn unchanged_is_the_file()
     ensures { UnchangedIsTheFile }
 {}
 
+/// A draft made by a walk over a file has the file as its source, where each change of a token or a node keeps the
+/// source's bytes.
+pub fn walks_keep_the_source()
+    ensures { WalksKeepTheSource }
+{}
+
+/// Parentheses keep the source's bytes, and a Paren node stands round the node once they are made.
+pub fn parens_stand_round()
+    ensures { ParensStandRound }
+{}
+
+/// The draft that puts nodes in parentheses by a table has the file as its source, and the file that the table makes as
+/// its rewritten file.
+pub fn wrapping_is_rewritten()
+    ensures { WrappingIsRewritten }
+{}
+
 #[cfg(test)]
 mod tests {
     use super::*;
@@ -47,5 +66,8 @@ mod tests {
         kept_bytes_stay();
         taken_bytes_go();
         unchanged_is_the_file();
+        walks_keep_the_source();
+        parens_stand_round();
+        wrapping_is_rewritten();
     }
 }
