@@ -10,7 +10,8 @@ use Rattle.tree_patches.proofs.Leads.{none_append, lead_append, filled_append}
 use Rattle.tracked_changes.specs.Pieces.{Piece, changed, before, after}
 use Rattle.tracked_changes.specs.Draft.{Draft, no_more, new_leaf, new_node, pieces, rewritten}
 use Rattle.tracked_changes.specs.Walk.{NewTree, new_alone, NodesKeepBytes, drafted}
-use Rattle.tracked_changes.specs.Parens.{holds_none, first_lead, without_lead, in_parens, in_wrappings, wrapping, ParensStandRound, WrappingIsRewritten}
+use Rattle.tracked_changes.specs.Leads.{holds_none, first_lead, without_lead}
+use Rattle.tracked_changes.specs.Parens.{in_parens, in_wrappings, wrapping, ParensStandRound, WrappingIsRewritten}
 use Rattle.tracked_changes.proofs.Joining.{before-append}
 use Rattle.tracked_changes.proofs.Unchanged.{before_token, unplaced_token, unplaced, placed-unplaced, end_of-unplaced}
 use Rattle.tracked_changes.proofs.Walking.{rewritten-then, walks_keep_the_source}
@@ -175,7 +176,7 @@ rewritten_is_rewritten p id (node k c f) =
 
 pub wrapping_is_rewritten : WrappingIsRewritten
 wrapping_is_rewritten p f = record {
-  bytes = walks_keep_the_source (wrapping p) f before_token (λ id. wrappings_keep_bytes (p id));
+  bytes = walks_keep_the_source (wrapping p) f before_token (λ id t. wrappings_keep_bytes (p id));
   tree =
       let all : Forest = patched.rewritten p 0 f.statements in
       rw (rewritten_is_rewritten p 0 f.statements, append-nil f.end.lead, append-nil f.end.text, placed-unplaced 0 all, end_of-unplaced 0 all) refl;
