@@ -1,1 +1,9 @@
 pub mod NestedTernary
+pub mod Written
+pub mod BraceOffset
+pub mod Casts
+pub mod RealCast
+pub mod UnsetCast
+pub mod HashComment
+pub mod SplitName
+pub mod DollarBrace

@@ -1,7 +1,35 @@
-//! The rules on syntax: where each stands, what it changes, and that the change keeps the meaning. A rule is a file
-//! here and one in `specs/`.
+//! The rules on syntax: where each stands, what it changes, that the change loses no byte of the source, and for nested
+//! ternaries that it keeps the meaning. A rule is a file here and one in `specs/`.
 #![tactic(auto)]
 
+mod brace_offset;
+mod dollar_brace;
+mod hash_comment;
 mod nested_ternary;
+mod real_cast;
+mod split_name;
+mod unset_cast;
 
+pub use brace_offset::brace_offset_is_written;
+pub use dollar_brace::dollar_brace_is_written;
+pub use hash_comment::hash_comment_is_written;
 pub use nested_ternary::nested_ternary_keeps_meaning;
+pub use real_cast::real_cast_is_written;
+pub use split_name::split_name_is_written;
+pub use unset_cast::unset_cast_is_written;
+
+#[cfg(test)]
+mod tests {
+    use super::*;
+
+    #[test]
+    fn laws_can_be_called() {
+        brace_offset_is_written();
+        dollar_brace_is_written();
+        hash_comment_is_written();
+        nested_ternary_keeps_meaning();
+        real_cast_is_written();
+        split_name_is_written();
+        unset_cast_is_written();
+    }
+}
