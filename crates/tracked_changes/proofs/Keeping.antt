@@ -1,9 +1,9 @@
 -- Changes that keep the source's bytes, part by part.
-use Rattle.std.proofs.Common.{◌≡◌, ℕ, Bool, true, false, if◌then◌else◌, List, [], ◌∷◌, ◌++◌, refl, ap, sym, ◌∙◌, append_assoc, append-nil}
+use Rattle.std.proofs.Common.{◌≡◌, ℕ, Bool, true, false, if◌then◌else◌, List, [], ◌∷◌, ◌++◌, ap, sym, ◌∙◌, append-nil}
 use Rattle.php_tree.specs.declared.token.TokenKind.{TokenKind}
 use Rattle.php_tree.specs.declared.kind.NodeKind.{NodeKind}
-use Rattle.tracked_changes.specs.Pieces.{Piece, changed, before}
-use Rattle.tracked_changes.specs.Draft.{NewToken, Draft, no_more, new_leaf, new_node, token_pieces, pieces}
+use Rattle.tracked_changes.specs.Pieces.{changed, before}
+use Rattle.tracked_changes.specs.Draft.{NewToken, Draft, new_leaf, new_node, token_pieces, pieces}
 use Rattle.tracked_changes.specs.Tokens.{retexted}
 use Rattle.tracked_changes.proofs.Joining.{before-append}
 

@@ -4,7 +4,8 @@ use Rattle.std.proofs.Math.Seq.{take-append_seam, drop-append_seam}
 use Rattle.std.proofs.lemmas.List.Elements.{All-head, All-tail, All-nil, All-cons}
 use Rattle.std.proofs.lemmas.Bool.Decides.{nat_tests}
 use Rattle.span_edits.specs.declared.edit.Edit.{Edit}
-use Rattle.span_edits.specs.Crosses.{Crosses}
+use Rattle.span_edits.specs.declared.span.Span.{Span}
+use Rattle.span_edits.specs.Crosses.{Crosses, FirstCrossed}
 use Rattle.span_edits.specs.EditList.{AreApart}
 use Rattle.span_edits.specs.Splice.{spliced_from}
 use Rattle.span_edits.proofs.SpliceLemmas.{spliced_from-skip, spliced_from-edit}
@@ -125,6 +126,16 @@ all_apart e (f ∷ front) h =
     All-cons (λ (f : Edit). ¬ Crosses e.span f.span) f front (no_cross e f (All-head (EndsBy e.span.start) f front h))
     (all_apart e front (All-tail (EndsBy e.span.start) f front h))
 
+-- what is true of all is true of one in the middle
+at_middle : (P : Edit → Type 0) (front : List Edit) (e : Edit) (back : List Edit) → All P (front ++ e ∷ back) → P e
+at_middle P [] e back h = All-head P e back h
+at_middle P (f ∷ front) e back h = at_middle P front e back (All-tail P f (front ++ e ∷ back) h)
+
+none_crossed : (e : Edit) (front : List Edit) → All (λ f. ¬ Crosses e.span f.span) front → (stored : Span) → ¬ FirstCrossed e.span front stored
+none_crossed e front h stored first =
+    let Apart : Edit → Type 0 = λ f. ¬ Crosses e.span f.span in
+    at_middle Apart first.front first.crossed first.back (subst (All Apart) first.are_edits h) first.crosses
+
 behind_all : (place : ℕ) (front : List Edit) → All (EndsBy place) front → filter (λ f. nat_le f.span.end place) front ≡ front
 behind_all place [] h = refl
 behind_all place (f ∷ front) h =
@@ -152,5 +163,6 @@ each_comes_next d front e back eq =
     record {
       within = within_to e.span.end (length (source d)) back parts.1;
       apart = all_apart e front ended;
+      free = none_crossed e front (all_apart e front ended);
       last = rw (behind_all e.span.start front ended, none_later e.span.start front ended) refl;
     }

@@ -1,7 +1,8 @@
 -- The source, the edits and the rewritten tree of a draft agree.
 use Rattle.std.specs.Prelude.{◌≡◌, ℕ, ◌+◌, ◌<◌, ◌≤◌, true, false, List, [], ◌∷◌, ◌++◌, length, All}
 use Rattle.span_edits.specs.declared.edit.Edit.{Edit}
-use Rattle.span_edits.specs.Crosses.{Crosses}
+use Rattle.span_edits.specs.declared.span.Span.{Span}
+use Rattle.span_edits.specs.Crosses.{Crosses, FirstCrossed}
 use Rattle.span_edits.specs.EditList.{AreApart, with_edit}
 use Rattle.span_edits.specs.Splice.{spliced, is_replaced}
 use Rattle.php_tree.specs.Tree.{File, file_leaves, file_printed}
@@ -18,11 +19,12 @@ SplicedIsRewritten = (d : FileDraft) → spliced (source d) (edits d) ≡ file_p
 abbrev pub EditsAreApart : Type 0
 EditsAreApart = (d : FileDraft) → AreApart 0 (edits d) (length (source d))
 
--- An edit is taken behind others, in a source of so many bytes: it ends within the source, crosses none of them, and its
--- place among them is the last.
+-- An edit is taken behind others, in a source of so many bytes: it ends within the source, crosses none of them, so that
+-- none is the first that it crosses, and its place among them is the last.
 pub record ComesNext (len : ℕ) (front : List Edit) (e : Edit) : Type 0 where
   pub within : e.span.end ≤ len
   pub apart : All (λ f. ¬ Crosses e.span f.span) front
+  pub free : (stored : Span) → ¬ FirstCrossed e.span front stored
   pub last : with_edit e front ≡ front ++ e ∷ []
 
 -- Added one after another, each edit is taken behind those before it.
