@@ -5,3 +5,4 @@ pub mod CastsKeep
 pub mod HashCommentKeeps
 pub mod SplitNameKeeps
 pub mod DollarBraceKeeps
+pub mod TogetherKeeps

@@ -1,10 +1,10 @@
 -- Whole names lose no byte of the source.
-use Rattle.std.proofs.Common.{◌≡◌, ℕ, Bool, false, ◌&&◌, List, [], ◌∷◌, ◌++◌, refl, ap, sym, ◌∙◌, codes, append_assoc, append-nil}
+use Rattle.std.proofs.Common.{◌≡◌, ℕ, Bool, true, false, ◌&&◌, ◌||◌, List, [], ◌∷◌, ◌++◌, refl, ap, sym, ◌∙◌, codes, append_assoc, append-nil}
 use Rattle.tracked_changes.specs.Pieces.{Piece, changed, before}
 use Rattle.tracked_changes.specs.Draft.{NewToken, Draft, no_more, new_leaf, new_node, token_pieces, pieces}
 use Rattle.tracked_changes.proofs.Joining.{before-append}
 use Rattle.tracked_changes.proofs.Keeping.{SameToken, SameBytes, same_leaf, same_node, same_if, same_draft_if}
-use Rattle.syntax_rules.specs.SplitName.{is_one, deleted, one_name, in_front, whole_names, space_before, is_nothing, keyword_behind, is_name, begins_root, keyword_last, apart, SplitNameIsWritten}
+use Rattle.syntax_rules.specs.SplitName.{split_name, is_one, deleted, one_name, in_front, whole_names, space_before, is_nothing, keyword_behind, is_name, begins_root, keyword_last, apart, SplitNameIsWritten}
 
 deleted_keeps : (bytes : List ℕ) → before (deleted bytes) ≡ bytes
 deleted_keeps [] = refl
@@ -28,16 +28,19 @@ one_leaf_keeps t u d =
     ∙ sym (before-append (token_pieces t ++ token_pieces u) (pieces d))
     ∙ ap before (append_assoc (token_pieces t) (token_pieces u) (pieces d))
 
-in_front_keeps : (t : NewToken) (d : Draft) → SameBytes (in_front t d) (new_leaf t d)
-in_front_keeps t no_more = refl
-in_front_keeps t (new_node k c d) = refl
-in_front_keeps t (new_leaf u d) =
-    same_draft_if (is_one t u) (new_leaf (one_name t u) d) (new_leaf t (new_leaf u d)) (new_leaf t (new_leaf u d)) (one_leaf_keeps t u d) refl
+in_front_keeps : (delete : Bool) (t : NewToken) (d : Draft) → SameBytes (in_front delete t d) (new_leaf t d)
+in_front_keeps delete t no_more = refl
+in_front_keeps delete t (new_node k c d) = refl
+in_front_keeps delete t (new_leaf u d) =
+    same_draft_if (is_one t u && (delete || is_nothing (before u.lead))) (new_leaf (one_name t u) d) (new_leaf t (new_leaf u d)) (new_leaf t (new_leaf u d))
+    (one_leaf_keeps t u d) refl
 
-whole_keeps : (d : Draft) → SameBytes (whole_names d) d
-whole_keeps no_more = refl
-whole_keeps (new_leaf t d) = in_front_keeps t (whole_names d) ∙ same_leaf t t (whole_names d) d refl (whole_keeps d)
-whole_keeps (new_node k c d) = same_node k k (whole_names c) c (whole_names d) d (whole_keeps c) (whole_keeps d)
+pub whole_keeps : (delete : Bool) (d : Draft) → SameBytes (whole_names delete d) d
+whole_keeps delete no_more = refl
+whole_keeps delete (new_leaf t d) =
+    in_front_keeps delete t (whole_names delete d) ∙ same_leaf t t (whole_names delete d) d refl (whole_keeps delete d)
+whole_keeps delete (new_node k c d) =
+    same_node k k (whole_names delete c) c (whole_names delete d) d (whole_keeps delete c) (whole_keeps delete d)
 
 space_keeps : (behind : Bool) (t : NewToken) → SameToken (space_before behind t) t
 space_keeps behind t =
@@ -54,5 +57,8 @@ apart_keeps behind (new_leaf t d) =
 apart_keeps behind (new_node k c d) =
     same_node k k (apart behind c) c (apart (keyword_last behind c) d) d (apart_keeps behind c) (apart_keeps (keyword_last behind c) d)
 
+pub split_keeps : (d : Draft) → SameBytes (split_name d) d
+split_keeps d = apart_keeps false (whole_names true d) ∙ whole_keeps true d
+
 pub split_name_is_written : SplitNameIsWritten
-split_name_is_written = (λ d. apart_keeps false (whole_names d) ∙ whole_keeps d, record { edits = refl; tree = refl })
+split_name_is_written = (split_keeps, record { edits = refl; tree = refl })

@@ -7,3 +7,4 @@ pub mod UnsetCast
 pub mod HashComment
 pub mod SplitName
 pub mod DollarBrace
+pub mod Together

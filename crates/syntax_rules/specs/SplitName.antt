@@ -30,6 +30,11 @@ abbrev pub is_op : TokenKind → Bool
 is_op token.Op = true
 is_op _ = false
 
+-- whether there are no bytes
+abbrev pub is_nothing : List ℕ → Bool
+is_nothing [] = true
+is_nothing (b ∷ bs) = false
+
 -- whether a text begins with `\`
 abbrev pub begins_root : List ℕ → Bool
 begins_root [] = false
@@ -58,23 +63,22 @@ deleted (b ∷ bs) = changed (b ∷ bs) [] ∷ []
 abbrev pub one_name : NewToken → NewToken → NewToken
 one_name t u = record { kind = token.Name; lead = t.lead; text = t.text ++ deleted (before u.lead) ++ u.text }
 
--- a token in front of others, where names are whole
-abbrev pub in_front : NewToken → Draft → Draft
-in_front t (new_leaf u d) = if is_one t u then new_leaf (one_name t u) d else new_leaf t (new_leaf u d)
-in_front t no_more = new_leaf t no_more
-in_front t (new_node k c d) = new_leaf t (new_node k c d)
+-- A token in front of others, where names are whole. Where trivia are not to be deleted, a name with trivia inside stays
+-- in parts.
+abbrev pub in_front : Bool → NewToken → Draft → Draft
+in_front delete t (new_leaf u d) =
+    if is_one t u && (delete || is_nothing (before u.lead)) then new_leaf (one_name t u) d
+    else new_leaf t (new_leaf u d)
+in_front delete t no_more = new_leaf t no_more
+in_front delete t (new_node k c d) = new_leaf t (new_node k c d)
 
 -- the draft with each name with `\` one token
-abbrev pub whole_names : Draft → Draft
-whole_names no_more = no_more
-whole_names (new_leaf t d) = in_front t (whole_names d)
-whole_names (new_node k c d) = new_node k (whole_names c) (whole_names d)
+abbrev pub whole_names : Bool → Draft → Draft
+whole_names delete no_more = no_more
+whole_names delete (new_leaf t d) = in_front delete t (whole_names delete d)
+whole_names delete (new_node k c d) = new_node k (whole_names delete c) (whole_names delete d)
 
 -- ---- names directly behind a keyword
-
-abbrev pub is_nothing : List ℕ → Bool
-is_nothing [] = true
-is_nothing (b ∷ bs) = false
 
 -- The edit before a name: a space, where the name begins with `\` and stands directly behind a keyword of the source.
 abbrev pub space_before : Bool → NewToken → NewToken
@@ -104,7 +108,7 @@ apart behind (new_node k c d) = new_node k (apart behind c) (apart (keyword_last
 
 -- The draft of a file's statements with its names whole and apart from keywords. None is kept, and none is undecided.
 abbrev pub split_name : Draft → Draft
-split_name d = apart false (whole_names d)
+split_name d = apart false (whole_names true d)
 
 -- `return\ A /**/ \B;` becomes `return \A\B;`
 abbrev pub split_source : Forest

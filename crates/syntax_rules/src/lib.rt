@@ -8,6 +8,7 @@ mod hash_comment;
 mod nested_ternary;
 mod real_cast;
 mod split_name;
+mod together;
 mod unset_cast;
 
 pub use brace_offset::brace_offset_is_written;
@@ -16,6 +17,7 @@ pub use hash_comment::hash_comment_is_written;
 pub use nested_ternary::nested_ternary_keeps_meaning;
 pub use real_cast::real_cast_is_written;
 pub use split_name::split_name_is_written;
+pub use together::syntax_is_rewritten;
 pub use unset_cast::unset_cast_is_written;
 
 #[cfg(test)]
@@ -30,6 +32,7 @@ mod tests {
         nested_ternary_keeps_meaning();
         real_cast_is_written();
         split_name_is_written();
+        syntax_is_rewritten();
         unset_cast_is_written();
     }
 }
