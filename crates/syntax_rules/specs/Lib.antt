@@ -1,4 +1,6 @@
+pub mod Around
 pub mod NestedTernary
+pub mod DotPrecedence
 pub mod Written
 pub mod BraceOffset
 pub mod Casts
@@ -8,3 +10,4 @@ pub mod HashComment
 pub mod SplitName
 pub mod DollarBrace
 pub mod Together
+pub mod Rewritten
