@@ -1,3 +1,10 @@
 // Trees of source texts, held against the manual's grammar and PHP's own.
+mod declarations;
+mod depths;
+mod levels;
+mod operands;
+mod prefixes;
+mod quoted;
 mod sketch;
-mod worked;
+mod statements;
+mod words;
