@@ -3,146 +3,149 @@
 use super::sketch::assert_statements;
 use std::test::Fail;
 
+static FUNCTIONS: [(&str, &str, &str); 7] = [
+    (
+        "function & f(A $a, ?int & ...$b) : array { }",
+        "(Function function & f ( (Param (TypeName A) $a) , (Param (TypeName ? int) & ... $b) ) : (TypeName array) (Block { }))",
+        "same",
+    ),
+    (
+        "function f($a = 1, callable $b) { return; }",
+        "(Function function f ( (Param $a = (1)) , (Param (TypeName callable) $b) ) (Block { (Return return ;) }))",
+        "same",
+    ),
+    (
+        "function f(\\A\\B $a) { }",
+        "(Function function f ( (Param (TypeName \\ A \\ B) $a) ) (Block { }))",
+        "(Function function f ( (Param (TypeName \\A\\B) $a) ) (Block { }))",
+    ),
+    ("function f(A|B $a) { }", "none", "same"),
+    ("function f($a,) { }", "none", "same"),
+    ("function list() { }", "none", "same"),
+    ("function f();", "none", "same"),
+];
+
 #[test]
 fn functions(rt: HostRuntime) -> Result<(), Fail> {
-    let rows = [
-        (
-            "function & f(A $a, ?int & ...$b) : array { }",
-            "(Function function & f ( (Param (TypeName A) $a) , (Param (TypeName ? int) & ... $b) ) : (TypeName array) (Block { }))",
-            "same",
-        ),
-        (
-            "function f($a = 1, callable $b) { return; }",
-            "(Function function f ( (Param $a = (1)) , (Param (TypeName callable) $b) ) (Block { (Return return ;) }))",
-            "same",
-        ),
-        (
-            "function f(\\A\\B $a) { }",
-            "(Function function f ( (Param (TypeName \\ A \\ B) $a) ) (Block { }))",
-            "(Function function f ( (Param (TypeName \\A\\B) $a) ) (Block { }))",
-        ),
-        ("function f(A|B $a) { }", "none", "same"),
-        ("function f($a,) { }", "none", "same"),
-        ("function list() { }", "none", "same"),
-        ("function f();", "none", "same"),
-    ];
-    assert_statements(&rt, rt.alloc(), &rows)
+    assert_statements(&rt, rt.alloc(), &FUNCTIONS)
 }
+
+static CLASSES: [(&str, &str, &str); 18] = [
+    (
+        "abstract class A extends B implements C, D { }",
+        "(Class abstract class A extends B implements C , D { })",
+        "same",
+    ),
+    ("final class A { }", "(Class final class A { })", "same"),
+    (
+        "interface A extends B, C { const D = 1; function e(); }",
+        "(Interface interface A extends B , C { (ClassConst const D = (1) ;) (Method function e ( ) ;) })",
+        "same",
+    ),
+    (
+        "trait A { use B, C { B::d insteadof C; C::d as protected e; } }",
+        "(Trait trait A { (TraitUse use B , C { B :: d insteadof C ; C :: d as protected e ; }) })",
+        "same",
+    ),
+    (
+        "class A { use B; }",
+        "(Class class A { (TraitUse use B ;) })",
+        "same",
+    ),
+    (
+        "class A { public static ?B $c = 1, $d; var $e; }",
+        "(Class class A { (Property public static (TypeName ? B) $c = (1) , $d ;) (Property var $e ;) })",
+        "same",
+    ),
+    (
+        "class A { private const LIST = 1, FOR = 2; }",
+        "(Class class A { (ClassConst private const LIST = (1) , FOR = (2) ;) })",
+        "same",
+    ),
+    (
+        "class A { abstract protected function & list(self $a) : ?self; }",
+        "(Class class A { (Method abstract protected function & list ( (Param (TypeName self) $a) ) : (TypeName ? self) ;) })",
+        "same",
+    ),
+    (
+        "class A { function for() { } final public function b() { } }",
+        "(Class class A { (Method function for ( ) (Block { })) (Method final public function b ( ) (Block { })) })",
+        "same",
+    ),
+    (
+        "#[\\AllowDynamicProperties]\nclass A { }",
+        "(Class class A { })",
+        "(Class #[ \\AllowDynamicProperties ] class A { })",
+    ),
+    ("#[A]\nclass B { }", "(Class class B { })", "none"),
+    ("class A { const class = 1; }", "none", "same"),
+    ("class A { $b; }", "none", "same"),
+    ("class A { 1; }", "none", "same"),
+    ("class list { }", "none", "same"),
+    ("class A extends B, C { }", "none", "same"),
+    ("enum A { }", "none", "same"),
+    ("readonly class A { }", "none", "same"),
+];
 
 #[test]
 fn classes(rt: HostRuntime) -> Result<(), Fail> {
-    let rows = [
-        (
-            "abstract class A extends B implements C, D { }",
-            "(Class abstract class A extends B implements C , D { })",
-            "same",
-        ),
-        ("final class A { }", "(Class final class A { })", "same"),
-        (
-            "interface A extends B, C { const D = 1; function e(); }",
-            "(Interface interface A extends B , C { (ClassConst const D = (1) ;) (Method function e ( ) ;) })",
-            "same",
-        ),
-        (
-            "trait A { use B, C { B::d insteadof C; C::d as protected e; } }",
-            "(Trait trait A { (TraitUse use B , C { B :: d insteadof C ; C :: d as protected e ; }) })",
-            "same",
-        ),
-        (
-            "class A { use B; }",
-            "(Class class A { (TraitUse use B ;) })",
-            "same",
-        ),
-        (
-            "class A { public static ?B $c = 1, $d; var $e; }",
-            "(Class class A { (Property public static (TypeName ? B) $c = (1) , $d ;) (Property var $e ;) })",
-            "same",
-        ),
-        (
-            "class A { private const LIST = 1, FOR = 2; }",
-            "(Class class A { (ClassConst private const LIST = (1) , FOR = (2) ;) })",
-            "same",
-        ),
-        (
-            "class A { abstract protected function & list(self $a) : ?self; }",
-            "(Class class A { (Method abstract protected function & list ( (Param (TypeName self) $a) ) : (TypeName ? self) ;) })",
-            "same",
-        ),
-        (
-            "class A { function for() { } final public function b() { } }",
-            "(Class class A { (Method function for ( ) (Block { })) (Method final public function b ( ) (Block { })) })",
-            "same",
-        ),
-        (
-            "#[\\AllowDynamicProperties]\nclass A { }",
-            "(Class class A { })",
-            "(Class #[ \\AllowDynamicProperties ] class A { })",
-        ),
-        ("#[A]\nclass B { }", "(Class class B { })", "none"),
-        ("class A { const class = 1; }", "none", "same"),
-        ("class A { $b; }", "none", "same"),
-        ("class A { 1; }", "none", "same"),
-        ("class list { }", "none", "same"),
-        ("class A extends B, C { }", "none", "same"),
-        ("enum A { }", "none", "same"),
-        ("readonly class A { }", "none", "same"),
-    ];
-    assert_statements(&rt, rt.alloc(), &rows)
+    assert_statements(&rt, rt.alloc(), &CLASSES)
 }
+
+static NAMESPACES_AND_USES: [(&str, &str, &str); 14] = [
+    (
+        "namespace A\\B; 1;",
+        "(Namespace namespace A \\ B ;)(ExprStmt (1) ;)",
+        "(Namespace namespace A\\B ;)(ExprStmt (1) ;)",
+    ),
+    (
+        "namespace A { 1; } namespace { }",
+        "(Namespace namespace A { (ExprStmt (1) ;) })(Namespace namespace { })",
+        "same",
+    ),
+    (
+        "namespace\\f();",
+        "(ExprStmt (Call namespace \\ f ( (Args) )) ;)",
+        "(ExprStmt (Call namespace\\f ( (Args) )) ;)",
+    ),
+    (
+        "namespace \\A;",
+        "(ExprStmt (Constant namespace \\ A) ;)",
+        "none",
+    ),
+    ("use A as B, C;", "(Use use A as B , C ;)", "same"),
+    ("use \\A\\B;", "(Use use \\ A \\ B ;)", "(Use use \\A\\B ;)"),
+    (
+        "use function A\\b as c, d;",
+        "(Use use function A \\ b as c , d ;)",
+        "(Use use function A\\b as c , d ;)",
+    ),
+    (
+        "use const A\\B;",
+        "(Use use const A \\ B ;)",
+        "(Use use const A\\B ;)",
+    ),
+    (
+        "use A\\{B, C as D,};",
+        "(Use use A \\ { B , C as D , } ;)",
+        "same",
+    ),
+    (
+        "use A\\B\\{function c, const D\\E};",
+        "(Use use A \\ B \\ { function c , const D \\ E } ;)",
+        "(Use use A\\B \\ { function c , const D\\E } ;)",
+    ),
+    (
+        "use function A\\{b};",
+        "(Use use function A \\ { b } ;)",
+        "same",
+    ),
+    ("use A\\{};", "none", "same"),
+    ("use A,;", "none", "same"),
+    ("use 'a';", "none", "same"),
+];
 
 #[test]
 fn namespaces_and_uses(rt: HostRuntime) -> Result<(), Fail> {
-    let rows = [
-        (
-            "namespace A\\B; 1;",
-            "(Namespace namespace A \\ B ;)(ExprStmt (1) ;)",
-            "(Namespace namespace A\\B ;)(ExprStmt (1) ;)",
-        ),
-        (
-            "namespace A { 1; } namespace { }",
-            "(Namespace namespace A { (ExprStmt (1) ;) })(Namespace namespace { })",
-            "same",
-        ),
-        (
-            "namespace\\f();",
-            "(ExprStmt (Call namespace \\ f ( (Args) )) ;)",
-            "(ExprStmt (Call namespace\\f ( (Args) )) ;)",
-        ),
-        (
-            "namespace \\A;",
-            "(ExprStmt (Constant namespace \\ A) ;)",
-            "none",
-        ),
-        ("use A as B, C;", "(Use use A as B , C ;)", "same"),
-        ("use \\A\\B;", "(Use use \\ A \\ B ;)", "(Use use \\A\\B ;)"),
-        (
-            "use function A\\b as c, d;",
-            "(Use use function A \\ b as c , d ;)",
-            "(Use use function A\\b as c , d ;)",
-        ),
-        (
-            "use const A\\B;",
-            "(Use use const A \\ B ;)",
-            "(Use use const A\\B ;)",
-        ),
-        (
-            "use A\\{B, C as D,};",
-            "(Use use A \\ { B , C as D , } ;)",
-            "same",
-        ),
-        (
-            "use A\\B\\{function c, const D\\E};",
-            "(Use use A \\ B \\ { function c , const D \\ E } ;)",
-            "(Use use A\\B \\ { function c , const D\\E } ;)",
-        ),
-        (
-            "use function A\\{b};",
-            "(Use use function A \\ { b } ;)",
-            "same",
-        ),
-        ("use A\\{};", "none", "same"),
-        ("use A,;", "none", "same"),
-        ("use 'a';", "none", "same"),
-    ];
-    assert_statements(&rt, rt.alloc(), &rows)
+    assert_statements(&rt, rt.alloc(), &NAMESPACES_AND_USES)
 }

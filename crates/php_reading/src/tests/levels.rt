@@ -4,190 +4,194 @@
 use super::sketch::assert_exprs;
 use std::test::Fail;
 
+static ARITHMETIC: [(&str, &str, &str); 16] = [
+    ("2 ** 3 ** 4", "(Binary (2) ** (Binary (3) ** (4)))", "same"),
+    ("2 ** 3 * 4", "(Binary (Binary (2) ** (3)) * (4))", "same"),
+    ("2 * 3 ** 4", "(Binary (2) * (Binary (3) ** (4)))", "same"),
+    (
+        "1 * 2 / 3 % 4",
+        "(Binary (Binary (Binary (1) * (2)) / (3)) % (4))",
+        "same",
+    ),
+    ("1 * 2 + 3", "(Binary (Binary (1) * (2)) + (3))", "same"),
+    ("1 + 2 * 3", "(Binary (1) + (Binary (2) * (3)))", "same"),
+    ("1 - 2 + 3", "(Binary (Binary (1) - (2)) + (3))", "same"),
+    (
+        "1 - 2 . 3 - 4",
+        "(Binary (Binary (Binary (1) - (2)) . (3)) - (4))",
+        "(Binary (Binary (1) - (2)) . (Binary (3) - (4)))",
+    ),
+    ("1 . 2 . 3", "(Binary (Binary (1) . (2)) . (3))", "same"),
+    ("1 + 2 << 3", "(Binary (Binary (1) + (2)) << (3))", "same"),
+    ("1 << 2 + 3", "(Binary (1) << (Binary (2) + (3)))", "same"),
+    ("1 << 2 >> 3", "(Binary (Binary (1) << (2)) >> (3))", "same"),
+    (
+        "1 << 2 . 3",
+        "(Binary (1) << (Binary (2) . (3)))",
+        "(Binary (Binary (1) << (2)) . (3))",
+    ),
+    (
+        "1 . 2 << 3",
+        "(Binary (Binary (1) . (2)) << (3))",
+        "(Binary (1) . (Binary (2) << (3)))",
+    ),
+    ("1 . 2 < 3", "(Binary (Binary (1) . (2)) < (3))", "same"),
+    ("1 < 2 . 3", "(Binary (1) < (Binary (2) . (3)))", "same"),
+];
+
 #[test]
 fn arithmetic(rt: HostRuntime) -> Result<(), Fail> {
-    let rows = [
-        ("2 ** 3 ** 4", "(Binary (2) ** (Binary (3) ** (4)))", "same"),
-        ("2 ** 3 * 4", "(Binary (Binary (2) ** (3)) * (4))", "same"),
-        ("2 * 3 ** 4", "(Binary (2) * (Binary (3) ** (4)))", "same"),
-        (
-            "1 * 2 / 3 % 4",
-            "(Binary (Binary (Binary (1) * (2)) / (3)) % (4))",
-            "same",
-        ),
-        ("1 * 2 + 3", "(Binary (Binary (1) * (2)) + (3))", "same"),
-        ("1 + 2 * 3", "(Binary (1) + (Binary (2) * (3)))", "same"),
-        ("1 - 2 + 3", "(Binary (Binary (1) - (2)) + (3))", "same"),
-        (
-            "1 - 2 . 3 - 4",
-            "(Binary (Binary (Binary (1) - (2)) . (3)) - (4))",
-            "(Binary (Binary (1) - (2)) . (Binary (3) - (4)))",
-        ),
-        ("1 . 2 . 3", "(Binary (Binary (1) . (2)) . (3))", "same"),
-        ("1 + 2 << 3", "(Binary (Binary (1) + (2)) << (3))", "same"),
-        ("1 << 2 + 3", "(Binary (1) << (Binary (2) + (3)))", "same"),
-        ("1 << 2 >> 3", "(Binary (Binary (1) << (2)) >> (3))", "same"),
-        (
-            "1 << 2 . 3",
-            "(Binary (1) << (Binary (2) . (3)))",
-            "(Binary (Binary (1) << (2)) . (3))",
-        ),
-        (
-            "1 . 2 << 3",
-            "(Binary (Binary (1) . (2)) << (3))",
-            "(Binary (1) . (Binary (2) << (3)))",
-        ),
-        ("1 . 2 < 3", "(Binary (Binary (1) . (2)) < (3))", "same"),
-        ("1 < 2 . 3", "(Binary (1) < (Binary (2) . (3)))", "same"),
-    ];
-    assert_exprs(&rt, rt.alloc(), &rows)
+    assert_exprs(&rt, rt.alloc(), &ARITHMETIC)
 }
+
+static COMPARISON_AND_BITS: [(&str, &str, &str); 16] = [
+    ("1 < 2 < 3", "none", "same"),
+    ("1 <= 2 > 3", "none", "same"),
+    (
+        "1 < 2 == 3 >= 4",
+        "(Binary (Binary (1) < (2)) == (Binary (3) >= (4)))",
+        "same",
+    ),
+    ("1 == 2 != 3", "none", "same"),
+    ("1 === 2 !== 3", "none", "same"),
+    ("1 <=> 2 <> 3", "none", "same"),
+    ("1 <> 2", "(Binary (1) <> (2))", "same"),
+    ("1 & 2 == 3", "(Binary (1) & (Binary (2) == (3)))", "same"),
+    ("1 == 2 & 3", "(Binary (Binary (1) == (2)) & (3))", "same"),
+    ("1 & 2 & 3", "(Binary (Binary (1) & (2)) & (3))", "same"),
+    ("1 ^ 2 & 3", "(Binary (1) ^ (Binary (2) & (3)))", "same"),
+    ("1 & 2 ^ 3", "(Binary (Binary (1) & (2)) ^ (3))", "same"),
+    ("1 ^ 2 ^ 3", "(Binary (Binary (1) ^ (2)) ^ (3))", "same"),
+    ("1 | 2 ^ 3", "(Binary (1) | (Binary (2) ^ (3)))", "same"),
+    ("1 ^ 2 | 3", "(Binary (Binary (1) ^ (2)) | (3))", "same"),
+    ("1 | 2 | 3", "(Binary (Binary (1) | (2)) | (3))", "same"),
+];
 
 #[test]
 fn comparison_and_bits(rt: HostRuntime) -> Result<(), Fail> {
-    let rows = [
-        ("1 < 2 < 3", "none", "same"),
-        ("1 <= 2 > 3", "none", "same"),
-        (
-            "1 < 2 == 3 >= 4",
-            "(Binary (Binary (1) < (2)) == (Binary (3) >= (4)))",
-            "same",
-        ),
-        ("1 == 2 != 3", "none", "same"),
-        ("1 === 2 !== 3", "none", "same"),
-        ("1 <=> 2 <> 3", "none", "same"),
-        ("1 <> 2", "(Binary (1) <> (2))", "same"),
-        ("1 & 2 == 3", "(Binary (1) & (Binary (2) == (3)))", "same"),
-        ("1 == 2 & 3", "(Binary (Binary (1) == (2)) & (3))", "same"),
-        ("1 & 2 & 3", "(Binary (Binary (1) & (2)) & (3))", "same"),
-        ("1 ^ 2 & 3", "(Binary (1) ^ (Binary (2) & (3)))", "same"),
-        ("1 & 2 ^ 3", "(Binary (Binary (1) & (2)) ^ (3))", "same"),
-        ("1 ^ 2 ^ 3", "(Binary (Binary (1) ^ (2)) ^ (3))", "same"),
-        ("1 | 2 ^ 3", "(Binary (1) | (Binary (2) ^ (3)))", "same"),
-        ("1 ^ 2 | 3", "(Binary (Binary (1) ^ (2)) | (3))", "same"),
-        ("1 | 2 | 3", "(Binary (Binary (1) | (2)) | (3))", "same"),
-    ];
-    assert_exprs(&rt, rt.alloc(), &rows)
+    assert_exprs(&rt, rt.alloc(), &COMPARISON_AND_BITS)
 }
+
+static LOGIC: [(&str, &str, &str); 16] = [
+    ("1 && 2 | 3", "(Binary (1) && (Binary (2) | (3)))", "same"),
+    ("1 | 2 && 3", "(Binary (Binary (1) | (2)) && (3))", "same"),
+    ("1 && 2 && 3", "(Binary (Binary (1) && (2)) && (3))", "same"),
+    ("1 || 2 && 3", "(Binary (1) || (Binary (2) && (3)))", "same"),
+    ("1 && 2 || 3", "(Binary (Binary (1) && (2)) || (3))", "same"),
+    ("1 || 2 || 3", "(Binary (Binary (1) || (2)) || (3))", "same"),
+    ("1 ?? 2 || 3", "(Binary (1) ?? (Binary (2) || (3)))", "same"),
+    ("1 || 2 ?? 3", "(Binary (Binary (1) || (2)) ?? (3))", "same"),
+    ("1 ?? 2 ?? 3", "(Binary (1) ?? (Binary (2) ?? (3)))", "same"),
+    (
+        "1 and 2 and 3",
+        "(Binary (Binary (1) and (2)) and (3))",
+        "same",
+    ),
+    (
+        "1 xor 2 and 3",
+        "(Binary (1) xor (Binary (2) and (3)))",
+        "same",
+    ),
+    (
+        "1 AND 2 xor 3",
+        "(Binary (Binary (1) AND (2)) xor (3))",
+        "same",
+    ),
+    (
+        "1 xor 2 xor 3",
+        "(Binary (Binary (1) xor (2)) xor (3))",
+        "same",
+    ),
+    (
+        "1 or 2 xor 3",
+        "(Binary (1) or (Binary (2) xor (3)))",
+        "same",
+    ),
+    (
+        "1 xor 2 or 3",
+        "(Binary (Binary (1) xor (2)) or (3))",
+        "same",
+    ),
+    ("1 or 2 or 3", "(Binary (Binary (1) or (2)) or (3))", "same"),
+];
 
 #[test]
 fn logic(rt: HostRuntime) -> Result<(), Fail> {
-    let rows = [
-        ("1 && 2 | 3", "(Binary (1) && (Binary (2) | (3)))", "same"),
-        ("1 | 2 && 3", "(Binary (Binary (1) | (2)) && (3))", "same"),
-        ("1 && 2 && 3", "(Binary (Binary (1) && (2)) && (3))", "same"),
-        ("1 || 2 && 3", "(Binary (1) || (Binary (2) && (3)))", "same"),
-        ("1 && 2 || 3", "(Binary (Binary (1) && (2)) || (3))", "same"),
-        ("1 || 2 || 3", "(Binary (Binary (1) || (2)) || (3))", "same"),
-        ("1 ?? 2 || 3", "(Binary (1) ?? (Binary (2) || (3)))", "same"),
-        ("1 || 2 ?? 3", "(Binary (Binary (1) || (2)) ?? (3))", "same"),
-        ("1 ?? 2 ?? 3", "(Binary (1) ?? (Binary (2) ?? (3)))", "same"),
-        (
-            "1 and 2 and 3",
-            "(Binary (Binary (1) and (2)) and (3))",
-            "same",
-        ),
-        (
-            "1 xor 2 and 3",
-            "(Binary (1) xor (Binary (2) and (3)))",
-            "same",
-        ),
-        (
-            "1 AND 2 xor 3",
-            "(Binary (Binary (1) AND (2)) xor (3))",
-            "same",
-        ),
-        (
-            "1 xor 2 xor 3",
-            "(Binary (Binary (1) xor (2)) xor (3))",
-            "same",
-        ),
-        (
-            "1 or 2 xor 3",
-            "(Binary (1) or (Binary (2) xor (3)))",
-            "same",
-        ),
-        (
-            "1 xor 2 or 3",
-            "(Binary (Binary (1) xor (2)) or (3))",
-            "same",
-        ),
-        ("1 or 2 or 3", "(Binary (Binary (1) or (2)) or (3))", "same"),
-    ];
-    assert_exprs(&rt, rt.alloc(), &rows)
+    assert_exprs(&rt, rt.alloc(), &LOGIC)
 }
+
+static TERNARIES_AND_ASSIGNMENTS: [(&str, &str, &str); 16] = [
+    (
+        "1 ?? 2 ? 3 : 4",
+        "(Ternary (Binary (1) ?? (2)) ? (3) : (4))",
+        "same",
+    ),
+    (
+        "1 ? 2 : 3 ?? 4",
+        "(Ternary (1) ? (2) : (Binary (3) ?? (4)))",
+        "same",
+    ),
+    (
+        "1 ? 2 : 3 ? 4 : 5",
+        "(Ternary (Ternary (1) ? (2) : (3)) ? (4) : (5))",
+        "none",
+    ),
+    (
+        "1 ? 2 : 3 ?: 4",
+        "(ShortTernary (Ternary (1) ? (2) : (3)) ? : (4))",
+        "none",
+    ),
+    (
+        "1 ?: 2 ? 3 : 4",
+        "(Ternary (ShortTernary (1) ? : (2)) ? (3) : (4))",
+        "none",
+    ),
+    (
+        "1 ?: 2 ?: 3",
+        "(ShortTernary (ShortTernary (1) ? : (2)) ? : (3))",
+        "same",
+    ),
+    (
+        "1 ? 2 ? 3 : 4 : 5",
+        "(Ternary (1) ? (Ternary (2) ? (3) : (4)) : (5))",
+        "same",
+    ),
+    (
+        "1 ? 2 or 3 : 4",
+        "(Ternary (1) ? (Binary (2) or (3)) : (4))",
+        "same",
+    ),
+    (
+        "$a = 1 ? 2 : 3",
+        "(Assign ($a) = (Ternary (1) ? (2) : (3)))",
+        "same",
+    ),
+    (
+        "1 ? 2 : $a = 3",
+        "(Ternary (1) ? (2) : (Assign ($a) = (3)))",
+        "same",
+    ),
+    ("$a = $b = 1", "(Assign ($a) = (Assign ($b) = (1)))", "same"),
+    (
+        "$a .= $b ??= 1",
+        "(CompoundAssign ($a) .= (CompoundAssign ($b) ??= (1)))",
+        "same",
+    ),
+    ("$a = & $b", "(AssignRef ($a) = & ($b))", "same"),
+    (
+        "$a = 1 and 2",
+        "(Binary (Assign ($a) = (1)) and (2))",
+        "same",
+    ),
+    ("print $a = 1", "(Print print (Assign ($a) = (1)))", "same"),
+    (
+        "print 1 and 2",
+        "(Binary (Print print (1)) and (2))",
+        "same",
+    ),
+];
 
 #[test]
 fn ternaries_and_assignments(rt: HostRuntime) -> Result<(), Fail> {
-    let rows = [
-        (
-            "1 ?? 2 ? 3 : 4",
-            "(Ternary (Binary (1) ?? (2)) ? (3) : (4))",
-            "same",
-        ),
-        (
-            "1 ? 2 : 3 ?? 4",
-            "(Ternary (1) ? (2) : (Binary (3) ?? (4)))",
-            "same",
-        ),
-        (
-            "1 ? 2 : 3 ? 4 : 5",
-            "(Ternary (Ternary (1) ? (2) : (3)) ? (4) : (5))",
-            "none",
-        ),
-        (
-            "1 ? 2 : 3 ?: 4",
-            "(ShortTernary (Ternary (1) ? (2) : (3)) ? : (4))",
-            "none",
-        ),
-        (
-            "1 ?: 2 ? 3 : 4",
-            "(Ternary (ShortTernary (1) ? : (2)) ? (3) : (4))",
-            "none",
-        ),
-        (
-            "1 ?: 2 ?: 3",
-            "(ShortTernary (ShortTernary (1) ? : (2)) ? : (3))",
-            "same",
-        ),
-        (
-            "1 ? 2 ? 3 : 4 : 5",
-            "(Ternary (1) ? (Ternary (2) ? (3) : (4)) : (5))",
-            "same",
-        ),
-        (
-            "1 ? 2 or 3 : 4",
-            "(Ternary (1) ? (Binary (2) or (3)) : (4))",
-            "same",
-        ),
-        (
-            "$a = 1 ? 2 : 3",
-            "(Assign ($a) = (Ternary (1) ? (2) : (3)))",
-            "same",
-        ),
-        (
-            "1 ? 2 : $a = 3",
-            "(Ternary (1) ? (2) : (Assign ($a) = (3)))",
-            "same",
-        ),
-        ("$a = $b = 1", "(Assign ($a) = (Assign ($b) = (1)))", "same"),
-        (
-            "$a .= $b ??= 1",
-            "(CompoundAssign ($a) .= (CompoundAssign ($b) ??= (1)))",
-            "same",
-        ),
-        ("$a = & $b", "(AssignRef ($a) = & ($b))", "same"),
-        (
-            "$a = 1 and 2",
-            "(Binary (Assign ($a) = (1)) and (2))",
-            "same",
-        ),
-        ("print $a = 1", "(Print print (Assign ($a) = (1)))", "same"),
-        (
-            "print 1 and 2",
-            "(Binary (Print print (1)) and (2))",
-            "same",
-        ),
-    ];
-    assert_exprs(&rt, rt.alloc(), &rows)
+    assert_exprs(&rt, rt.alloc(), &TERNARIES_AND_ASSIGNMENTS)
 }

@@ -2,201 +2,204 @@
 use super::sketch::assert_exprs;
 use std::test::Fail;
 
+static TIGHT_PREFIXES: [(&str, &str, &str); 17] = [
+    (
+        "clone $a ** 2",
+        "(Binary (Prefix clone ($a)) ** (2))",
+        "same",
+    ),
+    ("-2 ** 2", "(Prefix - (Binary (2) ** (2)))", "same"),
+    ("(int)$a ** 2", "(Cast (int) (Binary ($a) ** (2)))", "same"),
+    (
+        "2 ** -1 ** 2",
+        "(Binary (2) ** (Prefix - (Binary (1) ** (2))))",
+        "same",
+    ),
+    (
+        "2 ** -1 * 3",
+        "(Binary (Binary (2) ** (Prefix - (1))) * (3))",
+        "same",
+    ),
+    (
+        "-1 * +2",
+        "(Binary (Prefix - (1)) * (Prefix + (2)))",
+        "same",
+    ),
+    ("- - 1", "(Prefix - (Prefix - (1)))", "same"),
+    ("~1 + 2", "(Binary (Prefix ~ (1)) + (2))", "same"),
+    (
+        "@f() + 1",
+        "(Binary (Prefix @ (Call f ( (Args) ))) + (1))",
+        "same",
+    ),
+    (
+        "(int)$a instanceof B",
+        "(InstanceOf (Cast (int) ($a)) instanceof B)",
+        "same",
+    ),
+    (
+        "!$a instanceof B",
+        "(Prefix ! (InstanceOf ($a) instanceof B))",
+        "same",
+    ),
+    (
+        "1 * $a instanceof B",
+        "(Binary (1) * (InstanceOf ($a) instanceof B))",
+        "same",
+    ),
+    (
+        "$a instanceof B instanceof C",
+        "(InstanceOf (InstanceOf ($a) instanceof B) instanceof C)",
+        "same",
+    ),
+    ("!$a * 2", "(Binary (Prefix ! ($a)) * (2))", "same"),
+    (
+        "2 ** !$a * 3",
+        "(Binary (Binary (2) ** (Prefix ! ($a))) * (3))",
+        "same",
+    ),
+    ("(int)!$a", "(Cast (int) (Prefix ! ($a)))", "same"),
+    (
+        "-!$a instanceof B",
+        "(Prefix - (Prefix ! (InstanceOf ($a) instanceof B)))",
+        "same",
+    ),
+];
+
 #[test]
 fn tight_prefixes(rt: HostRuntime) -> Result<(), Fail> {
-    let rows = [
-        (
-            "clone $a ** 2",
-            "(Binary (Prefix clone ($a)) ** (2))",
-            "same",
-        ),
-        ("-2 ** 2", "(Prefix - (Binary (2) ** (2)))", "same"),
-        ("(int)$a ** 2", "(Cast (int) (Binary ($a) ** (2)))", "same"),
-        (
-            "2 ** -1 ** 2",
-            "(Binary (2) ** (Prefix - (Binary (1) ** (2))))",
-            "same",
-        ),
-        (
-            "2 ** -1 * 3",
-            "(Binary (Binary (2) ** (Prefix - (1))) * (3))",
-            "same",
-        ),
-        (
-            "-1 * +2",
-            "(Binary (Prefix - (1)) * (Prefix + (2)))",
-            "same",
-        ),
-        ("- - 1", "(Prefix - (Prefix - (1)))", "same"),
-        ("~1 + 2", "(Binary (Prefix ~ (1)) + (2))", "same"),
-        (
-            "@f() + 1",
-            "(Binary (Prefix @ (Call f ( (Args) ))) + (1))",
-            "same",
-        ),
-        (
-            "(int)$a instanceof B",
-            "(InstanceOf (Cast (int) ($a)) instanceof B)",
-            "same",
-        ),
-        (
-            "!$a instanceof B",
-            "(Prefix ! (InstanceOf ($a) instanceof B))",
-            "same",
-        ),
-        (
-            "1 * $a instanceof B",
-            "(Binary (1) * (InstanceOf ($a) instanceof B))",
-            "same",
-        ),
-        (
-            "$a instanceof B instanceof C",
-            "(InstanceOf (InstanceOf ($a) instanceof B) instanceof C)",
-            "same",
-        ),
-        ("!$a * 2", "(Binary (Prefix ! ($a)) * (2))", "same"),
-        (
-            "2 ** !$a * 3",
-            "(Binary (Binary (2) ** (Prefix ! ($a))) * (3))",
-            "same",
-        ),
-        ("(int)!$a", "(Cast (int) (Prefix ! ($a)))", "same"),
-        (
-            "-!$a instanceof B",
-            "(Prefix - (Prefix ! (InstanceOf ($a) instanceof B)))",
-            "same",
-        ),
-    ];
-    assert_exprs(&rt, rt.alloc(), &rows)
+    assert_exprs(&rt, rt.alloc(), &TIGHT_PREFIXES)
 }
+
+static PREFIXES_THAT_REACH_FAR_RIGHT: [(&str, &str, &str); 13] = [
+    (
+        "1 + print 2 + 3",
+        "(Binary (1) + (Print print (Binary (2) + (3))))",
+        "same",
+    ),
+    (
+        "1 * print 2 and 3",
+        "(Binary (Binary (1) * (Print print (2))) and (3))",
+        "same",
+    ),
+    ("1 + print 2 < 3 < 4", "none", "same"),
+    ("print print 1", "(Print print (Print print (1)))", "same"),
+    (
+        "yield 1 and 2",
+        "(Binary (Yield yield (1)) and (2))",
+        "same",
+    ),
+    (
+        "yield $a => 1 + 2",
+        "(Yield yield ($a) => (Binary (1) + (2)))",
+        "same",
+    ),
+    (
+        "yield from $a or 1",
+        "(Binary (Yield yield from ($a)) or (1))",
+        "same",
+    ),
+    ("$a = yield", "(Assign ($a) = (Yield yield))", "same"),
+    (
+        "include 'a' or 1",
+        "(Include include (Binary ('a') or (1)))",
+        "same",
+    ),
+    (
+        "@include_once 'a' . 'b'",
+        "(Prefix @ (Include include_once (Binary ('a') . ('b'))))",
+        "same",
+    ),
+    (
+        "1 + require 2 or 3",
+        "(Binary (1) + (Include require (Binary (2) or (3))))",
+        "same",
+    ),
+    (
+        "fn() => 1 or 2",
+        "(Arrow fn ( ) => (Binary (1) or (2)))",
+        "same",
+    ),
+    (
+        "1 + fn() => 2 + 3",
+        "(Binary (1) + (Arrow fn ( ) => (Binary (2) + (3))))",
+        "same",
+    ),
+];
 
 #[test]
 fn prefixes_that_reach_far_right(rt: HostRuntime) -> Result<(), Fail> {
-    let rows = [
-        (
-            "1 + print 2 + 3",
-            "(Binary (1) + (Print print (Binary (2) + (3))))",
-            "same",
-        ),
-        (
-            "1 * print 2 and 3",
-            "(Binary (Binary (1) * (Print print (2))) and (3))",
-            "same",
-        ),
-        ("1 + print 2 < 3 < 4", "none", "same"),
-        ("print print 1", "(Print print (Print print (1)))", "same"),
-        (
-            "yield 1 and 2",
-            "(Binary (Yield yield (1)) and (2))",
-            "same",
-        ),
-        (
-            "yield $a => 1 + 2",
-            "(Yield yield ($a) => (Binary (1) + (2)))",
-            "same",
-        ),
-        (
-            "yield from $a or 1",
-            "(Binary (Yield yield from ($a)) or (1))",
-            "same",
-        ),
-        ("$a = yield", "(Assign ($a) = (Yield yield))", "same"),
-        (
-            "include 'a' or 1",
-            "(Include include (Binary ('a') or (1)))",
-            "same",
-        ),
-        (
-            "@include_once 'a' . 'b'",
-            "(Prefix @ (Include include_once (Binary ('a') . ('b'))))",
-            "same",
-        ),
-        (
-            "1 + require 2 or 3",
-            "(Binary (1) + (Include require (Binary (2) or (3))))",
-            "same",
-        ),
-        (
-            "fn() => 1 or 2",
-            "(Arrow fn ( ) => (Binary (1) or (2)))",
-            "same",
-        ),
-        (
-            "1 + fn() => 2 + 3",
-            "(Binary (1) + (Arrow fn ( ) => (Binary (2) + (3))))",
-            "same",
-        ),
-    ];
-    assert_exprs(&rt, rt.alloc(), &rows)
+    assert_exprs(&rt, rt.alloc(), &PREFIXES_THAT_REACH_FAR_RIGHT)
 }
+
+static ASSIGNMENTS_BEHIND_TIGHTER_OPERATORS: [(&str, &str, &str); 20] = [
+    (
+        "!$a = f()",
+        "(Prefix ! (Assign ($a) = (Call f ( (Args) ))))",
+        "same",
+    ),
+    ("1 + $a = 2", "(Binary (1) + (Assign ($a) = (2)))", "same"),
+    (
+        "1 + $a = 2 + 3",
+        "(Binary (1) + (Assign ($a) = (Binary (2) + (3))))",
+        "same",
+    ),
+    (
+        "1 < $a = 2 < 3",
+        "(Binary (1) < (Assign ($a) = (Binary (2) < (3))))",
+        "same",
+    ),
+    (
+        "1 + $a = 2 and 3",
+        "(Binary (Binary (1) + (Assign ($a) = (2))) and (3))",
+        "same",
+    ),
+    (
+        "-$a = 1 + 2",
+        "(Prefix - (Assign ($a) = (Binary (1) + (2))))",
+        "same",
+    ),
+    ("(int)$a = 1", "(Cast (int) (Assign ($a) = (1)))", "same"),
+    (
+        "$a && $b += 1",
+        "(Binary ($a) && (CompoundAssign ($b) += (1)))",
+        "same",
+    ),
+    (
+        "$a ?? $b = & $c",
+        "(Binary ($a) ?? (AssignRef ($b) = & ($c)))",
+        "same",
+    ),
+    (
+        "1 + [$a] = $b",
+        "(Binary (1) + (Assign (List [ (Item ($a)) ]) = ($b)))",
+        "same",
+    ),
+    (
+        "$a ? $b : $c = 1",
+        "(Ternary ($a) ? ($b) : (Assign ($c) = (1)))",
+        "same",
+    ),
+    ("1 = 2", "none", "same"),
+    ("f() = 1", "none", "same"),
+    ("-$a += 1 = 2", "none", "same"),
+    (
+        "f()[0] = 1",
+        "(Assign (Offset (Call f ( (Args) )) [ (0) ]) = (1))",
+        "same",
+    ),
+    (
+        "$a++ + ++$b",
+        "(Binary (Postfix ($a) ++) + (Prefix ++ ($b)))",
+        "same",
+    ),
+    ("--$a ** 2", "(Binary (Prefix -- ($a)) ** (2))", "same"),
+    ("!$a--", "(Prefix ! (Postfix ($a) --))", "same"),
+    ("++1", "none", "same"),
+    ("f()++", "none", "same"),
+];
 
 #[test]
 fn assignments_behind_tighter_operators(rt: HostRuntime) -> Result<(), Fail> {
-    let rows = [
-        (
-            "!$a = f()",
-            "(Prefix ! (Assign ($a) = (Call f ( (Args) ))))",
-            "same",
-        ),
-        ("1 + $a = 2", "(Binary (1) + (Assign ($a) = (2)))", "same"),
-        (
-            "1 + $a = 2 + 3",
-            "(Binary (1) + (Assign ($a) = (Binary (2) + (3))))",
-            "same",
-        ),
-        (
-            "1 < $a = 2 < 3",
-            "(Binary (1) < (Assign ($a) = (Binary (2) < (3))))",
-            "same",
-        ),
-        (
-            "1 + $a = 2 and 3",
-            "(Binary (Binary (1) + (Assign ($a) = (2))) and (3))",
-            "same",
-        ),
-        (
-            "-$a = 1 + 2",
-            "(Prefix - (Assign ($a) = (Binary (1) + (2))))",
-            "same",
-        ),
-        ("(int)$a = 1", "(Cast (int) (Assign ($a) = (1)))", "same"),
-        (
-            "$a && $b += 1",
-            "(Binary ($a) && (CompoundAssign ($b) += (1)))",
-            "same",
-        ),
-        (
-            "$a ?? $b = & $c",
-            "(Binary ($a) ?? (AssignRef ($b) = & ($c)))",
-            "same",
-        ),
-        (
-            "1 + [$a] = $b",
-            "(Binary (1) + (Assign (List [ (Item ($a)) ]) = ($b)))",
-            "same",
-        ),
-        (
-            "$a ? $b : $c = 1",
-            "(Ternary ($a) ? ($b) : (Assign ($c) = (1)))",
-            "same",
-        ),
-        ("1 = 2", "none", "same"),
-        ("f() = 1", "none", "same"),
-        ("-$a += 1 = 2", "none", "same"),
-        (
-            "f()[0] = 1",
-            "(Assign (Offset (Call f ( (Args) )) [ (0) ]) = (1))",
-            "same",
-        ),
-        (
-            "$a++ + ++$b",
-            "(Binary (Postfix ($a) ++) + (Prefix ++ ($b)))",
-            "same",
-        ),
-        ("--$a ** 2", "(Binary (Prefix -- ($a)) ** (2))", "same"),
-        ("!$a--", "(Prefix ! (Postfix ($a) --))", "same"),
-        ("++1", "none", "same"),
-        ("f()++", "none", "same"),
-    ];
-    assert_exprs(&rt, rt.alloc(), &rows)
+    assert_exprs(&rt, rt.alloc(), &ASSIGNMENTS_BEHIND_TIGHTER_OPERATORS)
 }

@@ -3,262 +3,267 @@
 use super::sketch::assert_statements;
 use std::test::Fail;
 
+static SIMPLE_STATEMENTS: [(&str, &str, &str); 16] = [
+    (
+        "{ 1; { } }",
+        "(Block { (ExprStmt (1) ;) (Block { }) })",
+        "same",
+    ),
+    (";", "(Empty ;)", "same"),
+    ("echo 1, 2;", "(Echo echo (1) , (2) ;)", "same"),
+    ("echo;", "none", "same"),
+    (
+        "return; return 1;",
+        "(Return return ;)(Return return (1) ;)",
+        "same",
+    ),
+    (
+        "global $a, $$b, ${'c'};",
+        "(Global global ($a) , (Variable $ ($b)) , (Variable $ { ('c') }) ;)",
+        "same",
+    ),
+    (
+        "static $a, $b = 1;",
+        "(Statics static $a , $b = (1) ;)",
+        "same",
+    ),
+    (
+        "unset($a, $b[0],);",
+        "(Unset unset ( ($a) , (Offset ($b) [ (0) ]) , ) ;)",
+        "same",
+    ),
+    ("throw new A;", "(Throw throw (New new A) ;)", "same"),
+    (
+        "declare(strict_types=1);",
+        "(Declare declare ( strict_types = (1) ) (Empty ;))",
+        "same",
+    ),
+    (
+        "declare(ticks=1, encoding='a') { }",
+        "(Declare declare ( ticks = (1) , encoding = ('a') ) (Block { }))",
+        "same",
+    ),
+    (
+        "declare(ticks=1): 2; enddeclare;",
+        "(Declare declare ( ticks = (1) ) : (ExprStmt (2) ;) enddeclare ;)",
+        "same",
+    ),
+    ("a: goto a;", "(LabelStmt a :)(Goto goto a ;)", "same"),
+    (
+        "const A = 1, B = A . 'c';",
+        "(Const const A = (1) , B = (Binary (A) . ('c')) ;)",
+        "same",
+    ),
+    ("1", "none", "same"),
+    ("}", "none", "same"),
+];
+
 #[test]
 fn simple_statements(rt: HostRuntime) -> Result<(), Fail> {
-    let rows = [
-        (
-            "{ 1; { } }",
-            "(Block { (ExprStmt (1) ;) (Block { }) })",
-            "same",
-        ),
-        (";", "(Empty ;)", "same"),
-        ("echo 1, 2;", "(Echo echo (1) , (2) ;)", "same"),
-        ("echo;", "none", "same"),
-        (
-            "return; return 1;",
-            "(Return return ;)(Return return (1) ;)",
-            "same",
-        ),
-        (
-            "global $a, $$b, ${'c'};",
-            "(Global global ($a) , (Variable $ ($b)) , (Variable $ { ('c') }) ;)",
-            "same",
-        ),
-        (
-            "static $a, $b = 1;",
-            "(Statics static $a , $b = (1) ;)",
-            "same",
-        ),
-        (
-            "unset($a, $b[0],);",
-            "(Unset unset ( ($a) , (Offset ($b) [ (0) ]) , ) ;)",
-            "same",
-        ),
-        ("throw new A;", "(Throw throw (New new A) ;)", "same"),
-        (
-            "declare(strict_types=1);",
-            "(Declare declare ( strict_types = (1) ) (Empty ;))",
-            "same",
-        ),
-        (
-            "declare(ticks=1, encoding='a') { }",
-            "(Declare declare ( ticks = (1) , encoding = ('a') ) (Block { }))",
-            "same",
-        ),
-        (
-            "declare(ticks=1): 2; enddeclare;",
-            "(Declare declare ( ticks = (1) ) : (ExprStmt (2) ;) enddeclare ;)",
-            "same",
-        ),
-        ("a: goto a;", "(LabelStmt a :)(Goto goto a ;)", "same"),
-        (
-            "const A = 1, B = A . 'c';",
-            "(Const const A = (1) , B = (Binary (A) . ('c')) ;)",
-            "same",
-        ),
-        ("1", "none", "same"),
-        ("}", "none", "same"),
-    ];
-    assert_statements(&rt, rt.alloc(), &rows)
+    assert_statements(&rt, rt.alloc(), &SIMPLE_STATEMENTS)
 }
+
+static BRANCHES: [(&str, &str, &str); 14] = [
+    (
+        "if (1) if (2) 3; else 4;",
+        "(If if ( (1) ) (If if ( (2) ) (ExprStmt (3) ;) else (ExprStmt (4) ;)))",
+        "same",
+    ),
+    (
+        "if (1) if (2) 3; elseif (4) 5; else 6;",
+        "(If if ( (1) ) (If if ( (2) ) (ExprStmt (3) ;) elseif ( (4) ) (ExprStmt (5) ;) else (ExprStmt (6) ;)))",
+        "same",
+    ),
+    (
+        "if (1) 2; else if (3) 4; else 5;",
+        "(If if ( (1) ) (ExprStmt (2) ;) else (If if ( (3) ) (ExprStmt (4) ;) else (ExprStmt (5) ;)))",
+        "same",
+    ),
+    (
+        "if (1) { if (2) 3; } else 4;",
+        "(If if ( (1) ) (Block { (If if ( (2) ) (ExprStmt (3) ;)) }) else (ExprStmt (4) ;))",
+        "same",
+    ),
+    (
+        "if (1) while (2) if (3) ; else ;",
+        "(If if ( (1) ) (While while ( (2) ) (If if ( (3) ) (Empty ;) else (Empty ;))))",
+        "same",
+    ),
+    ("if (1) 2; else 3; else 4;", "none", "same"),
+    ("else 1;", "none", "same"),
+    (
+        "if (1): 2; elseif (3): 4; else: 5; endif;",
+        "(IfAlt if ( (1) ) : (ExprStmt (2) ;) elseif ( (3) ) : (ExprStmt (4) ;) else : (ExprStmt (5) ;) endif ;)",
+        "same",
+    ),
+    (
+        "if (1): if (2): 3; else: 4; endif; endif;",
+        "(IfAlt if ( (1) ) : (IfAlt if ( (2) ) : (ExprStmt (3) ;) else : (ExprStmt (4) ;) endif ;) endif ;)",
+        "same",
+    ),
+    ("if (1): if (2) 3; else: 4; endif;", "none", "same"),
+    (
+        "if ((1)): endif;",
+        "(IfAlt if ( (Paren ( (1) )) ) : endif ;)",
+        "same",
+    ),
+    (
+        "switch (1) { case 2: 3; case 4; default: }",
+        "(Switch switch ( (1) ) { (Case case (2) : (ExprStmt (3) ;)) (Case case (4) ;) (Case default :) })",
+        "same",
+    ),
+    (
+        "switch (1): ; case 2: break; endswitch;",
+        "(Switch switch ( (1) ) : ; (Case case (2) : (Break break ;)) endswitch ;)",
+        "same",
+    ),
+    ("switch (1) { 2; }", "none", "same"),
+];
 
 #[test]
 fn branches(rt: HostRuntime) -> Result<(), Fail> {
-    let rows = [
-        (
-            "if (1) if (2) 3; else 4;",
-            "(If if ( (1) ) (If if ( (2) ) (ExprStmt (3) ;) else (ExprStmt (4) ;)))",
-            "same",
-        ),
-        (
-            "if (1) if (2) 3; elseif (4) 5; else 6;",
-            "(If if ( (1) ) (If if ( (2) ) (ExprStmt (3) ;) elseif ( (4) ) (ExprStmt (5) ;) else (ExprStmt (6) ;)))",
-            "same",
-        ),
-        (
-            "if (1) 2; else if (3) 4; else 5;",
-            "(If if ( (1) ) (ExprStmt (2) ;) else (If if ( (3) ) (ExprStmt (4) ;) else (ExprStmt (5) ;)))",
-            "same",
-        ),
-        (
-            "if (1) { if (2) 3; } else 4;",
-            "(If if ( (1) ) (Block { (If if ( (2) ) (ExprStmt (3) ;)) }) else (ExprStmt (4) ;))",
-            "same",
-        ),
-        (
-            "if (1) while (2) if (3) ; else ;",
-            "(If if ( (1) ) (While while ( (2) ) (If if ( (3) ) (Empty ;) else (Empty ;))))",
-            "same",
-        ),
-        ("if (1) 2; else 3; else 4;", "none", "same"),
-        ("else 1;", "none", "same"),
-        (
-            "if (1): 2; elseif (3): 4; else: 5; endif;",
-            "(IfAlt if ( (1) ) : (ExprStmt (2) ;) elseif ( (3) ) : (ExprStmt (4) ;) else : (ExprStmt (5) ;) endif ;)",
-            "same",
-        ),
-        (
-            "if (1): if (2): 3; else: 4; endif; endif;",
-            "(IfAlt if ( (1) ) : (IfAlt if ( (2) ) : (ExprStmt (3) ;) else : (ExprStmt (4) ;) endif ;) endif ;)",
-            "same",
-        ),
-        ("if (1): if (2) 3; else: 4; endif;", "none", "same"),
-        (
-            "if ((1)): endif;",
-            "(IfAlt if ( (Paren ( (1) )) ) : endif ;)",
-            "same",
-        ),
-        (
-            "switch (1) { case 2: 3; case 4; default: }",
-            "(Switch switch ( (1) ) { (Case case (2) : (ExprStmt (3) ;)) (Case case (4) ;) (Case default :) })",
-            "same",
-        ),
-        (
-            "switch (1): ; case 2: break; endswitch;",
-            "(Switch switch ( (1) ) : ; (Case case (2) : (Break break ;)) endswitch ;)",
-            "same",
-        ),
-        ("switch (1) { 2; }", "none", "same"),
-    ];
-    assert_statements(&rt, rt.alloc(), &rows)
+    assert_statements(&rt, rt.alloc(), &BRANCHES)
 }
+
+static LOOPS_AND_HANDLERS: [(&str, &str, &str); 16] = [
+    (
+        "while (1) break 2;",
+        "(While while ( (1) ) (Break break 2 ;))",
+        "same",
+    ),
+    (
+        "while (1): continue; endwhile;",
+        "(While while ( (1) ) : (Continue continue ;) endwhile ;)",
+        "same",
+    ),
+    ("break $a;", "none", "same"),
+    (
+        "do 1; while (2);",
+        "(DoWhile do (ExprStmt (1) ;) while ( (2) ) ;)",
+        "same",
+    ),
+    (
+        "for ($a = 0, $b = 1; ; $a++) { }",
+        "(For for ( (Assign ($a) = (0)) , (Assign ($b) = (1)) ; ; (Postfix ($a) ++) ) (Block { }))",
+        "same",
+    ),
+    ("for (;;): endfor;", "(For for ( ; ; ) : endfor ;)", "same"),
+    (
+        "foreach ($a as $b => & $c) 1;",
+        "(Foreach foreach ( ($a) as ($b) => & ($c) ) (ExprStmt (1) ;))",
+        "same",
+    ),
+    (
+        "foreach (f() as & $b): endforeach;",
+        "(Foreach foreach ( (Call f ( (Args) )) as & ($b) ) : endforeach ;)",
+        "same",
+    ),
+    (
+        "foreach ($a as [$b, [, $c]]) ;",
+        "(Foreach foreach ( ($a) as (List [ (Item ($b)) , (Item (List [ , (Item ($c)) ])) ]) ) (Empty ;))",
+        "same",
+    ),
+    (
+        "foreach ($a as $b->c => list('d' => $e)) ;",
+        "(Foreach foreach ( ($a) as (Prop ($b) -> c) => (List list ( (Item ('d') => ($e)) )) ) (Empty ;))",
+        "same",
+    ),
+    ("foreach ($a as f()) ;", "none", "same"),
+    (
+        "try { } catch (A | \\B $c) { } finally { }",
+        "(Try try (Block { }) catch ( A | \\ B $c ) (Block { }) finally (Block { }))",
+        "(Try try (Block { }) catch ( A | \\B $c ) (Block { }) finally (Block { }))",
+    ),
+    (
+        "try { } finally { }",
+        "(Try try (Block { }) finally (Block { }))",
+        "same",
+    ),
+    (
+        "try { } catch (A $b) { } catch (C $b) { }",
+        "(Try try (Block { }) catch ( A $b ) (Block { }) catch ( C $b ) (Block { }))",
+        "same",
+    ),
+    ("try { }", "none", "same"),
+    ("try { } catch (A) { }", "none", "same"),
+];
 
 #[test]
 fn loops_and_handlers(rt: HostRuntime) -> Result<(), Fail> {
-    let rows = [
-        (
-            "while (1) break 2;",
-            "(While while ( (1) ) (Break break 2 ;))",
-            "same",
-        ),
-        (
-            "while (1): continue; endwhile;",
-            "(While while ( (1) ) : (Continue continue ;) endwhile ;)",
-            "same",
-        ),
-        ("break $a;", "none", "same"),
-        (
-            "do 1; while (2);",
-            "(DoWhile do (ExprStmt (1) ;) while ( (2) ) ;)",
-            "same",
-        ),
-        (
-            "for ($a = 0, $b = 1; ; $a++) { }",
-            "(For for ( (Assign ($a) = (0)) , (Assign ($b) = (1)) ; ; (Postfix ($a) ++) ) (Block { }))",
-            "same",
-        ),
-        ("for (;;): endfor;", "(For for ( ; ; ) : endfor ;)", "same"),
-        (
-            "foreach ($a as $b => & $c) 1;",
-            "(Foreach foreach ( ($a) as ($b) => & ($c) ) (ExprStmt (1) ;))",
-            "same",
-        ),
-        (
-            "foreach (f() as & $b): endforeach;",
-            "(Foreach foreach ( (Call f ( (Args) )) as & ($b) ) : endforeach ;)",
-            "same",
-        ),
-        (
-            "foreach ($a as [$b, [, $c]]) ;",
-            "(Foreach foreach ( ($a) as (List [ (Item ($b)) , (Item (List [ , (Item ($c)) ])) ]) ) (Empty ;))",
-            "same",
-        ),
-        (
-            "foreach ($a as $b->c => list('d' => $e)) ;",
-            "(Foreach foreach ( ($a) as (Prop ($b) -> c) => (List list ( (Item ('d') => ($e)) )) ) (Empty ;))",
-            "same",
-        ),
-        ("foreach ($a as f()) ;", "none", "same"),
-        (
-            "try { } catch (A | \\B $c) { } finally { }",
-            "(Try try (Block { }) catch ( A | \\ B $c ) (Block { }) finally (Block { }))",
-            "(Try try (Block { }) catch ( A | \\B $c ) (Block { }) finally (Block { }))",
-        ),
-        (
-            "try { } finally { }",
-            "(Try try (Block { }) finally (Block { }))",
-            "same",
-        ),
-        (
-            "try { } catch (A $b) { } catch (C $b) { }",
-            "(Try try (Block { }) catch ( A $b ) (Block { }) catch ( C $b ) (Block { }))",
-            "same",
-        ),
-        ("try { }", "none", "same"),
-        ("try { } catch (A) { }", "none", "same"),
-    ];
-    assert_statements(&rt, rt.alloc(), &rows)
+    assert_statements(&rt, rt.alloc(), &LOOPS_AND_HANDLERS)
 }
+
+static TAGS_AND_HTML: [(&str, &str, &str); 7] = [
+    (
+        "echo 1 ?>a<?= 2, 3 ?>\nb",
+        "(Echo echo (1) ?>)(Html a)(Echo <?= (2) , (3) ?>\n)(Html b)",
+        "same",
+    ),
+    ("?>a", "(Empty ?>)(Html a)", "same"),
+    (
+        "if (1): ?>a<?php else: ?>b<?php endif ?>",
+        "(IfAlt if ( (1) ) : (Empty ?>) (Html a) else : (Empty ?>) (Html b) endif ?>)",
+        "same",
+    ),
+    (
+        "switch (1): ?>\n<?php case 2: endswitch;",
+        "(Switch switch ( (1) ) : ?>\n (Case case (2) :) endswitch ;)",
+        "same",
+    ),
+    (
+        "for (;;) ?>a<?php ;",
+        "(For for ( ; ; ) (Empty ?>))(Html a)(Empty ;)",
+        "same",
+    ),
+    ("if (1) ?>a<?php else 2;", "none", "same"),
+    (
+        "function f() { ?>a<?php }",
+        "(Function function f ( ) (Block { (Empty ?>) (Html a) }))",
+        "same",
+    ),
+];
 
 #[test]
 fn tags_and_html(rt: HostRuntime) -> Result<(), Fail> {
-    let rows = [
-        (
-            "echo 1 ?>a<?= 2, 3 ?>\nb",
-            "(Echo echo (1) ?>)(Html a)(Echo <?= (2) , (3) ?>\n)(Html b)",
-            "same",
-        ),
-        ("?>a", "(Empty ?>)(Html a)", "same"),
-        (
-            "if (1): ?>a<?php else: ?>b<?php endif ?>",
-            "(IfAlt if ( (1) ) : (Empty ?>) (Html a) else : (Empty ?>) (Html b) endif ?>)",
-            "same",
-        ),
-        (
-            "switch (1): ?>\n<?php case 2: endswitch;",
-            "(Switch switch ( (1) ) : ?>\n (Case case (2) :) endswitch ;)",
-            "same",
-        ),
-        (
-            "for (;;) ?>a<?php ;",
-            "(For for ( ; ; ) (Empty ?>))(Html a)(Empty ;)",
-            "same",
-        ),
-        ("if (1) ?>a<?php else 2;", "none", "same"),
-        (
-            "function f() { ?>a<?php }",
-            "(Function function f ( ) (Block { (Empty ?>) (Html a) }))",
-            "same",
-        ),
-    ];
-    assert_statements(&rt, rt.alloc(), &rows)
+    assert_statements(&rt, rt.alloc(), &TAGS_AND_HTML)
 }
+
+static FOUR_USES_OF_STATIC: [(&str, &str, &str); 8] = [
+    ("static $a;", "(Statics static $a ;)", "same"),
+    (
+        "static function () { };",
+        "(ExprStmt (Closure static function ( ) (Block { })) ;)",
+        "same",
+    ),
+    (
+        "static fn() => 1;",
+        "(ExprStmt (Arrow static fn ( ) => (1)) ;)",
+        "same",
+    ),
+    (
+        "static::$a; static::A; static::f();",
+        "(ExprStmt (StaticProp static :: $a) ;)(ExprStmt (ClassConstant static :: A) ;)(ExprStmt (StaticCall static :: f ( (Args) )) ;)",
+        "same",
+    ),
+    (
+        "new static; new static(1); new static::$a;",
+        "(ExprStmt (New new static) ;)(ExprStmt (New new static ( (Args (1)) )) ;)(ExprStmt (New new (StaticProp static :: $a)) ;)",
+        "same",
+    ),
+    (
+        "$a instanceof static;",
+        "(ExprStmt (InstanceOf ($a) instanceof static) ;)",
+        "same",
+    ),
+    (
+        "class A { static $b; static function c() { } }",
+        "(Class class A { (Property static $b ;) (Method static function c ( ) (Block { })) })",
+        "same",
+    ),
+    ("static;", "none", "same"),
+];
 
 #[test]
 fn four_uses_of_static(rt: HostRuntime) -> Result<(), Fail> {
-    let rows = [
-        ("static $a;", "(Statics static $a ;)", "same"),
-        (
-            "static function () { };",
-            "(ExprStmt (Closure static function ( ) (Block { })) ;)",
-            "same",
-        ),
-        (
-            "static fn() => 1;",
-            "(ExprStmt (Arrow static fn ( ) => (1)) ;)",
-            "same",
-        ),
-        (
-            "static::$a; static::A; static::f();",
-            "(ExprStmt (StaticProp static :: $a) ;)(ExprStmt (ClassConstant static :: A) ;)(ExprStmt (StaticCall static :: f ( (Args) )) ;)",
-            "same",
-        ),
-        (
-            "new static; new static(1); new static::$a;",
-            "(ExprStmt (New new static) ;)(ExprStmt (New new static ( (Args (1)) )) ;)(ExprStmt (New new (StaticProp static :: $a)) ;)",
-            "same",
-        ),
-        (
-            "$a instanceof static;",
-            "(ExprStmt (InstanceOf ($a) instanceof static) ;)",
-            "same",
-        ),
-        (
-            "class A { static $b; static function c() { } }",
-            "(Class class A { (Property static $b ;) (Method static function c ( ) (Block { })) })",
-            "same",
-        ),
-        ("static;", "none", "same"),
-    ];
-    assert_statements(&rt, rt.alloc(), &rows)
+    assert_statements(&rt, rt.alloc(), &FOUR_USES_OF_STATIC)
 }
