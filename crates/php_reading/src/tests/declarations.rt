@@ -3,7 +3,7 @@
 use super::sketch::assert_statements;
 use std::test::Fail;
 
-static FUNCTIONS: [(&str, &str, &str); 7] = [
+static FUNCTIONS: [(&str, &str, &str); 9] = [
     (
         "function & f(A $a, ?int & ...$b) : array { }",
         "(Function function & f ( (Param (TypeName A) $a) , (Param (TypeName ? int) & ... $b) ) : (TypeName array) (Block { }))",
@@ -23,6 +23,16 @@ static FUNCTIONS: [(&str, &str, &str); 7] = [
     ("function f($a,) { }", "none", "same"),
     ("function list() { }", "none", "same"),
     ("function f();", "none", "same"),
+    (
+        "function f() { function g() { } class A { } }",
+        "(Function function f ( ) (Block { (Function function g ( ) (Block { })) (Class class A { }) }))",
+        "same",
+    ),
+    (
+        "function f() { static $a; global $b; return static::c(); }",
+        "(Function function f ( ) (Block { (Statics static $a ;) (Global global ($b) ;) (Return return (StaticCall static :: c ( (Args) )) ;) }))",
+        "same",
+    ),
 ];
 
 #[test]
@@ -30,7 +40,7 @@ fn functions(rt: HostRuntime) -> Result<(), Fail> {
     assert_statements(&rt, rt.alloc(), &FUNCTIONS)
 }
 
-static CLASSES: [(&str, &str, &str); 18] = [
+static CLASSES: [(&str, &str, &str); 25] = [
     (
         "abstract class A extends B implements C, D { }",
         "(Class abstract class A extends B implements C , D { })",
@@ -85,6 +95,33 @@ static CLASSES: [(&str, &str, &str); 18] = [
     ("class A extends B, C { }", "none", "same"),
     ("enum A { }", "none", "same"),
     ("readonly class A { }", "none", "same"),
+    (
+        "class A { public int $a; static public $b; var $c, $d = 1; }",
+        "(Class class A { (Property public (TypeName int) $a ;) (Property static public $b ;) (Property var $c , $d = (1) ;) })",
+        "same",
+    ),
+    (
+        "#[\\allowdynamicproperties]\nfinal class A { }",
+        "(Class final class A { })",
+        "(Class #[ \\allowdynamicproperties ] final class A { })",
+    ),
+    (
+        "#[\\AllowDynamicProperties]\ninterface A { }",
+        "(Interface interface A { })",
+        "none",
+    ),
+    (
+        "#[AllowDynamicProperties]\nclass A { }",
+        "(Class class A { })",
+        "none",
+    ),
+    (
+        "class A { function b() { return new class { function c() { } }; } }",
+        "(Class class A { (Method function b ( ) (Block { (Return return (New new class { (Method function c ( ) (Block { })) }) ;) })) })",
+        "same",
+    ),
+    ("class A { function b() }", "none", "same"),
+    ("interface A implements B { }", "none", "same"),
 ];
 
 #[test]
@@ -92,7 +129,7 @@ fn classes(rt: HostRuntime) -> Result<(), Fail> {
     assert_statements(&rt, rt.alloc(), &CLASSES)
 }
 
-static NAMESPACES_AND_USES: [(&str, &str, &str); 14] = [
+static NAMESPACES_AND_USES: [(&str, &str, &str); 18] = [
     (
         "namespace A\\B; 1;",
         "(Namespace namespace A \\ B ;)(ExprStmt (1) ;)",
@@ -143,6 +180,22 @@ static NAMESPACES_AND_USES: [(&str, &str, &str); 14] = [
     ("use A\\{};", "none", "same"),
     ("use A,;", "none", "same"),
     ("use 'a';", "none", "same"),
+    (
+        "namespace A\\list;",
+        "none",
+        "(Namespace namespace A\\list ;)",
+    ),
+    ("use A\\{list};", "none", "same"),
+    (
+        "use \\A\\{B};",
+        "(Use use \\ A \\ { B } ;)",
+        "(Use use \\A \\ { B } ;)",
+    ),
+    (
+        "use function A\\{b as c, D\\e};",
+        "(Use use function A \\ { b as c , D \\ e } ;)",
+        "(Use use function A \\ { b as c , D\\e } ;)",
+    ),
 ];
 
 #[test]

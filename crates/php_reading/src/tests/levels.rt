@@ -4,7 +4,7 @@
 use super::sketch::assert_exprs;
 use std::test::Fail;
 
-static ARITHMETIC: [(&str, &str, &str); 16] = [
+static ARITHMETIC: [(&str, &str, &str); 17] = [
     ("2 ** 3 ** 4", "(Binary (2) ** (Binary (3) ** (4)))", "same"),
     ("2 ** 3 * 4", "(Binary (Binary (2) ** (3)) * (4))", "same"),
     ("2 * 3 ** 4", "(Binary (2) * (Binary (3) ** (4)))", "same"),
@@ -37,6 +37,11 @@ static ARITHMETIC: [(&str, &str, &str); 16] = [
     ),
     ("1 . 2 < 3", "(Binary (Binary (1) . (2)) < (3))", "same"),
     ("1 < 2 . 3", "(Binary (1) < (Binary (2) . (3)))", "same"),
+    (
+        "1 . 2 + 3",
+        "(Binary (Binary (1) . (2)) + (3))",
+        "(Binary (1) . (Binary (2) + (3)))",
+    ),
 ];
 
 #[test]

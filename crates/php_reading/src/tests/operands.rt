@@ -3,7 +3,7 @@
 use super::sketch::assert_exprs;
 use std::test::Fail;
 
-static NAMES_AND_OFFSETS: [(&str, &str, &str); 16] = [
+static NAMES_AND_OFFSETS: [(&str, &str, &str); 24] = [
     ("A", "(A)", "same"),
     ("\\A\\B", "(Constant \\ A \\ B)", "(\\A\\B)"),
     (
@@ -32,6 +32,18 @@ static NAMES_AND_OFFSETS: [(&str, &str, &str); 16] = [
     ("($a)[0]", "(Offset (Paren ( ($a) )) [ (0) ])", "same"),
     ("1[0]", "none", "same"),
     ("1.5 . 2", "(Binary (1.5) . (2))", "same"),
+    ("A\\list", "none", "(A\\list)"),
+    ("$a->b{0}", "(BraceOffset (Prop ($a) -> b) { (0) })", "none"),
+    (
+        "f(){0}",
+        "(BraceOffset (Call f ( (Args) )) { (0) })",
+        "none",
+    ),
+    ("1_000 + 0x1F", "(Binary (1_000) + (0x1F))", "same"),
+    ("08", "none", "same"),
+    ("0o17", "none", "same"),
+    ("b'a' . \"b\"", "(Binary (b'a') . (\"b\"))", "same"),
+    ("$a{0}", "(BraceOffset ($a) { (0) })", "none"),
 ];
 
 #[test]
@@ -39,7 +51,7 @@ fn names_and_offsets(rt: HostRuntime) -> Result<(), Fail> {
     assert_exprs(&rt, rt.alloc(), &NAMES_AND_OFFSETS)
 }
 
-static MEMBERS_AND_CALLS: [(&str, &str, &str); 22] = [
+static MEMBERS_AND_CALLS: [(&str, &str, &str); 32] = [
     ("$a->b->c", "(Prop (Prop ($a) -> b) -> c)", "same"),
     ("$a->list", "(Prop ($a) -> list)", "same"),
     (
@@ -94,6 +106,36 @@ static MEMBERS_AND_CALLS: [(&str, &str, &str); 22] = [
         "(StaticCall (Paren ( (Call f ( (Args) )) )) :: g ( (Args) ))",
         "same",
     ),
+    (
+        "$a->{$b}()",
+        "(MethodCall ($a) -> { ($b) } ( (Args) ))",
+        "same",
+    ),
+    (
+        "A::$b::$c",
+        "(StaticProp (StaticProp A :: $b) :: $c)",
+        "same",
+    ),
+    (
+        "A::$b[0]()",
+        "(Call (Offset (StaticProp A :: $b) [ (0) ]) ( (Args) ))",
+        "same",
+    ),
+    (
+        "$a->b[0](1)",
+        "(Call (Offset (Prop ($a) -> b) [ (0) ]) ( (Args (1)) ))",
+        "same",
+    ),
+    (
+        "A::f()->b",
+        "(Prop (StaticCall A :: f ( (Args) )) -> b)",
+        "same",
+    ),
+    ("[1]->b", "(Prop (Array [ (Item (1)) ]) -> b)", "same"),
+    ("A->b", "none", "same"),
+    ("A::B->c", "none", "same"),
+    ("A::B::C", "none", "same"),
+    ("'A'::f()", "none", "same"),
 ];
 
 #[test]
@@ -101,7 +143,7 @@ fn members_and_calls(rt: HostRuntime) -> Result<(), Fail> {
     assert_exprs(&rt, rt.alloc(), &MEMBERS_AND_CALLS)
 }
 
-static NEW_AND_INSTANCEOF: [(&str, &str, &str); 17] = [
+static NEW_AND_INSTANCEOF: [(&str, &str, &str); 21] = [
     ("new A", "(New new A)", "same"),
     ("new A(1)", "(New new A ( (Args (1)) ))", "same"),
     ("new A + 1", "(Binary (New new A) + (1))", "same"),
@@ -151,6 +193,22 @@ static NEW_AND_INSTANCEOF: [(&str, &str, &str); 17] = [
     ),
     ("$a instanceof $b()", "none", "same"),
     ("$a instanceof 'A'", "none", "same"),
+    (
+        "new A instanceof B",
+        "(InstanceOf (New new A) instanceof B)",
+        "same",
+    ),
+    (
+        "new $a instanceof B",
+        "(InstanceOf (New new ($a)) instanceof B)",
+        "same",
+    ),
+    ("new A()->b", "none", "same"),
+    (
+        "(clone $a)->b",
+        "(Prop (Paren ( (Prefix clone ($a)) )) -> b)",
+        "same",
+    ),
 ];
 
 #[test]
@@ -158,7 +216,7 @@ fn new_and_instanceof(rt: HostRuntime) -> Result<(), Fail> {
     assert_exprs(&rt, rt.alloc(), &NEW_AND_INSTANCEOF)
 }
 
-static ARRAYS_AND_LIST_FORMS: [(&str, &str, &str); 18] = [
+static ARRAYS_AND_LIST_FORMS: [(&str, &str, &str); 23] = [
     (
         "[1, 'a' => 2, & $b, 'c' => & $d, ...$e,]",
         "(Array [ (Item (1)) , (Item ('a') => (2)) , (Item & ($b)) , (Item ('c') => & ($d)) , (Item ... ($e)) , ])",
@@ -213,6 +271,31 @@ static ARRAYS_AND_LIST_FORMS: [(&str, &str, &str); 18] = [
     ("[f()] = $a", "none", "same"),
     ("list($a)", "none", "same"),
     ("[$a] += $b", "none", "same"),
+    (
+        "$a = [1, 2] + [3]",
+        "(Assign ($a) = (Binary (Array [ (Item (1)) , (Item (2)) ]) + (Array [ (Item (3)) ])))",
+        "same",
+    ),
+    (
+        "[$a, $b] = [$b, $a]",
+        "(Assign (List [ (Item ($a)) , (Item ($b)) ]) = (Array [ (Item ($b)) , (Item ($a)) ]))",
+        "same",
+    ),
+    (
+        "[$a => [$b, $c]] = $d",
+        "(Assign (List [ (Item ($a) => (List [ (Item ($b)) , (Item ($c)) ])) ]) = ($d))",
+        "same",
+    ),
+    (
+        "[$a[0] => $b] = $c",
+        "(Assign (List [ (Item (Offset ($a) [ (0) ]) => ($b)) ]) = ($c))",
+        "same",
+    ),
+    (
+        "list(, , $a) = $b",
+        "(Assign (List list ( , , (Item ($a)) )) = ($b))",
+        "same",
+    ),
 ];
 
 #[test]
@@ -220,7 +303,7 @@ fn arrays_and_list_forms(rt: HostRuntime) -> Result<(), Fail> {
     assert_exprs(&rt, rt.alloc(), &ARRAYS_AND_LIST_FORMS)
 }
 
-static FUNCTIONS_AND_CONSTRUCTS: [(&str, &str, &str); 18] = [
+static FUNCTIONS_AND_CONSTRUCTS: [(&str, &str, &str); 19] = [
     (
         "function () { }",
         "(Closure function ( ) (Block { }))",
@@ -263,6 +346,7 @@ static FUNCTIONS_AND_CONSTRUCTS: [(&str, &str, &str); 18] = [
     ("$a?->b", "none", "same"),
     ("f(a: 1)", "none", "same"),
     ("f(...)", "none", "same"),
+    ("exit + 1", "(Binary (Exit exit) + (1))", "same"),
 ];
 
 #[test]

@@ -2,7 +2,7 @@
 use super::sketch::assert_exprs;
 use std::test::Fail;
 
-static TIGHT_PREFIXES: [(&str, &str, &str); 17] = [
+static TIGHT_PREFIXES: [(&str, &str, &str); 24] = [
     (
         "clone $a ** 2",
         "(Binary (Prefix clone ($a)) ** (2))",
@@ -64,6 +64,37 @@ static TIGHT_PREFIXES: [(&str, &str, &str); 17] = [
         "(Prefix - (Prefix ! (InstanceOf ($a) instanceof B)))",
         "same",
     ),
+    (
+        "clone $a->b()",
+        "(Prefix clone (MethodCall ($a) -> b ( (Args) )))",
+        "same",
+    ),
+    (
+        "(array)$a['b']",
+        "(Cast (array) (Offset ($a) [ ('b') ]))",
+        "same",
+    ),
+    (
+        "-(1) ** 2",
+        "(Prefix - (Binary (Paren ( (1) )) ** (2)))",
+        "same",
+    ),
+    ("!!$a", "(Prefix ! (Prefix ! ($a)))", "same"),
+    (
+        "1 && !$a || 2",
+        "(Binary (Binary (1) && (Prefix ! ($a))) || (2))",
+        "same",
+    ),
+    (
+        "( int )$a . -1",
+        "(Binary (Cast ( int ) ($a)) . (Prefix - (1)))",
+        "same",
+    ),
+    (
+        "@$a[0] ?? 1",
+        "(Binary (Prefix @ (Offset ($a) [ (0) ])) ?? (1))",
+        "same",
+    ),
 ];
 
 #[test]
@@ -71,7 +102,7 @@ fn tight_prefixes(rt: HostRuntime) -> Result<(), Fail> {
     assert_exprs(&rt, rt.alloc(), &TIGHT_PREFIXES)
 }
 
-static PREFIXES_THAT_REACH_FAR_RIGHT: [(&str, &str, &str); 13] = [
+static PREFIXES_THAT_REACH_FAR_RIGHT: [(&str, &str, &str); 26] = [
     (
         "1 + print 2 + 3",
         "(Binary (1) + (Print print (Binary (2) + (3))))",
@@ -125,6 +156,59 @@ static PREFIXES_THAT_REACH_FAR_RIGHT: [(&str, &str, &str); 13] = [
         "(Binary (1) + (Arrow fn ( ) => (Binary (2) + (3))))",
         "same",
     ),
+    (
+        "1 . print 2 . 3 and 4",
+        "(Binary (Binary (1) . (Print print (Binary (2) . (3)))) and (4))",
+        "same",
+    ),
+    (
+        "$a = print 1 or 2",
+        "(Binary (Assign ($a) = (Print print (1))) or (2))",
+        "same",
+    ),
+    (
+        "$a = include 1 or 2",
+        "(Assign ($a) = (Include include (Binary (1) or (2))))",
+        "same",
+    ),
+    (
+        "1 ? print 2 : 3",
+        "(Ternary (1) ? (Print print (2)) : (3))",
+        "same",
+    ),
+    (
+        "print 1 ? 2 : 3",
+        "(Print print (Ternary (1) ? (2) : (3)))",
+        "same",
+    ),
+    (
+        "1 ?: print 2 ?: 3",
+        "(ShortTernary (1) ? : (Print print (ShortTernary (2) ? : (3))))",
+        "same",
+    ),
+    (
+        "print('a') . 'b'",
+        "(Print print (Binary (Paren ( ('a') )) . ('b')))",
+        "same",
+    ),
+    ("1 + yield 2", "(Binary (1) + (Yield yield (2)))", "same"),
+    ("yield + 1", "(Yield yield (Prefix + (1)))", "same"),
+    ("f(yield)", "(Call f ( (Args (Yield yield)) ))", "same"),
+    (
+        "[yield $a => $b]",
+        "(Array [ (Item (Yield yield ($a) => ($b))) ])",
+        "same",
+    ),
+    (
+        "include ('a') . 'b'",
+        "(Include include (Binary (Paren ( ('a') )) . ('b')))",
+        "same",
+    ),
+    (
+        "fn() => yield 1",
+        "(Arrow fn ( ) => (Yield yield (1)))",
+        "same",
+    ),
 ];
 
 #[test]
@@ -132,7 +216,7 @@ fn prefixes_that_reach_far_right(rt: HostRuntime) -> Result<(), Fail> {
     assert_exprs(&rt, rt.alloc(), &PREFIXES_THAT_REACH_FAR_RIGHT)
 }
 
-static ASSIGNMENTS_BEHIND_TIGHTER_OPERATORS: [(&str, &str, &str); 20] = [
+static ASSIGNMENTS_BEHIND_TIGHTER_OPERATORS: [(&str, &str, &str); 23] = [
     (
         "!$a = f()",
         "(Prefix ! (Assign ($a) = (Call f ( (Args) ))))",
@@ -197,6 +281,21 @@ static ASSIGNMENTS_BEHIND_TIGHTER_OPERATORS: [(&str, &str, &str); 20] = [
     ("!$a--", "(Prefix ! (Postfix ($a) --))", "same"),
     ("++1", "none", "same"),
     ("f()++", "none", "same"),
+    (
+        "$a = $b + $c = 1",
+        "(Assign ($a) = (Binary ($b) + (Assign ($c) = (1))))",
+        "same",
+    ),
+    (
+        "!$a = $b && $c",
+        "(Prefix ! (Assign ($a) = (Binary ($b) && ($c))))",
+        "same",
+    ),
+    (
+        "$a ? 1 : $b = 2 ? 3 : 4",
+        "(Ternary ($a) ? (1) : (Assign ($b) = (Ternary (2) ? (3) : (4))))",
+        "same",
+    ),
 ];
 
 #[test]

@@ -2,7 +2,7 @@
 use super::sketch::assert_exprs;
 use std::test::Fail;
 
-static PARTS_OF_TEXTS: [(&str, &str, &str); 11] = [
+static PARTS_OF_TEXTS: [(&str, &str, &str); 15] = [
     ("\"a$b\"", "(Quoted \" a ($b) \")", "same"),
     (
         "\"$a[b]$a[-1]$a[$b]$a[0]\"",
@@ -42,6 +42,14 @@ static PARTS_OF_TEXTS: [(&str, &str, &str); 11] = [
     ("\"$a?->b\"", "(Quoted \" ($a) ?->b \")", "none"),
     ("`a $b` . 1", "(Binary (Quoted ` a  ($b) `) . (1))", "same"),
     ("\"$a\"[0]", "none", "same"),
+    (
+        "\"$a[08]$a[list]$a[match]\"",
+        "(Quoted \" (Offset ($a) [ 08 ]) (Offset ($a) [ list ]) (Offset ($a) [ match ]) \")",
+        "same",
+    ),
+    ("\"$a->list\"", "(Quoted \" (Prop ($a) -> list) \")", "same"),
+    ("\"\\$a{$b}\"", "(Quoted \" \\$a { ($b) } \")", "same"),
+    ("``", "(Quoted ` `)", "same"),
 ];
 
 #[test]
@@ -49,7 +57,7 @@ fn parts_of_texts(rt: HostRuntime) -> Result<(), Fail> {
     assert_exprs(&rt, rt.alloc(), &PARTS_OF_TEXTS)
 }
 
-static HEREDOCS_AS_OPERANDS: [(&str, &str, &str); 9] = [
+static HEREDOCS_AS_OPERANDS: [(&str, &str, &str); 10] = [
     (
         "<<<A\na$b\nA . 1",
         "(Binary (Quoted <<<A\n a ($b) \n A) . (1))",
@@ -79,6 +87,7 @@ static HEREDOCS_AS_OPERANDS: [(&str, &str, &str); 9] = [
         "(Quoted <<<A\n { (Offset ($a) [ (Quoted <<<B\n b\n B) ]) } \n A)",
         "same",
     ),
+    ("<<<\"A\"\na\nA", "(Quoted <<<\"A\"\n a\n A)", "same"),
 ];
 
 #[test]

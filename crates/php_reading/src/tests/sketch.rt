@@ -28,8 +28,8 @@ fn is_plain(node: &Node) -> bool {
     plain && node.parts.as_slice().len() == 1
 }
 
-// A node, at the end.
-fn add_node(out: &mut String, node: &Node) -> Result<(), Fail> {
+/// A node, at the end.
+pub fn add_node(out: &mut String, node: &Node) -> Result<(), Fail> {
     out.push('(')?;
     let mut first = is_plain(node);
     if !first {

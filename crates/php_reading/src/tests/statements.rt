@@ -3,7 +3,7 @@
 use super::sketch::assert_statements;
 use std::test::Fail;
 
-static SIMPLE_STATEMENTS: [(&str, &str, &str); 16] = [
+static SIMPLE_STATEMENTS: [(&str, &str, &str); 25] = [
     (
         "{ 1; { } }",
         "(Block { (ExprStmt (1) ;) (Block { }) })",
@@ -56,6 +56,27 @@ static SIMPLE_STATEMENTS: [(&str, &str, &str); 16] = [
     ),
     ("1", "none", "same"),
     ("}", "none", "same"),
+    (
+        "static $a = 1 + 2, $b;",
+        "(Statics static $a = (Binary (1) + (2)) , $b ;)",
+        "same",
+    ),
+    ("static $a->b;", "none", "same"),
+    ("global $a->b;", "none", "same"),
+    ("goto 1;", "none", "same"),
+    ("{ a: }", "(Block { (LabelStmt a :) })", "same"),
+    (
+        "a: b: c();",
+        "(LabelStmt a :)(LabelStmt b :)(ExprStmt (Call c ( (Args) )) ;)",
+        "same",
+    ),
+    (
+        "declare(ticks=1) if (1) ; else ;",
+        "(Declare declare ( ticks = (1) ) (If if ( (1) ) (Empty ;) else (Empty ;)))",
+        "same",
+    ),
+    ("__halt_compiler();", "none", "same"),
+    ("unset();", "none", "same"),
 ];
 
 #[test]
@@ -63,7 +84,7 @@ fn simple_statements(rt: HostRuntime) -> Result<(), Fail> {
     assert_statements(&rt, rt.alloc(), &SIMPLE_STATEMENTS)
 }
 
-static BRANCHES: [(&str, &str, &str); 14] = [
+static BRANCHES: [(&str, &str, &str); 20] = [
     (
         "if (1) if (2) 3; else 4;",
         "(If if ( (1) ) (If if ( (2) ) (ExprStmt (3) ;) else (ExprStmt (4) ;)))",
@@ -118,6 +139,24 @@ static BRANCHES: [(&str, &str, &str); 14] = [
         "same",
     ),
     ("switch (1) { 2; }", "none", "same"),
+    (
+        "if (1): function f() { } endif;",
+        "(IfAlt if ( (1) ) : (Function function f ( ) (Block { })) endif ;)",
+        "same",
+    ),
+    ("if (1) ; elseif (2) : endif;", "none", "same"),
+    ("if (1) : elseif (2) ; endif;", "none", "same"),
+    (
+        "switch (1) { case A: B: }",
+        "(Switch switch ( (1) ) { (Case case (A) : (LabelStmt B :)) })",
+        "same",
+    ),
+    (
+        "switch (1) { case 1 ? A : B: ; }",
+        "(Switch switch ( (1) ) { (Case case (Ternary (1) ? (A) : (B)) : (Empty ;)) })",
+        "same",
+    ),
+    ("case 1: ;", "none", "same"),
 ];
 
 #[test]
@@ -125,7 +164,7 @@ fn branches(rt: HostRuntime) -> Result<(), Fail> {
     assert_statements(&rt, rt.alloc(), &BRANCHES)
 }
 
-static LOOPS_AND_HANDLERS: [(&str, &str, &str); 16] = [
+static LOOPS_AND_HANDLERS: [(&str, &str, &str); 21] = [
     (
         "while (1) break 2;",
         "(While while ( (1) ) (Break break 2 ;))",
@@ -186,6 +225,31 @@ static LOOPS_AND_HANDLERS: [(&str, &str, &str); 16] = [
     ),
     ("try { }", "none", "same"),
     ("try { } catch (A) { }", "none", "same"),
+    (
+        "for ($i = 0; $i < 10, $j; $i++, $j++) ;",
+        "(For for ( (Assign ($i) = (0)) ; (Binary ($i) < (10)) , ($j) ; (Postfix ($i) ++) , (Postfix ($j) ++) ) (Empty ;))",
+        "same",
+    ),
+    (
+        "while (1): while (2): endwhile; endwhile;",
+        "(While while ( (1) ) : (While while ( (2) ) : endwhile ;) endwhile ;)",
+        "same",
+    ),
+    (
+        "foreach ($a as $b[]) ;",
+        "(Foreach foreach ( ($a) as (Offset ($b) [ ]) ) (Empty ;))",
+        "same",
+    ),
+    (
+        "foreach ($a as [0 => $b]) ;",
+        "(Foreach foreach ( ($a) as (List [ (Item (0) => ($b)) ]) ) (Empty ;))",
+        "same",
+    ),
+    (
+        "try { } catch (A|B|C $d) { }",
+        "(Try try (Block { }) catch ( A | B | C $d ) (Block { }))",
+        "same",
+    ),
 ];
 
 #[test]
@@ -193,7 +257,7 @@ fn loops_and_handlers(rt: HostRuntime) -> Result<(), Fail> {
     assert_statements(&rt, rt.alloc(), &LOOPS_AND_HANDLERS)
 }
 
-static TAGS_AND_HTML: [(&str, &str, &str); 7] = [
+static TAGS_AND_HTML: [(&str, &str, &str); 9] = [
     (
         "echo 1 ?>a<?= 2, 3 ?>\nb",
         "(Echo echo (1) ?>)(Html a)(Echo <?= (2) , (3) ?>\n)(Html b)",
@@ -219,6 +283,12 @@ static TAGS_AND_HTML: [(&str, &str, &str); 7] = [
     (
         "function f() { ?>a<?php }",
         "(Function function f ( ) (Block { (Empty ?>) (Html a) }))",
+        "same",
+    ),
+    ("switch (1): ?> <?php case 2: endswitch;", "none", "same"),
+    (
+        "do ; while (1) ?>",
+        "(DoWhile do (Empty ;) while ( (1) ) ?>)",
         "same",
     ),
 ];

@@ -3,7 +3,7 @@
 use super::sketch::assert_statements;
 use std::test::Fail;
 
-static MATCH_AS_A_NAME: [(&str, &str, &str); 14] = [
+static MATCH_AS_A_NAME: [(&str, &str, &str); 17] = [
     ("match;", "(ExprStmt (match) ;)", "none"),
     ("Match();", "(ExprStmt (Call Match ( (Args) )) ;)", "none"),
     (
@@ -54,6 +54,21 @@ static MATCH_AS_A_NAME: [(&str, &str, &str); 14] = [
         "(Class class A { (ClassConst const match = (1) ;) (Method function match ( ) (Block { })) })",
         "same",
     ),
+    (
+        "function f() : ?match { }",
+        "(Function function f ( ) : (TypeName ? match) (Block { }))",
+        "none",
+    ),
+    (
+        "use match\\a;",
+        "(Use use match \\ a ;)",
+        "(Use use match\\a ;)",
+    ),
+    (
+        "namespace\\match;",
+        "(ExprStmt (Constant namespace \\ match) ;)",
+        "(ExprStmt (namespace\\match) ;)",
+    ),
 ];
 
 #[test]
@@ -61,7 +76,7 @@ fn match_as_a_name(rt: HostRuntime) -> Result<(), Fail> {
     assert_statements(&rt, rt.alloc(), &MATCH_AS_A_NAME)
 }
 
-static MATCH_WHERE_IT_IS_DECLARED: [(&str, &str, &str); 10] = [
+static MATCH_WHERE_IT_IS_DECLARED: [(&str, &str, &str); 11] = [
     (
         "function match() { }",
         "(Function function match ( ) (Block { }))",
@@ -88,6 +103,11 @@ static MATCH_WHERE_IT_IS_DECLARED: [(&str, &str, &str); 10] = [
         "(Declare declare ( match = (1) ) (Empty ;))",
         "none",
     ),
+    (
+        "use A\\{B as match};",
+        "(Use use A \\ { B as match } ;)",
+        "none",
+    ),
 ];
 
 #[test]
@@ -95,7 +115,7 @@ fn match_where_it_is_declared(rt: HostRuntime) -> Result<(), Fail> {
     assert_statements(&rt, rt.alloc(), &MATCH_WHERE_IT_IS_DECLARED)
 }
 
-static READONLY: [(&str, &str, &str); 11] = [
+static READONLY: [(&str, &str, &str); 14] = [
     ("readonly;", "(ExprStmt (readonly) ;)", "none"),
     ("new Readonly;", "(ExprStmt (New new Readonly) ;)", "none"),
     ("class readonly { }", "(Class class readonly { })", "none"),
@@ -131,6 +151,17 @@ static READONLY: [(&str, &str, &str); 11] = [
         "(ExprStmt (Prop ($a) -> readonly) ;)",
         "same",
     ),
+    ("use readonly;", "(Use use readonly ;)", "none"),
+    (
+        "class A { public readonly $b; }",
+        "(Class class A { (Property public (TypeName readonly) $b ;) })",
+        "none",
+    ),
+    (
+        "class A { const readonly = 1; public $readonly; }",
+        "(Class class A { (ClassConst const readonly = (1) ;) (Property public $readonly ;) })",
+        "same",
+    ),
 ];
 
 #[test]
@@ -138,7 +169,7 @@ fn readonly(rt: HostRuntime) -> Result<(), Fail> {
     assert_statements(&rt, rt.alloc(), &READONLY)
 }
 
-static MIXED_AND_NEVER: [(&str, &str, &str); 13] = [
+static MIXED_AND_NEVER: [(&str, &str, &str); 15] = [
     ("class mixed { }", "(Class class mixed { })", "none"),
     (
         "interface Never { }",
@@ -182,6 +213,16 @@ static MIXED_AND_NEVER: [(&str, &str, &str); 13] = [
     (
         "never: mixed(); new never;",
         "(LabelStmt never :)(ExprStmt (Call mixed ( (Args) )) ;)(ExprStmt (New new never) ;)",
+        "same",
+    ),
+    (
+        "const mixed = 1; goto never; namespace mixed;",
+        "(Const const mixed = (1) ;)(Goto goto never ;)(Namespace namespace mixed ;)",
+        "same",
+    ),
+    (
+        "class enum { } enum();",
+        "(Class class enum { })(ExprStmt (Call enum ( (Args) )) ;)",
         "same",
     ),
 ];
