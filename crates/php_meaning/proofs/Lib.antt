@@ -1,9 +1,12 @@
 pub mod Alike
 pub mod Parens
 pub mod Rows
-pub mod Silent
 pub mod Unasked
 pub mod RowWords
+pub mod RunWords
+mod IntRows
+mod TextLiteralRows
+mod OperatorRows
 mod ComparisonRows
 mod TextRows
 mod KeyRows

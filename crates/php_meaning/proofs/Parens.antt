@@ -2,14 +2,18 @@
 use Rattle.std.specs.Prelude.{◌≡◌, true, []}
 use Rattle.std.proofs.Common.{subst}
 use Rattle.php_tree.specs.declared.version.Version.TheVariants.{V74, V83}
-use Rattle.php_meaning.specs.Run.{run}
-use Rattle.php_meaning.specs.Laws.{IsInside, SameRun, ParensKeepMeaning}
+use Rattle.php_meaning.specs.Run.{is_newer, run}
+use Rattle.php_meaning.specs.Laws.{IsInside, SameRun, ParensChangeNoRun, ParensKeepMeaning}
 use Rattle.php_meaning.proofs.Alike.{parens_alike}
-use Rattle.php_meaning.proofs.Silent.{asks_nothing}
 use Rattle.php_meaning.proofs.Unasked.{same_where_unasked}
 
+pub parens_change_no_run : ParensChangeNoRun
+parens_change_no_run v source written marks same_files same_first entry input n i =
+    parens_alike (is_newer v) source written marks same_files same_first entry input n i
+
 pub parens_keep_meaning : ParensKeepMeaning
-parens_keep_meaning source written marks same_files same_first entry input n i =
-    let same : run V83 source marks entry input n ≡ run V74 source marks entry input n = same_where_unasked source marks entry input n (asks_nothing source marks entry input n) in
+parens_keep_meaning source written marks same_files same_first entry input n covered =
+    let same : run V83 source marks entry input n ≡ run V74 source marks entry input n =
+    same_where_unasked source marks entry input n covered.unasked in
     subst (λ a. IsInside a.end → SameRun a (run V83 written [] entry input n)) same
-    (parens_alike true source written marks same_files same_first entry input n) i
+    (parens_alike true source written marks same_files same_first entry input n) covered.inside

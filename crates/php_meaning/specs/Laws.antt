@@ -1,6 +1,7 @@
 -- Laws of runs.
 use Rattle.std.specs.Prelude.{◌≡◌, ℕ, List, [], ◌∷◌}
 use Rattle.php_tree.specs.declared.token.Token.{Token}
+use Rattle.php_tree.specs.declared.version.Version.{Version}
 use Rattle.php_tree.specs.declared.version.Version.TheVariants.{V74, V83}
 use Rattle.php_tree.specs.declared.kind.NodeKind.TheVariants.{Paren}
 use Rattle.php_tree.specs.declared.kind.NodeKind.{NodeKind}
@@ -27,12 +28,18 @@ SameWhereUnasked =
     (p : Program) (marks : List Mark) (entry : Bytes) (input : Input) (n : ℕ)
     → (run V74 p marks entry input n).asked ≡ [] → run V83 p marks entry input n ≡ run V74 p marks entry input n
 
+-- A run that a claim on both versions is about: it stays inside, and asks at no point where the versions differ. (The
+-- second is asked for as long as nothing is rewritten at such points.)
+pub record IsCovered (a : Answer) : Type 0 where
+  pub inside : IsInside a.end
+  pub unasked : a.asked ≡ []
+
 -- What the second program does in 8.3 is what the first one does in 7.4: from every entry, on every input and for every
--- bound, where the first run stays inside, the second one has the same echo and the same end.
+-- bound, where the first run is covered, the second one has the same echo and the same end.
 abbrev pub KeepsMeaning : Program → List Mark → Program → Type 0
 KeepsMeaning source marks written =
     (entry : Bytes) (input : Input) (n : ℕ)
-    → IsInside (run V74 source marks entry input n).end
+    → IsCovered (run V74 source marks entry input n)
     → SameRun (run V74 source marks entry input n) (run V83 written [] entry input n)
 
 -- ---- parentheses
@@ -52,7 +59,16 @@ pub data AreParenthesized : List (Bytes × Forest) → List (Bytes × Forest) �
   no_files : AreParenthesized [] []
   file : {path : Bytes} {f g : Forest} {fs gs : List (Bytes × Forest)} → Parenthesized f g → AreParenthesized fs gs → AreParenthesized ((path, f) ∷ fs) ((path, g) ∷ gs)
 
--- Parentheses change no run.
+-- In each version, parentheses change no run that stays inside.
+abbrev pub ParensChangeNoRun : Type 0
+ParensChangeNoRun =
+    (v : Version) (source written : Program) (marks : List Mark)
+    → AreParenthesized source.files written.files → written.prepend ≡ source.prepend
+    → (entry : Bytes) (input : Input) (n : ℕ)
+    → IsInside (run v source marks entry input n).end
+    → SameRun (run v source marks entry input n) (run v written [] entry input n)
+
+-- With parentheses, the newer version does what the older one did without them.
 abbrev pub ParensKeepMeaning : Type 0
 ParensKeepMeaning =
     (source written : Program) (marks : List Mark)

@@ -14,9 +14,13 @@ pub mod Copies
 pub mod Arithmetic
 pub mod Offsets
 pub mod Literals
+pub mod Escapes
+pub mod Nowdocs
+pub mod TextLiterals
 pub mod World
 pub mod Script
 pub mod Statements
+pub mod Operators
 pub mod Rules
 pub mod Input
 pub mod Run

@@ -1,10 +1,10 @@
 -- What a node does, as steps over the store and over its children. The steps are the same in both versions, but
 -- where they ask.
-use Rattle.std.specs.Prelude.{ℕ, ℤ, Bool, cond}
+use Rattle.std.specs.Prelude.{ℕ, ℤ, Bool, cond, length}
 use Rattle.php_meaning.specs.Value.{Value, Cell}
-use Rattle.php_meaning.specs.Cause.{Cause, Outcome, Gives, Outside}
+use Rattle.php_meaning.specs.Cause.{Cause, Outcome, Gives, Outside, ExceptionClass, exception_name, Came, Returns, Throws}
 use Rattle.php_meaning.specs.Differences.{Difference, ByVersion, Alike, Differs}
-use Rattle.php_meaning.specs.World.{Bytes, Declared, Store}
+use Rattle.php_meaning.specs.World.{Bytes, Declared, Store, with_object}
 
 -- a way to leave a node without a value
 pub data Way : Type 0 where
@@ -81,3 +81,12 @@ given (Outside c) k = Stop c
 abbrev pub asking : {A : Type 0} → ByVersion A → (A → Script) → Script
 asking (Alike a) k = k a
 asking (Differs point old new) k = Ask point (λ is_new. cond is_new (k new) (k old))
+
+-- A new exception is thrown: an object of its class, without a text and a code of its own.
+abbrev pub throws : ExceptionClass → Script
+throws c = Look (λ s. Put (with_object (exception_name c) s) (Give (Jump (Throw (length s.objects)))))
+
+-- the node comes to what an operation came to
+abbrev pub comes : Came → Script
+comes (Returns v) = give v
+comes (Throws c) = throws c

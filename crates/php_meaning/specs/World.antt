@@ -1,5 +1,5 @@
 -- What a run changes and leaves behind: its store, its echo, and what it tells of itself.
-use Rattle.std.specs.Prelude.{ℕ, ℤ, List, Option}
+use Rattle.std.specs.Prelude.{ℕ, ℤ, List, [], ◌∷◌, ◌++◌, Option}
 use Rattle.php_meaning.specs.Value.{Value, Cell}
 use Rattle.php_meaning.specs.Cause.{Cause}
 use Rattle.php_meaning.specs.Differences.{Difference}
@@ -40,6 +40,10 @@ pub record Store : Type 0 where
   pub constants : List (Bytes × Value)
   pub declared : List Declared
   pub started : List Bytes
+
+-- the store with a new object of a class, without properties
+abbrev pub with_object : Bytes → Store → Store
+with_object class s = record s { objects = s.objects ++ record { class = class; properties = [] } ∷ [] }
 
 -- a node of a file by its number, or the file as a whole
 pub record Place : Type 0 where

@@ -6,5 +6,6 @@ mod runs;
 pub mod values;
 
 pub use runs::{
-    parens_keep_meaning, same_where_unasked, three_ternaries_echo_4, two_ternaries_echo_b,
+    concatenation_and_sum_echo_15, parens_change_no_run, parens_keep_meaning, same_where_unasked,
+    three_ternaries_echo_4, two_ternaries_echo_b,
 };

@@ -1,15 +1,21 @@
 // Laws of runs.
 ghost use Rattle.std.specs.Prelude.{codes};
 ghost use Rattle.php_tree.specs.declared.version.Version.{Version};
-ghost use Rattle.php_meaning.specs.Examples.{Echoes, two_ternaries, three_ternaries};
-ghost use Rattle.php_meaning.specs.Laws.{SameWhereUnasked, ParensKeepMeaning};
+ghost use Rattle.php_meaning.specs.Examples.{Echoes, two_ternaries, three_ternaries, concatenation_and_sum};
+ghost use Rattle.php_meaning.specs.Laws.{SameWhereUnasked, ParensChangeNoRun, ParensKeepMeaning};
 
 /// A 7.4 run that asks at no point where the versions differ is the 8.3 run of the same trees.
 pub fn same_where_unasked()
     ensures { SameWhereUnasked }
 {}
 
-/// Parentheses round expressions change no run that stays inside the profile.
+/// In each version, parentheses round expressions change no run that stays inside the profile.
+pub fn parens_change_no_run()
+    ensures { ParensChangeNoRun }
+{}
+
+/// Where the 7.4 run of files stays inside the profile and asks at no point where the versions differ, the 8.3 run of the
+/// files with parentheses round expressions has its echo and its end.
 pub fn parens_keep_meaning()
     ensures { ParensKeepMeaning }
 {}
@@ -24,4 +30,10 @@ pub fn two_ternaries_echo_b()
 /// from one turn on.
 pub fn three_ternaries_echo_4()
     ensures { (v : Version) → Echoes v three_ternaries (codes "4") }
+{}
+
+/// `echo 1 . 2 + 3;`, with `.` grouped first, echoes `15` and ends with 0, in both versions and for every bound from one
+/// turn on.
+pub fn concatenation_and_sum_echo_15()
+    ensures { (v : Version) → Echoes v concatenation_and_sum (codes "15") }
 {}
