@@ -5,6 +5,7 @@ pub mod Unasked
 pub mod RowWords
 pub mod RunWords
 mod IntRows
+pub mod LiteralLemmas
 mod TextLiteralRows
 mod OperatorRows
 mod ComparisonRows

@@ -2,6 +2,7 @@
 //! functions: each carries a law as its contract.
 #![tactic(auto)]
 
+pub mod literals;
 mod runs;
 pub mod values;
 
