@@ -1,4 +1,5 @@
 pub mod Alike
+pub mod Bounds
 pub mod Parens
 pub mod Rows
 pub mod Unasked

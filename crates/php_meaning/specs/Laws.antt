@@ -1,5 +1,5 @@
 -- Laws of runs.
-use Rattle.std.specs.Prelude.{◌≡◌, ℕ, List, [], ◌∷◌}
+use Rattle.std.specs.Prelude.{◌≡◌, ℕ, ◌+◌, List, [], ◌∷◌, ◌++◌}
 use Rattle.php_tree.specs.declared.token.Token.{Token}
 use Rattle.php_tree.specs.declared.version.Version.{Version}
 use Rattle.php_tree.specs.declared.version.Version.TheVariants.{V74, V83}
@@ -21,6 +21,41 @@ IsInside (Outside place cause) = ⊥
 pub record SameRun (a b : Answer) : Type 0 where
   pub echo : b.echo ≡ a.echo
   pub end : b.end ≡ a.end
+
+-- ---- turns and marks
+
+-- the first bytes are the front of the second ones
+abbrev pub IsFrontOf : Bytes → Bytes → Type 0
+IsFrontOf front whole = (rest : Bytes) × (whole ≡ front ++ rest)
+
+-- the run came to an end within its turns
+abbrev pub IsOver : End → Type 0
+IsOver Going = ⊥
+IsOver (Ended status) = Unit {0}
+IsOver (Threw class) = Unit {0}
+IsOver (Outside place cause) = Unit {0}
+
+-- with more turns, a run echoes what it echoed, and maybe more
+abbrev pub EchoGrows : Type 0
+EchoGrows =
+    (v : Version) (p : Program) (marks : List Mark) (entry : Bytes) (input : Input) (n more : ℕ)
+    → IsFrontOf (run v p marks entry input n).echo (run v p marks entry input (n + more)).echo
+
+-- a run that came to an end is the same with more turns
+abbrev pub EndStays : Type 0
+EndStays =
+    (v : Version) (p : Program) (marks : List Mark) (entry : Bytes) (input : Input) (n more : ℕ)
+    → IsOver (run v p marks entry input n).end
+    → run v p marks entry input (n + more) ≡ run v p marks entry input n
+
+-- a run that stays inside with marks does the same without them
+abbrev pub MarksOnlyStop : Type 0
+MarksOnlyStop =
+    (v : Version) (p : Program) (marks : List Mark) (entry : Bytes) (input : Input) (n : ℕ)
+    → IsInside (run v p marks entry input n).end
+    → SameRun (run v p marks entry input n) (run v p [] entry input n)
+
+-- ---- versions
 
 -- a 7.4 run that asks at no point where the versions differ is the 8.3 run
 abbrev pub SameWhereUnasked : Type 0

@@ -2,7 +2,22 @@
 ghost use Rattle.std.specs.Prelude.{codes};
 ghost use Rattle.php_tree.specs.declared.version.Version.{Version};
 ghost use Rattle.php_meaning.specs.Examples.{Echoes, two_ternaries, three_ternaries, concatenation_and_sum};
-ghost use Rattle.php_meaning.specs.Laws.{SameWhereUnasked, ParensChangeNoRun, ParensKeepMeaning};
+ghost use Rattle.php_meaning.specs.Laws.{EchoGrows, EndStays, MarksOnlyStop, SameWhereUnasked, ParensChangeNoRun, ParensKeepMeaning};
+
+/// With more turns, a run echoes what it echoed, and maybe more.
+pub fn echo_grows_with_turns()
+    ensures { EchoGrows }
+{}
+
+/// A run that came to an end within its turns is the same with more turns.
+pub fn end_stays_with_more_turns()
+    ensures { EndStays }
+{}
+
+/// A run that stays inside the profile with marks does the same without them.
+pub fn marks_only_stop()
+    ensures { MarksOnlyStop }
+{}
 
 /// A 7.4 run that asks at no point where the versions differ is the 8.3 run of the same trees.
 pub fn same_where_unasked()
