@@ -7,6 +7,7 @@ pub mod RowWords
 pub mod RunWords
 mod IntRows
 pub mod LiteralLemmas
+pub mod NowdocLemmas
 mod TextLiteralRows
 mod OperatorRows
 mod ComparisonRows

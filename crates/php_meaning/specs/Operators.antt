@@ -26,6 +26,7 @@ of_ints answer = record { left = left_of_arithmetic; answer = answer }
 abbrev pub uncopied : Value → Outcome Value
 uncopied a = Outside NoRule
 
+-- the operators of two operands that have a rule
 abbrev pub operations : List (List ℕ × Operation)
 operations =
     (codes ".", of_texts joined)
@@ -36,7 +37,7 @@ operations =
     ∷ (codes ">>", of_ints right_shift)
     ∷ []
 
--- the left operand, and then the right one, and then the operation
+-- the left operand, and then the right one, and then the operation; another operator has no rule
 abbrev pub binary : Option Operation → Script
 binary None = Stop NoRule
 binary (Some o) =
@@ -44,6 +45,7 @@ binary (Some o) =
 
 -- ---- one operand
 
+-- the operators of one operand that have a rule
 abbrev pub signs : List (List ℕ × (Value → ByVersion (Outcome Came)))
 signs = (codes "+", positive) ∷ (codes "-", negative) ∷ []
 
