@@ -2,7 +2,6 @@
 use Rattle.std.specs.Prelude.{◌≡◌, ℕ, zero, suc, ◌+◌, List, [], ◌∷◌, ◌++◌, Bool, true, false, cond, refl, Option, Some, None}
 use Rattle.std.specs.Str.{bytes_eq}
 use Rattle.std.proofs.Common.{ap, sym, ◌∙◌, subst}
-use Rattle.php_tree.specs.declared.kind.NodeKind.{NodeKind}
 use Rattle.php_tree.specs.Tree.{Forest, count}
 use Rattle.php_meaning.specs.World.{Store, Bytes, Place, End, Going, Before, World}
 use Rattle.php_meaning.specs.Script.{Return, Throw, Break, Continue, Out, Val, At, Jump, Mode, Target, Kid, Again, Body, Script, Give, Stop, Finish, Look, Put, Echo, Turn, Ask, Run}
@@ -10,7 +9,8 @@ use Rattle.php_meaning.specs.Rules.{rule, run_all}
 use Rattle.php_meaning.specs.Statements.{is_statement}
 use Rattle.php_meaning.specs.Input.{Input}
 use Rattle.php_meaning.specs.Run.{begun, Program, Mark, file_at, is_stopped, is_refused, Result, Done, Over, then_do, with_turn, play, own_texts, children, Entry, FileStart, BodyStart, Site, place_in, place_of_file, told, left, starting, unless_stopped, going, step, run_file, unless_refused, enter, first_world, end_of_file, answer, and_start, start_all, run_of}
-use Rattle.php_meaning.specs.Laws.{IsInside, SameRun, Parenthesized, ends, token, inner, parens, AreParenthesized, no_files, file}
+use Rattle.php_meaning.specs.Laws.{IsInside, SameRun}
+use Rattle.php_meaning.specs.SameScripts.{HasScriptsOf, nothing, token_before, token_behind, same, wrapped, HaveScriptsOf, no_more, one_more}
 
 -- equal but for what was told
 pub record Same (w u : World) : Type 0 where
@@ -90,23 +90,20 @@ refused_follows : (b : Bool) (path : Bytes) (w : World) (r q : Result) → Follo
 refused_follows true path w r q f = λ i. absurd i
 refused_follows false path w r q f = f
 
-starting_follows : (b : Bool) (w u : World) (k l : World → Result) → Same w u → Alike k l → Follows (starting b w k) (starting b u l)
-starting_follows true w u k l s h = turn_follows w u w.turns u.turns k l s.turns s h
-starting_follows false w u k l s h = h.follows w u s
+starting_follows : (a b : Bool) (w u : World) (k l : World → Result) → b ≡ a → Same w u → Alike k l → Follows (starting a w k) (starting b u l)
+starting_follows true b w u k l e s h =
+    subst (λ x. Follows (starting true w k) (starting x u l)) (sym e) (turn_follows w u w.turns u.turns k l s.turns s h)
+starting_follows false b w u k l e s h =
+    subst (λ x. Follows (starting false w k) (starting x u l)) (sym e) (h.follows w u s)
 
--- ---- nodes in parentheses
+-- ---- nodes with the same scripts
 
-texts_same : {f g : Forest} → Parenthesized f g → own_texts g ≡ own_texts f
-texts_same ends = refl
-texts_same (token {t} {u} {f} {g} e d) = ap (λ x. x ∷ own_texts g) e ∙ ap (λ ts. t.text ∷ ts) (texts_same d)
-texts_same (inner d e) = texts_same e
-texts_same (parens d e) = texts_same e
-
-children_same : {f g : Forest} → Parenthesized f g → children g ≡ children f
-children_same ends = refl
-children_same (token e d) = children_same d
-children_same (inner d e) = ap suc (children_same e)
-children_same (parens d e) = ap suc (children_same e)
+children_same : {f g : Forest} → HasScriptsOf f g → children g ≡ children f
+children_same nothing = refl
+children_same (token_before d) = children_same d
+children_same (token_behind d) = children_same d
+children_same (same h d e) = ap suc (children_same e)
+children_same (wrapped d e) = ap suc (children_same e)
 
 module _ (v : Bool) (marks : List Mark) (lower low : Entry → World → Result) (h : (e : Entry) → Alike (lower e) (low e)) where
   going_alike : (here there : Place) (kid lid : ℕ → Mode → World → Result) → ((i : ℕ) (m : Mode) → Alike (kid i m) (lid i m)) → (t : Target) → Alike (going here lower kid t) (going there low lid t)
@@ -118,43 +115,41 @@ module _ (v : Bool) (marks : List Mark) (lower low : Entry → World → Result)
   script_follows : (here there : Place) (go to : Target → World → Result) → ((x : Target) → Alike (go x) (to x)) → (a b : Script) → b ≡ a → (w u : World) → Same w u → Follows (play v here go a w) (play v there to b u)
   script_follows here there go to g a b e w u s = subst (λ x. Follows (play v here go a w) (play v there to x u)) (sym e) (play_follows v here there go to g a w u s)
 
-  rule_same : (k : NodeKind) (m : Mode) {c d : Forest} → Parenthesized c d → rule k m (own_texts d) (children d) ≡ rule k m (own_texts c) (children c)
-  rule_same k m {c} {d} p = ap (λ ts. rule k m ts (children d)) (texts_same p) ∙ ap (rule k m (own_texts c)) (children_same p)
-
-  step_follows : (s : Site) {f g : Forest} → Parenthesized f g → (id jd i : ℕ) (m : Mode) (w u : World) → Same w u → Follows (step v marks lower s f id i m w) (step v [] low s g jd i m u)
-  step_follows s ends id jd i m w u e = λ x. absurd x
-  step_follows s (token t d) id jd i m w u e = step_follows s d id jd i m w u e
-  step_follows s (inner {k} {c} {d} {f} {g} p q) id jd zero m w u e =
-      starting_follows (is_statement k) w u _ _ e (record {
+  step_follows : (s : Site) {f g : Forest} → HasScriptsOf f g → (id jd i : ℕ) (m : Mode) (w u : World) → Same w u → Follows (step v marks lower s f id i m w) (step v [] low s g jd i m u)
+  step_follows s nothing id jd i m w u e = λ x. absurd x
+  step_follows s (token_before d) id jd i m w u e = step_follows s d id jd i m w u e
+  step_follows s (token_behind d) id jd i m w u e = step_follows s d id jd i m w u e
+  step_follows s (same {k} {j} {c} {d} {f} {g} r p q) id jd zero m w u e =
+      starting_follows (is_statement k) (is_statement j) w u _ _ r.statement e (record {
         follows = λ a b t.
             stopped_follows (is_stopped marks s.file id) (place_in s id) a _ _
             (left_follows s id jd _ _
             (script_follows (place_in s id) (place_in s jd) _ _
             (going_alike (place_in s id) (place_in s jd) _ _ (λ j n. record { follows = λ x y z. step_follows s p (suc id) (suc jd) j n x y z }))
-            (rule k m (own_texts c) (children c)) (rule k m (own_texts d) (children d)) (rule_same k m p)
+            (rule k m (own_texts c) (children c)) (rule j m (own_texts d) (children d)) (r.script m)
             (told s id Before None a) (told s jd Before None b)
             (record { store = t.store; echo = t.echo; turns = t.turns })));
       })
-  step_follows s (inner {k} {c} {d} {f} {g} p q) id jd (suc i) m w u e = step_follows s q (suc (id + count c)) (suc (jd + count d)) i m w u e
-  step_follows s (parens {k} {j} {c} {d} {f} {g} p q) id jd zero m w u e =
+  step_follows s (same {k} {j} {c} {d} {f} {g} r p q) id jd (suc i) m w u e = step_follows s q (suc (id + count c)) (suc (jd + count d)) i m w u e
+  step_follows s (wrapped {k} {j} {c} {d} {f} {g} p q) id jd zero m w u e =
       handed_follows s jd _ _ (step_follows s p id (suc jd) zero m w (told s jd Before None u) (record { store = e.store; echo = e.echo; turns = e.turns }))
-  step_follows s (parens {k} {j} {c} {d} {f} {g} p q) id jd (suc i) m w u e =
+  step_follows s (wrapped {k} {j} {c} {d} {f} {g} p q) id jd (suc i) m w u e =
       step_follows s q (suc (id + count c)) (suc (jd + (suc (count d) + 0))) i m w u e
 
-  file_follows : (path : Bytes) {f g : Forest} → Parenthesized f g → (w u : World) → Same w u → Follows (run_file v marks lower path (Some f) w) (run_file v [] low path (Some g) u)
+  file_follows : (path : Bytes) {f g : Forest} → HasScriptsOf f g → (w u : World) → Same w u → Follows (run_file v marks lower path (Some f) w) (run_file v [] low path (Some g) u)
   file_follows path {f} {g} d w u e =
       script_follows (place_of_file path) (place_of_file path) _ _
       (going_alike (place_of_file path) (place_of_file path) _ _ (λ j n. record { follows = λ x y z. step_follows (record { file = path; body = None }) d 0 0 j n x y z }))
       (run_all 0 (children f)) (run_all 0 (children g)) (ap (run_all 0) (children_same d)) w u e
 
-  found_follows : (path : Bytes) {fs gs : List (Bytes × Forest)} → AreParenthesized fs gs → (w u : World) → Same w u
+  found_follows : (path : Bytes) {fs gs : List (Bytes × Forest)} → HaveScriptsOf fs gs → (w u : World) → Same w u
       → Follows (run_file v marks lower path (file_at fs path) w) (run_file v [] low path (file_at gs path) u)
-  found_follows path no_files w u e = λ i. absurd i
-  found_follows path (file {path = p} {f} {g} {fs} {gs} d ds) w u e =
+  found_follows path no_more w u e = λ i. absurd i
+  found_follows path (one_more {path = p} {f} {g} {fs} {gs} d ds) w u e =
       elim (bytes_eq p path) as (λ b. Follows (run_file v marks lower path (cond b (Some f) (file_at fs path)) w) (run_file v [] low path (cond b (Some g) (file_at gs path)) u))
       [ true ↦ file_follows path d w u e | false ↦ found_follows path ds w u e ]
 
-module _ (v : Bool) (marks : List Mark) (source written : Program) (same_files : AreParenthesized source.files written.files) where
+module _ (v : Bool) (marks : List Mark) (source written : Program) (same_files : HaveScriptsOf source.files written.files) where
   enter_alike : (n : ℕ) (e : Entry) → Alike (enter v source marks n e) (enter v written [] n e)
   enter_alike zero e = record { follows = λ w u s i. (refl, s) }
   enter_alike (suc n) (FileStart path) = record {
@@ -199,11 +194,11 @@ answer_same path (Done o w) (Over e u) f i = absurd f
 answer_same path (Over e w) (Done p u) f i = absurd (f i)
 answer_same path (Over e w) (Over d u) f i = record { echo = (f i).1.echo; end = (f i).0 }
 
--- in one version, a program with parentheses does what the one without them does
-pub parens_alike : (v : Bool) (source written : Program) (marks : List Mark) → AreParenthesized source.files written.files → written.prepend ≡ source.prepend
+-- in one version, a program with the scripts of another one does what that one does
+pub scripts_alike : (v : Bool) (source written : Program) (marks : List Mark) → HaveScriptsOf source.files written.files → written.prepend ≡ source.prepend
     → (entry : Bytes) (input : Input) (n : ℕ) → IsInside (run_of v source marks entry input n).end
     → SameRun (run_of v source marks entry input n) (run_of v written [] entry input n)
-parens_alike v source written marks same_files same_first entry input n i =
+scripts_alike v source written marks same_files same_first entry input n i =
     answer_same entry _ _
     (subst (λ first. Follows (start_all (λ path. enter v source marks (suc (suc n)) (FileStart path)) source.prepend entry (first_world input n)) (start_all (λ path. enter v written [] (suc (suc n)) (FileStart path)) first entry (first_world input n)))
     (sym same_first)

@@ -25,6 +25,7 @@ pub mod Rules
 pub mod Input
 pub mod Run
 pub mod Laws
+pub mod SameScripts
 pub mod LiteralLaws
 pub mod Examples
 pub mod Classes

@@ -1,4 +1,5 @@
 // Laws of runs.
+ghost use Rattle.php_meaning.specs.SameScripts.{SameScriptsKeepMeaning, NamesAsOneToken};
 ghost use Rattle.std.specs.Prelude.{codes};
 ghost use Rattle.php_tree.specs.declared.version.Version.{Version};
 ghost use Rattle.php_meaning.specs.Examples.{Echoes, two_ternaries, three_ternaries, concatenation_and_sum};
@@ -27,6 +28,17 @@ pub fn same_where_unasked()
 /// In each version, parentheses round expressions change no run that stays inside the profile.
 pub fn parens_change_no_run()
     ensures { ParensChangeNoRun }
+{}
+
+/// Where the 7.4 run of files stays inside the profile and asks at no point where the versions differ, the 8.3 run of files
+/// whose nodes have the same scripts, some of them in parentheses, has its echo and its end.
+pub fn same_scripts_keep_meaning()
+    ensures { SameScriptsKeepMeaning }
+{}
+
+/// A constant's script is the same whether its name is one token or several.
+pub fn names_as_one_token()
+    ensures { NamesAsOneToken }
 {}
 
 /// Where the 7.4 run of files stays inside the profile and asks at no point where the versions differ, the 8.3 run of the
