@@ -5,3 +5,4 @@ pub mod Unchanged
 pub mod Keeping
 pub mod Walking
 pub mod Wrapping
+pub mod WrappingEdits

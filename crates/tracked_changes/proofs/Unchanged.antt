@@ -91,7 +91,7 @@ same_placed f =
 
 -- ---- tokens that stand in their places already
 
-ends-leaves : (at : ℕ) (f : Forest) → ends_at at (leaves f) ≡ end_of at f
+pub ends-leaves : (at : ℕ) (f : Forest) → ends_at at (leaves f) ≡ end_of at f
 ends-leaves at none = refl
 ends-leaves at (leaf t f) = ends-leaves (behind at t) f
 ends-leaves at (node k c f) = ends-append at (leaves c) (leaves f) ∙ rw (ends-leaves at c) (ends-leaves (end_of at c) f)

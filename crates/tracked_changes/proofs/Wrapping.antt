@@ -112,16 +112,16 @@ parens_stand_round = (parens_keep_bytes, λ t. ap alone (paren_is_paren t))
 
 -- ---- places don't matter to wrappings
 
-leaves-unplaced : (f : Forest) → leaves (unplaced f) ≡ map unplaced_token (leaves f)
+pub leaves-unplaced : (f : Forest) → leaves (unplaced f) ≡ map unplaced_token (leaves f)
 leaves-unplaced none = refl
 leaves-unplaced (leaf t f) = ap (λ ts. unplaced_token t ∷ ts) (leaves-unplaced f)
 leaves-unplaced (node k c f) = rw (leaves-unplaced c, leaves-unplaced f) (sym (map-append unplaced_token (leaves c) (leaves f)))
 
-same_none : (ts : List Token) → patched.has_none (map unplaced_token ts) ≡ patched.has_none ts
+pub same_none : (ts : List Token) → patched.has_none (map unplaced_token ts) ≡ patched.has_none ts
 same_none [] = refl
 same_none (t ∷ ts) = refl
 
-same_lead : (ts : List Token) → patched.first_lead (map unplaced_token ts) ≡ patched.first_lead ts
+pub same_lead : (ts : List Token) → patched.first_lead (map unplaced_token ts) ≡ patched.first_lead ts
 same_lead [] = refl
 same_lead (t ∷ ts) = refl
 

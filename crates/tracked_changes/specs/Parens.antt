@@ -1,10 +1,14 @@
 -- Parentheses round nodes: two insertions each.
 use Rattle.std.specs.Prelude.{◌≡◌, codes, List, [], ◌∷◌}
 use Rattle.php_tree.specs.declared.kind.NodeKind.TheVariants.{Paren}
-use Rattle.php_tree.specs.Tree.{alone, File, file_printed}
+use Rattle.php_tree.specs.Tree.{alone, File, file_leaves, file_printed}
+use Rattle.php_tree.specs.Places.{ArePlaced}
 use Rattle.tree_patches.specs.Patches.{Patches, Wrapping, InParens}
 use Rattle.tree_patches.specs.Rewritten as patched
+use Rattle.tree_patches.specs.Changes as table
+use Rattle.tree_patches.specs.Laws.{HaveTokens}
 use Rattle.tracked_changes.specs.Draft.{no_more, new_leaf, new_node, source, rewritten, rewritten_file, unchanged_token}
+use Rattle.tracked_changes.specs.Edits.{edits}
 use Rattle.tracked_changes.specs.Tokens.{put_in}
 use Rattle.tracked_changes.specs.Leads.{first_lead, without_lead}
 use Rattle.tracked_changes.specs.Walk.{NewTree, new_alone, NodesKeepBytes, Rewriting, drafted_file}
@@ -39,3 +43,8 @@ pub record IsWrapped (p : Patches) (f : File) : Type 0 where
 
 abbrev pub WrappingIsRewritten : Type 0
 WrappingIsRewritten = (p : Patches) (f : File) → IsWrapped p f
+
+-- Its edits are those of the table, where tokens stand in their places and each node that is changed has a token.
+abbrev pub WrappingHasEdits : Type 0
+WrappingHasEdits = (p : Patches) (f : File) → ArePlaced 0 (file_leaves f) → HaveTokens p 0 f.statements
+    → edits (drafted_file (wrapping p) f) ≡ table.edits p f

@@ -4,7 +4,7 @@
 
 ghost use Rattle.tracked_changes.specs.Laws.{SplicedIsRewritten, EditsAreApart, EachComesNext, KeptBytesStay, TakenBytesGo, UnchangedIsTheFile};
 ghost use Rattle.tracked_changes.specs.Walk.{WalksKeepTheSource};
-ghost use Rattle.tracked_changes.specs.Parens.{ParensStandRound, WrappingIsRewritten};
+ghost use Rattle.tracked_changes.specs.Parens.{ParensStandRound, WrappingIsRewritten, WrappingHasEdits};
 
 /// The source's bytes with a draft's edits made are the rewritten file, printed.
 pub fn spliced_is_rewritten()
@@ -54,6 +54,12 @@ pub fn wrapping_is_rewritten()
     ensures { WrappingIsRewritten }
 {}
 
+/// The edits of the draft that puts nodes in parentheses by a table are those of the table, where tokens stand in their
+/// places and each node that is changed has a token.
+pub fn wrapping_has_edits()
+    ensures { WrappingHasEdits }
+{}
+
 #[cfg(test)]
 mod tests {
     use super::*;
@@ -69,5 +75,6 @@ mod tests {
         walks_keep_the_source();
         parens_stand_round();
         wrapping_is_rewritten();
+        wrapping_has_edits();
     }
 }
