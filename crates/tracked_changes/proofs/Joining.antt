@@ -2,6 +2,7 @@
 use Rattle.std.proofs.Common.{◌≡◌, ℕ, ◌+◌, List, [], ◌∷◌, ◌++◌, length, refl, ap, sym, ◌∙◌, append_assoc, append-nil, length-append, arith}
 use Rattle.tracked_changes.specs.Pieces.{Piece, kept, changed, also, old_bytes, new_bytes, before, after}
 use Rattle.tracked_changes.specs.Edits.{join, joined, edit_of, edits_from}
+use Rattle.tracked_changes.specs.Laws.{BeginAnew, EditsCompose}
 
 -- ---- pieces one after another
 
@@ -54,14 +55,7 @@ after-joined (p ∷ ps) = after-join p (joined ps) ∙ ap (λ x. new_bytes p ++ 
 
 -- ---- where nothing is joined
 
--- no text goes on with an edit before
-abbrev pub StartsAnew : List Piece → Type 0
-StartsAnew [] = Unit {0}
-StartsAnew (kept b ∷ ps) = Unit {0}
-StartsAnew (changed o t ∷ ps) = Unit {0}
-StartsAnew (also t ∷ ps) = ⊥
-
-join-front : (p : Piece) (ps qs : List Piece) → StartsAnew qs → join p (ps ++ qs) ≡ join p ps ++ qs
+join-front : (p : Piece) (ps qs : List Piece) → BeginAnew qs → join p (ps ++ qs) ≡ join p ps ++ qs
 join-front (kept b) ps qs h = refl
 join-front (changed o t) [] [] h = refl
 join-front (changed o t) [] (kept b ∷ qs) h = refl
@@ -78,9 +72,27 @@ join-front (also t) (kept b ∷ ps) qs h = refl
 join-front (also t) (changed u v ∷ ps) qs h = refl
 join-front (also t) (also m ∷ ps) qs h = refl
 
-pub joined-append : (ps qs : List Piece) → StartsAnew (joined qs) → joined (ps ++ qs) ≡ joined ps ++ joined qs
+pub joined-append : (ps qs : List Piece) → BeginAnew (joined qs) → joined (ps ++ qs) ≡ joined ps ++ joined qs
 joined-append [] qs h = refl
 joined-append (p ∷ ps) qs h = ap (join p) (joined-append ps qs h) ∙ join-front p (joined ps) (joined qs) h
+
+changed_anew : (out text : List ℕ) (ps : List Piece) → BeginAnew (join (changed out text) ps)
+changed_anew o t [] = tt
+changed_anew o t (kept b ∷ ps) = tt
+changed_anew o t (changed u v ∷ ps) = tt
+changed_anew o t (also m ∷ ps) = tt
+
+joined_anew : (ps : List Piece) → BeginAnew ps → BeginAnew (joined ps)
+joined_anew [] h = tt
+joined_anew (kept b ∷ ps) h = tt
+joined_anew (changed o t ∷ ps) h = changed_anew o t (joined ps)
+joined_anew (also t ∷ ps) h = absurd h
+
+pub edits_compose : EditsCompose
+edits_compose at ps qs h =
+    ap (edits_from at) (joined-append ps qs (joined_anew qs h))
+    ∙ edits_from-append at (joined ps) (joined qs)
+    ∙ ap (λ bs. edits_from at (joined ps) ++ edits_from (at + length bs) (joined qs)) (before-joined ps)
 
 -- an edit in front of other pieces: the same bytes are taken out, and it stands before the rest
 pub record Joins (out text : List ℕ) (ps qs : List Piece) : Type 0 where

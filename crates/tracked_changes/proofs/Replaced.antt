@@ -6,8 +6,8 @@ use Rattle.span_edits.specs.Splice.{is_replaced}
 use Rattle.span_edits.proofs.SpliceLemmas.{is_replaced-none, is_replaced-other, is_replaced-here}
 use Rattle.tracked_changes.specs.Pieces.{Piece, kept, changed, before}
 use Rattle.tracked_changes.specs.Edits.{join, joined, replacement, edits_from}
-use Rattle.tracked_changes.specs.Laws.{KeptBytesStay, TakenBytesGo}
-use Rattle.tracked_changes.proofs.Joining.{Joins, StartsAnew, join_changed, joined-append, before-joined, edits_from-append}
+use Rattle.tracked_changes.specs.Laws.{BeginAnew, KeptBytesStay, TakenBytesGo}
+use Rattle.tracked_changes.proofs.Joining.{Joins, join_changed, joined-append, before-joined, edits_from-append}
 use Rattle.tracked_changes.proofs.Splicing.{edits_apart, within_to}
 
 -- edits that end before a place leave its byte to those behind them
@@ -18,7 +18,7 @@ replaced_behind place from to (e ∷ es) fs a h =
     is_replaced-other place e (es ++ fs) (inl (omega arith)) ∙ replaced_behind place e.span.end to es fs a.1 h
 
 -- the edits of pieces behind others, at a place behind those
-behind_front : (front qs : List Piece) (place : ℕ) → StartsAnew (joined qs) → length (before front) ≤ place
+behind_front : (front qs : List Piece) (place : ℕ) → BeginAnew (joined qs) → length (before front) ≤ place
     → is_replaced place (edits_from 0 (joined (front ++ qs))) ≡ is_replaced place (edits_from (length (before front)) (joined qs))
 behind_front front qs place h low =
     let same : 0 + length (before (joined front)) ≡ length (before front) = ap (λ x. 0 + length x) (before-joined front) ∙ omega arith in
@@ -39,6 +39,6 @@ taken_bytes_go d front out text back place eq lies =
     let at : ℕ = length (before front) in
     let j : Joins out text (joined back) (join (changed out text) (joined back)) = join_changed out text (joined back) in
     ap (λ ps. is_replaced place (edits_from 0 (joined ps))) eq
-    ∙ behind_front front (changed out text ∷ back) place (subst StartsAnew (sym j.first) tt) lies.0
+    ∙ behind_front front (changed out text ∷ back) place (subst BeginAnew (sym j.first) tt) lies.0
     ∙ ap (λ ps. is_replaced place (edits_from at ps)) j.first
     ∙ is_replaced-here place (replacement at out (text ++ j.more)) (edits_from (at + length out) j.rest) lies.0 lies.1

@@ -7,9 +7,9 @@ use Rattle.span_edits.specs.EditList.{AreApart, with_edit}
 use Rattle.span_edits.specs.Splice.{spliced, is_replaced}
 use Rattle.php_tree.specs.Tree.{File, file_leaves, file_printed}
 use Rattle.php_tree.specs.Places.{ArePlaced, placed_file}
-use Rattle.tracked_changes.specs.Pieces.{Piece, kept, changed, before}
+use Rattle.tracked_changes.specs.Pieces.{Piece, kept, changed, also, before}
 use Rattle.tracked_changes.specs.Draft.{FileDraft, file_pieces, source, rewritten_file, unchanged_file}
-use Rattle.tracked_changes.specs.Edits.{edits}
+use Rattle.tracked_changes.specs.Edits.{joined, edits_from, edits}
 
 -- The source's bytes with the edits made are the rewritten file, printed.
 abbrev pub SplicedIsRewritten : Type 0
@@ -31,6 +31,19 @@ pub record ComesNext (len : ℕ) (front : List Edit) (e : Edit) : Type 0 where
 abbrev pub EachComesNext : Type 0
 EachComesNext = (d : FileDraft) (front : List Edit) (e : Edit) (back : List Edit)
     → edits d ≡ front ++ e ∷ back → ComesNext (length (source d)) front e
+
+-- Pieces begin anew where no text goes on with an edit before them.
+abbrev pub BeginAnew : List Piece → Type 0
+BeginAnew [] = Unit {0}
+BeginAnew (kept bytes ∷ ps) = Unit {0}
+BeginAnew (changed out text ∷ ps) = Unit {0}
+BeginAnew (also text ∷ ps) = ⊥
+
+-- The edits of pieces, and then those of others that begin anew behind them.
+abbrev pub EditsCompose : Type 0
+EditsCompose = (at : ℕ) (ps qs : List Piece) → BeginAnew qs
+    → edits_from at (joined (ps ++ qs))
+    ≡ edits_from at (joined ps) ++ edits_from (at + length (before ps)) (joined qs)
 
 -- A place lies in a piece that stands behind others.
 abbrev pub LiesIn : ℕ → List Piece → List ℕ → Type 0

@@ -2,7 +2,7 @@
 //! are all read off. The definitions stand in `specs/`; the functions here carry the laws that they agree.
 #![tactic(auto)]
 
-ghost use Rattle.tracked_changes.specs.Laws.{SplicedIsRewritten, EditsAreApart, EachComesNext, KeptBytesStay, TakenBytesGo, UnchangedIsTheFile};
+ghost use Rattle.tracked_changes.specs.Laws.{SplicedIsRewritten, EditsAreApart, EachComesNext, EditsCompose, KeptBytesStay, TakenBytesGo, UnchangedIsTheFile};
 ghost use Rattle.tracked_changes.specs.Walk.{WalksKeepTheSource};
 ghost use Rattle.tracked_changes.specs.Parens.{ParensStandRound, WrappingIsRewritten, WrappingHasEdits};
 
@@ -20,6 +20,11 @@ pub fn edits_are_apart()
 /// them in this order.
 pub fn each_comes_next()
     ensures { EachComesNext }
+{}
+
+/// The edits of pieces are those of a first part, and then those of the others, where no text goes on over the seam.
+pub fn edits_compose()
+    ensures { EditsCompose }
 {}
 
 /// No edit of a draft replaces a byte that the draft keeps.
@@ -69,6 +74,7 @@ mod tests {
         spliced_is_rewritten();
         edits_are_apart();
         each_comes_next();
+        edits_compose();
         kept_bytes_stay();
         taken_bytes_go();
         unchanged_is_the_file();
