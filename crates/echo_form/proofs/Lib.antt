@@ -8,3 +8,7 @@ pub mod Runs
 pub mod ScanSound
 pub mod ScanComplete
 pub mod Files
+pub mod TextLaws
+pub mod BeforeLaws
+pub mod RowLaws
+pub mod Exact

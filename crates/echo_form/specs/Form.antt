@@ -88,6 +88,11 @@ pub data AreStatements : Version → Forest → Type 0 where
 
 -- ---- files
 
+-- A tree has the form: its statements are those of the grammar, and its tokens are spelled as their kinds say.
+pub record IsOfForm (f : File) : Type 0 where
+  pub statements : AreStatements V74 f.statements
+  pub tokens : AreFileTokens (file_printed f) (file_leaves f)
+
 -- Bytes have this file, of at most so many levels: no byte is lost, each token stands in its place and is spelled as
 -- its kind says, and the statements are those of the grammar.
 pub record ReadsWithin (limit : ℕ) (v : Version) (bytes : List ℕ) (f : File) : Type 0 where

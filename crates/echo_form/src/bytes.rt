@@ -35,6 +35,20 @@ pub fn is_letter(byte: u8) -> bool
     (b'a' <= byte && byte <= b'z') || (b'A' <= byte && byte <= b'Z') || byte == b'_' || 128 <= byte
 }
 
+/// A byte of a label behind its first one.
+pub fn is_label_byte(byte: u8) -> bool
+    ensures { result ≡ spelling.is_label_byte byte }
+{
+    is_letter(byte) || is_digit(byte)
+}
+
+/// A digit, or the underscore that may stand between digits.
+pub fn is_number_byte(byte: u8) -> bool
+    ensures { result ≡ spelling.is_number_byte byte }
+{
+    is_digit(byte) || byte == b'_'
+}
+
 /// An operator of the form.
 pub fn is_operator(byte: u8) -> bool
     ensures { result ≡ spelling.is_operator byte }
