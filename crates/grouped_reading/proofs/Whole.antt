@@ -8,10 +8,12 @@ use Rattle.php_tree.specs.Tree.{Forest, leaf, node, File, leaves, depth, printed
 use Rattle.php_tree.specs.Places.{placed, placed_file, behind, end_of, token_at}
 use Rattle.echo_form.specs.Spelling.{is_opening}
 use Rattle.echo_form.specs.Form.{AreTokens, AreOpened, AreFileTokens, without_lead, AreStatements, nothing, echo, Reads}
-use Rattle.echo_form.proofs.Files.{one_file}
+use Rattle.php_reading.specs.Reading.{Reads as ReadsPhp}
+use Rattle.php_reading.proofs.Trees.{one_tree}
+use Rattle.echo_reader.proofs.Wired.{form_is_php, one_form}
 use Rattle.syntax_rules.specs.NestedTernary.{grouped}
 use Rattle.syntax_rules.proofs.Regrouped.{regrouped, rewritten_is}
-use Rattle.grouped_reading.specs.GroupedReading.{GroupedIsRead}
+use Rattle.grouped_reading.specs.GroupedReading.{GroupedIsRead, GroupedIsReadAsPhp}
 use Rattle.grouped_reading.proofs.Tokens.{Follows, HasTokens, regrouped_tokens, SameTokens, same_tokens, placed_tokens, tail_tokens, head_token, token_filled}
 use Rattle.grouped_reading.proofs.Shapes.{statements_tokens, statements_83, placed_statements, placed_leaves, depth_placed, regrouped_depth}
 
@@ -137,4 +139,9 @@ regrouped_reads bytes f r =
 pub grouped_is_read : GroupedIsRead
 grouped_is_read bytes f r =
     let reads : Reads V83 (file_printed (grouped f)) (grouped f) = subst (λ (g : File). Reads V83 (file_printed g) g) (sym (grouped_is f)) (regrouped_reads bytes f r) in
-    record { reads = reads; only = λ g h. one_file V83 (file_printed (grouped f)) g (grouped f) h reads }
+    record { reads = reads; only = λ g h. one_form V83 (file_printed (grouped f)) g (grouped f) h reads }
+
+pub grouped_is_php : GroupedIsReadAsPhp
+grouped_is_php bytes f r =
+    let reads : ReadsPhp V83 (file_printed (grouped f)) (grouped f) = form_is_php V83 (file_printed (grouped f)) (grouped f) (grouped_is_read bytes f r).reads in
+    record { reads = reads; only = λ g h. one_tree V83 (file_printed (grouped f)) g (grouped f) h reads }

@@ -2,10 +2,11 @@
 //! file.
 #![tactic(auto)]
 
-ghost use Rattle.grouped_reading.specs.GroupedReading.{GroupedIsRead};
+ghost use Rattle.grouped_reading.specs.GroupedReading.{GroupedIsRead, GroupedIsReadAsPhp};
 
 /// The bytes of a file that 7.4 reads, with its nested ternaries in parentheses, are read by 8.3 as that rewritten file,
-/// and as no other.
+/// and as no other: by the form (`form`), and by all of its tokens and all of its grammar (`php`).
 pub fn grouped_files_are_read()
-    ensures { GroupedIsRead }
+    ensures form { GroupedIsRead }
+    ensures php { GroupedIsReadAsPhp }
 {}
