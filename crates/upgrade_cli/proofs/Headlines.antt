@@ -10,7 +10,8 @@ use Rattle.tree_patches.proofs.Splicing.{spliced_is_rewritten}
 use Rattle.syntax_rules.specs.NestedTernary.{nested_ternary, grouped}
 use Rattle.syntax_rules.proofs.ParenLemmas.{grouping_keeps_meaning}
 use Rattle.grouped_reading.proofs.Shapes.{statements_tokens}
-use Rattle.grouped_reading.proofs.Whole.{grouped_is_read}
+use Rattle.echo_reader.proofs.Wired.{form_is_php}
+use Rattle.grouped_reading.proofs.Whole.{grouped_is_php}
 use Rattle.io_ports.specs.Files as ports
 use Rattle.io_ports.specs.Files.{put_file}
 use Rattle.upgrade_cli.specs.declared.stop.Status.{Status}
@@ -27,12 +28,13 @@ use Rattle.upgrade_cli.proofs.Counting.{length-edits, none_replaced, have_tokens
 
 file_written : (bytes : List ℕ) (t : File) → Reads V74 bytes t → IsWritten bytes t (file_printed (grouped t))
 file_written bytes t r = record {
+  source = form_is_php V74 bytes t r;
   printed = refl;
   spliced_in = sym (ap (λ bs. spliced bs (edits (nested_ternary t.statements) t)) (sym r.printed)
       ∙ spliced_is_rewritten (nested_ternary t.statements) t r.placed (have_tokens (nested_ternary t.statements) 0 None t.statements (statements_tokens r.statements)));
   kept = none_replaced t;
-  reads = (grouped_is_read bytes t r).reads;
-  only = (grouped_is_read bytes t r).only;
+  reads = (grouped_is_php bytes t r).reads;
+  only = (grouped_is_php bytes t r).only;
 }
 
 are_written : (files : List ports.File) (trees : List File) → AreRead files trees → AreWritten files trees

@@ -2,8 +2,8 @@
 use Rattle.std.specs.Prelude.{◌≡◌, ℕ, ◌+◌, false, List, [], ◌∷◌, ◌++◌, length, Option, Some, None, IfSome}
 use Rattle.span_edits.specs.Splice.{spliced, is_replaced}
 use Rattle.php_tree.specs.Tree.{File, file_printed}
-use Rattle.php_tree.specs.declared.version.Version.TheVariants.{V83}
-use Rattle.echo_form.specs.Form.{Reads}
+use Rattle.php_tree.specs.declared.version.Version.TheVariants.{V74, V83}
+use Rattle.php_reading.specs.Reading.{Reads}
 use Rattle.tree_patches.specs.Changes.{edits}
 use Rattle.php_meaning.specs.World.{Bytes}
 use Rattle.php_meaning.specs.Laws.{KeepsMeaning}
@@ -14,9 +14,11 @@ use Rattle.upgrade_cli.specs.declared.stop.Summary.{Summary}
 use Rattle.upgrade_cli.specs.Lines.{summary_line}
 use Rattle.upgrade_cli.specs.Outcome.{AreRead}
 
--- What is written of a file's bytes: the rewritten tree, printed. It is the bytes with the edits made, no byte of the
--- source is replaced, and 8.3 reads in it exactly the rewritten tree.
+-- What is written of a file's bytes, which 7.4 reads as this tree: the rewritten tree, printed. It is the bytes with the
+-- edits made, no byte of the source is replaced, and 8.3 reads in it exactly the rewritten tree. Both versions read by
+-- all of their tokens and all of their grammar.
 pub record IsWritten (bytes : List ℕ) (tree : File) (out : List ℕ) : Type 0 where
+  pub source : Reads V74 bytes tree
   pub printed : out ≡ file_printed (grouped tree)
   pub spliced_in : out ≡ spliced bytes (edits (nested_ternary tree.statements) tree)
   pub kept : (place : ℕ) → is_replaced place (edits (nested_ternary tree.statements) tree) ≡ false

@@ -5,7 +5,7 @@ ghost use Rattle.upgrade_cli.specs.Outcome as spec;
 ghost use Rattle.upgrade_cli.specs.Run.{SourceCause};
 
 use crate::stop::{Stop, source_stop};
-use echo_form::MAX_BYTES;
+use echo_reader::MAX_BYTES;
 use io_ports::{Found, PathText, SourceTree};
 use std::alloc::Global;
 

@@ -2,7 +2,7 @@
 ghost use Rattle.std.specs.Prelude.{◌≡◌, IfOk, ◌∷◌, [], codes};
 
 use crate::{Status, run, status_number};
-use echo_form::{MAX_BYTES, read};
+use echo_reader::{MAX_BYTES, read};
 use io_ports::{
     Bytes, CalmSink, CalmSource, CalmTarget, MemorySink, MemorySource, MemoryTarget, PathText,
 };

@@ -7,7 +7,7 @@ ghost use Rattle.upgrade_cli.specs.Run.{HaveCauses, TargetCause, Keeps, NotSourc
 use crate::rewrite::{edit_count, write_file};
 use crate::sources::{list_sources, read_source};
 use crate::stop::{Stop, Summary, target_stop};
-use echo_form::{MAX_BYTES, read};
+use echo_reader::{MAX_BYTES, read};
 use io_ports::{PathText, SourceTree, TargetTree};
 use std::alloc::{AllocError, Global};
 
