@@ -1,14 +1,6 @@
-pub mod ScanLaws
 pub mod NumberLaws
-pub mod DescentLaws
-pub mod Options
-pub mod DescentSound
-pub mod DescentComplete
-pub mod Runs
-pub mod ScanSound
-pub mod ScanComplete
-pub mod Files
 pub mod TextLaws
+pub mod Files
 pub mod BeforeLaws
 pub mod RowLaws
 pub mod Exact

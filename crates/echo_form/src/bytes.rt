@@ -1,18 +1,6 @@
 // Bytes, by what they may be part of.
-ghost use Rattle.std.specs.Prelude.{◌≡◌, ◌≤◌, length};
+ghost use Rattle.std.specs.Prelude.{◌≡◌};
 ghost use Rattle.echo_form.specs.Spelling as spelling;
-ghost use Rattle.echo_form.specs.Scan as scan;
-
-/// What a run of bytes is made of.
-#[derive(Clone, Copy, Debug, PartialEq, Eq)]
-pub enum Class {
-    /// White space.
-    Blank,
-    /// Digits, and the underscores between them.
-    Number,
-    /// Letters, digits and underscores.
-    Label,
-}
 
 /// White space: space, tab, line feed or carriage return.
 pub fn is_blank(byte: u8) -> bool
@@ -54,29 +42,4 @@ pub fn is_operator(byte: u8) -> bool
     ensures { result ≡ spelling.is_operator byte }
 {
     byte == b'(' || byte == b')' || byte == b'?' || byte == b':' || byte == b','
-}
-
-fn belongs(class: Class, byte: u8) -> bool
-    ensures { result ≡ scan.belongs class byte }
-{
-    match class {
-        Class::Blank => is_blank(byte),
-        Class::Number => is_digit(byte) || byte == b'_',
-        Class::Label => is_letter(byte) || is_digit(byte),
-    }
-}
-
-/// How many bytes at the front belong to the class.
-pub fn front(class: Class, bytes: &[u8]) -> usize
-    ensures value { result ≡ scan.front class bytes.now }
-    ensures within { result ≤ length bytes.now }
-{
-    let mut count = 0;
-    for byte in bytes {
-        if !belongs(class, *byte) {
-            return count;
-        }
-        count += 1;
-    }
-    count
 }

@@ -1,9 +1,9 @@
-// Both readers, on a worked file.
+// The grammar and the form, on a worked file.
 ghost use Rattle.std.specs.Prelude.{◌≡◌, IfOk};
 ghost use Rattle.php_tree.specs.Places.{ArePlaced};
 
 use crate::form_trees_are_php_trees;
-use echo_form::read;
+use echo_form::has_form;
 use php_parser::parse;
 use php_tree::{Token, TokenKind, Version};
 use span_edits::Bytes;
@@ -47,20 +47,15 @@ fn tokens(alloc: Global) -> Result<Vec<Token>, AllocError>
 }
 
 #[test]
-fn both_readers_find_an_echo_of_a_ternary(rt: HostRuntime) -> Result<(), Fail> {
+fn both_versions_read_an_echo_of_a_ternary_that_has_the_form(rt: HostRuntime) -> Result<(), Fail> {
     form_trees_are_php_trees();
     let alloc = rt.alloc();
-    let small = match read(alloc, TEXT.as_bytes())? {
-        Some(tree) => (tree.nodes(), tree.depth()),
-        None => (0, 0),
-    };
-    assert_eq!(rt; small, (5, 3));
     for version in [Version::V74, Version::V83] {
         let whole = match parse(alloc, version, tokens(alloc)?) {
-            Ok(tree) => (tree.nodes(), tree.depth()),
-            Err(_) => (0, 0),
+            Ok(tree) => (tree.nodes(), tree.depth(), has_form(&tree)),
+            Err(_) => (0, 0, false),
         };
-        assert_eq!(rt; whole, (5, 3));
+        assert_eq!(rt; whole, (5, 3, true));
     }
     Ok(())
 }
