@@ -3,6 +3,7 @@ use Rattle.std.specs.Prelude.{◌≡◌, ℕ, zero, suc, ◌+◌, List, [], ◌�
 use Rattle.std.specs.Str.{bytes_eq}
 use Rattle.std.proofs.Common.{ap, sym, ◌∙◌, subst}
 use Rattle.php_tree.specs.Tree.{Forest, count}
+use Rattle.php_meaning.specs.Cause.{NoRule}
 use Rattle.php_meaning.specs.World.{Store, Bytes, Place, End, Going, Before, World}
 use Rattle.php_meaning.specs.Script.{Return, Throw, Break, Continue, Out, Val, At, Jump, Mode, Target, Kid, Again, Body, Script, Give, Stop, Finish, Look, Put, Echo, Turn, Ask, Run}
 use Rattle.php_meaning.specs.Rules.{rule, run_all}
@@ -10,7 +11,7 @@ use Rattle.php_meaning.specs.Statements.{is_statement}
 use Rattle.php_meaning.specs.Input.{Input}
 use Rattle.php_meaning.specs.Run.{begun, Program, Mark, file_at, is_stopped, is_refused, Result, Done, Over, then_do, with_turn, play, own_texts, children, Entry, FileStart, BodyStart, Site, place_in, place_of_file, told, left, starting, unless_stopped, going, step, run_file, unless_refused, enter, first_world, end_of_file, answer, and_start, start_all, run_of}
 use Rattle.php_meaning.specs.Laws.{IsInside, SameRun}
-use Rattle.php_meaning.specs.SameScripts.{HasScriptsOf, nothing, token_before, token_behind, same, wrapped, HaveScriptsOf, no_more, one_more}
+use Rattle.php_meaning.specs.SameScripts.{HasScriptsOf, nothing, token_before, token_behind, same, replaced, wrapped, HaveScriptsOf, no_more, one_more}
 
 -- equal but for what was told
 pub record Same (w u : World) : Type 0 where
@@ -103,6 +104,7 @@ children_same nothing = refl
 children_same (token_before d) = children_same d
 children_same (token_behind d) = children_same d
 children_same (same h d e) = ap suc (children_same e)
+children_same (replaced h e) = ap suc (children_same e)
 children_same (wrapped d e) = ap suc (children_same e)
 
 module _ (v : Bool) (marks : List Mark) (lower low : Entry → World → Result) (h : (e : Entry) → Alike (lower e) (low e)) where
@@ -114,6 +116,20 @@ module _ (v : Bool) (marks : List Mark) (lower low : Entry → World → Result)
   -- a script and the same one by other words
   script_follows : (here there : Place) (go to : Target → World → Result) → ((x : Target) → Alike (go x) (to x)) → (a b : Script) → b ≡ a → (w u : World) → Same w u → Follows (play v here go a w) (play v there to b u)
   script_follows here there go to g a b e w u s = subst (λ x. Follows (play v here go a w) (play v there to x u)) (sym e) (play_follows v here there go to g a w u s)
+
+  -- a node without a rule is outside, whatever stands in its place
+  no_rule_follows : (a stop : Bool) (s : Site) (id : ℕ) (go : Target → World → Result) (sc : Script) (w : World) (q : Result)
+      → a ≡ false → sc ≡ Stop NoRule
+      → Follows (starting a w (λ u. unless_stopped stop (place_in s id) u (left s id (play v (place_in s id) go sc (told s id Before None u))))) q
+  no_rule_follows a stop s id go sc w q e f =
+      subst (λ x. Follows (starting x w (λ u. unless_stopped stop (place_in s id) u (left s id (play v (place_in s id) go sc (told s id Before None u))))) q)
+      (sym e)
+      (subst (λ x. Follows (unless_stopped stop (place_in s id) w (left s id (play v (place_in s id) go x (told s id Before None w)))) q) (sym f)
+      (is_outside stop))
+    where
+      is_outside : (b : Bool) → Follows (unless_stopped b (place_in s id) w (left s id (play v (place_in s id) go (Stop NoRule) (told s id Before None w)))) q
+      is_outside true = λ i. absurd i
+      is_outside false = λ i. absurd i
 
   step_follows : (s : Site) {f g : Forest} → HasScriptsOf f g → (id jd i : ℕ) (m : Mode) (w u : World) → Same w u → Follows (step v marks lower s f id i m w) (step v [] low s g jd i m u)
   step_follows s nothing id jd i m w u e = λ x. absurd x
@@ -131,6 +147,9 @@ module _ (v : Bool) (marks : List Mark) (lower low : Entry → World → Result)
             (record { store = t.store; echo = t.echo; turns = t.turns })));
       })
   step_follows s (same {k} {j} {c} {d} {f} {g} r p q) id jd (suc i) m w u e = step_follows s q (suc (id + count c)) (suc (jd + count d)) i m w u e
+  step_follows s (replaced {k} {j} {c} {d} {f} {g} r q) id jd zero m w u e =
+      no_rule_follows (is_statement k) (is_stopped marks s.file id) s id _ (rule k m (own_texts c) (children c)) w _ r.statement (r.script m)
+  step_follows s (replaced {k} {j} {c} {d} {f} {g} r q) id jd (suc i) m w u e = step_follows s q (suc (id + count c)) (suc (jd + count d)) i m w u e
   step_follows s (wrapped {k} {j} {c} {d} {f} {g} p q) id jd zero m w u e =
       handed_follows s jd _ _ (step_follows s p id (suc jd) zero m w (told s jd Before None u) (record { store = e.store; echo = e.echo; turns = e.turns }))
   step_follows s (wrapped {k} {j} {c} {d} {f} {g} p q) id jd (suc i) m w u e =

@@ -1,17 +1,19 @@
 -- Trees with the same scripts run alike, so parentheses change no run, and nor do marks that it doesn't reach.
-use Rattle.std.specs.Prelude.{◌≡◌, suc, true, List, [], ◌∷◌, refl}
+use Rattle.std.specs.Prelude.{◌≡◌, ℕ, suc, true, List, [], ◌∷◌, IsFalse, refl}
 use Rattle.std.proofs.Common.{ap, ◌∙◌, subst, append-nil}
 use Rattle.std.specs.Str.{str_to_ascii_lowercase}
 use Rattle.php_tree.specs.declared.kind.NodeKind.{NodeKind}
+use Rattle.php_tree.specs.declared.kind.NodeKind.TheVariants as kind
+use Rattle.std.proofs.lemmas.Bool.{true≢false}
 use Rattle.php_tree.specs.declared.version.Version.TheVariants.{V74, V83}
 use Rattle.php_tree.specs.Tree.{Forest, none, leaf, node}
 use Rattle.php_meaning.specs.World.{Bytes}
 use Rattle.php_meaning.specs.Literals.{name_of, behind_backslash, constants, found}
 use Rattle.php_meaning.specs.Script.{Mode, Read, Quiet, Write, Unset, Name}
-use Rattle.php_meaning.specs.Rules.{rule, constant}
+use Rattle.php_meaning.specs.Rules.{rule, reading, constant}
 use Rattle.php_meaning.specs.Run.{own_texts, children, is_newer, run}
 use Rattle.php_meaning.specs.Laws.{IsInside, SameRun, ParensChangeNoRun, ParensKeepMeaning, MarksOnlyStop, Parenthesized, ends, token, inner, parens, AreParenthesized, no_files, file}
-use Rattle.php_meaning.specs.SameScripts.{HasScriptsOf, nothing, token_before, token_behind, same, wrapped, HaveScriptsOf, no_more, one_more, SameScriptsKeepMeaning, NamesAsOneToken}
+use Rattle.php_meaning.specs.SameScripts.{HasScriptsOf, nothing, token_before, token_behind, same, wrapped, HaveScriptsOf, no_more, one_more, SameScriptsKeepMeaning, NamesAsOneToken, reads_tokens, OtherTokensCountNothing}
 use Rattle.php_meaning.proofs.Alike.{scripts_alike}
 use Rattle.php_meaning.proofs.Unasked.{same_where_unasked}
 
@@ -80,3 +82,22 @@ names_as_one_token Quiet tokens n = refl
 names_as_one_token Write tokens n = refl
 names_as_one_token Unset tokens n = refl
 names_as_one_token Name tokens n = refl
+
+-- ---- tokens
+
+reading_alike : (k : NodeKind) (tokens others : List Bytes) (n : ℕ) → IsFalse (reads_tokens k) → reading k others n ≡ reading k tokens n
+reading_alike kind.Number tokens others n h = absurd (true≢false h)
+reading_alike kind.Text tokens others n h = absurd (true≢false h)
+reading_alike kind.Constant tokens others n h = absurd (true≢false h)
+reading_alike kind.Binary tokens others n h = absurd (true≢false h)
+reading_alike kind.Prefix tokens others n h = absurd (true≢false h)
+reading_alike kind.ExprStmt tokens others n h = refl
+reading_alike kind.Echo tokens others n h = refl
+reading_alike kind.Ternary tokens others n h = refl
+reading_alike kind.ShortTernary tokens others n h = refl
+reading_alike k tokens others n h = refl
+
+pub other_tokens_count_nothing : OtherTokensCountNothing
+other_tokens_count_nothing kind.Paren m tokens others n h = refl
+other_tokens_count_nothing k Read tokens others n h = reading_alike k tokens others n h
+other_tokens_count_nothing k m tokens others n h = refl

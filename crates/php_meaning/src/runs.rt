@@ -1,5 +1,5 @@
 // Laws of runs.
-ghost use Rattle.php_meaning.specs.SameScripts.{SameScriptsKeepMeaning, NamesAsOneToken};
+ghost use Rattle.php_meaning.specs.SameScripts.{SameScriptsKeepMeaning, NamesAsOneToken, OtherTokensCountNothing};
 ghost use Rattle.std.specs.Prelude.{codes};
 ghost use Rattle.php_tree.specs.declared.version.Version.{Version};
 ghost use Rattle.php_meaning.specs.Examples.{Echoes, two_ternaries, three_ternaries, concatenation_and_sum};
@@ -31,9 +31,15 @@ pub fn parens_change_no_run()
 {}
 
 /// Where the 7.4 run of files stays inside the profile and asks at no point where the versions differ, the 8.3 run of files
-/// whose nodes have the same scripts, some of them in parentheses, has its echo and its end.
+/// whose nodes have the same scripts, some of them in parentheses, or others in place of nodes without a rule, has its echo
+/// and its end.
 pub fn same_scripts_keep_meaning()
     ensures { SameScriptsKeepMeaning }
+{}
+
+/// The script of a kind other than literals, constants and operators is the same whatever its tokens are.
+pub fn other_tokens_count_nothing()
+    ensures { OtherTokensCountNothing }
 {}
 
 /// A constant's script is the same whether its name is one token or several.
