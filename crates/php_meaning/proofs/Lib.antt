@@ -10,6 +10,7 @@ pub mod LiteralLemmas
 pub mod NowdocLemmas
 mod TextLiteralRows
 mod OperatorRows
+mod RunRows
 mod ComparisonRows
 mod TextRows
 mod KeyRows
