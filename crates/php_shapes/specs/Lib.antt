@@ -1,0 +1,13 @@
+pub mod Atoms
+pub mod Declarations
+pub mod Forms
+pub mod Names
+pub mod Namespaces
+pub mod Nearest
+pub mod Notation
+pub mod Operators
+pub mod Places
+pub mod Postfixes
+pub mod Quoted
+pub mod Shapes
+pub mod Statements

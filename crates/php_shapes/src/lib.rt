@@ -1,0 +1,2 @@
+//! A plain definition of the grammar, on trees alone.
+#![tactic(auto)]
