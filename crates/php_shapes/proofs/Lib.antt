@@ -1,3 +1,5 @@
 pub mod Sequences
 pub mod Groups
 pub mod Turns
+pub mod Told
+pub mod Uses

@@ -61,7 +61,7 @@ LastTurn v following es r = (f : Forest) (rest : List Token) → second_of (leav
 pub comma_then : (v : Version) (following : Terminal) (r : Rule) → LastTurn v following (flat (word t.Comma ~ r) []) r
 comma_then v following r f rest e m has = goes_on (whole v (word t.Comma ~ r) f rest m)
 
-second_is : (v : Version) (c : Terminal) (f : Forest) (rest : List Token) → Fits v (word c) f → second_of (leaves f ++ rest) ≡ first_of rest
+pub second_is : (v : Version) (c : Terminal) (f : Forest) (rest : List Token) → Fits v (word c) f → second_of (leaves f ++ rest) ≡ first_of rest
 second_is v c f rest (is_word e) = refl
 
 pub comma_alone : (v : Version) (following : Terminal) (r : Rule) → closes following ≡ true → LastTurn v following (flat (word t.Comma) []) r
