@@ -3,3 +3,4 @@ pub mod Groups
 pub mod Turns
 pub mod Told
 pub mod Uses
+pub mod Parts
