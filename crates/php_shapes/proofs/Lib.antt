@@ -4,3 +4,5 @@ pub mod Turns
 pub mod Told
 pub mod Uses
 pub mod Parts
+pub mod Follows
+pub mod Standing
