@@ -6,3 +6,4 @@ pub mod Uses
 pub mod Parts
 pub mod Follows
 pub mod Standing
+pub mod Beginnings
