@@ -223,10 +223,10 @@ module _ (v : Version) (r : Rule) (w : (f : Forest) → Fits v r f → Fits v (p
   pub constant_of : Gives v (flat (r ~ word t.DoubleColon ~ word t.AnyWord) []) (po.class_constant v)
   constant_of = first_as v r (po.class_before v) (po.class_constant v) (flat (word t.DoubleColon ~ word t.AnyWord) []) w (whole v (po.class_constant v))
 
-by_name : (v : Version) (f : Forest) → Fits v (na.name v) f → Fits v (po.class_before v) f
+pub by_name : (v : Version) (f : Forest) → Fits v (na.name v) f → Fits v (po.class_before v) f
 by_name v f p = is_first p
 
-by_static : (v : Version) (f : Forest) → Fits v (word t.Static) f → Fits v (po.class_before v) f
+pub by_static : (v : Version) (f : Forest) → Fits v (word t.Static) f → Fits v (po.class_before v) f
 by_static v f p = is_second (is_first p)
 
 static_name_heads : (v : Version) (ts : List Token) → Heads v (fo.static_name_form ts)

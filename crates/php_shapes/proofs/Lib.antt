@@ -7,3 +7,4 @@ pub mod Parts
 pub mod Follows
 pub mod Standing
 pub mod Beginnings
+pub mod Openings

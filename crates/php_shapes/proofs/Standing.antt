@@ -74,8 +74,8 @@ Stands v s.ClassRef j c = Made v j c × (is_class_name j && begins_with_class_na
 Stands v s.Interpolated j c = (is_nearest c ≡ true → Fits v qu.interpolated (node j c none)) × (is_variable j ≡ true → (j ≡ k.Variable) × Fits v (word t.Variable) c)
 
 -- A form with which a node of a sort begins.
-abbrev pub Good : Version → Sort → Form → Type 0
-Good v s fm = (c : Forest) (rest : List Token) → Meet v (entries v fm.1) c rest → Stands v s fm.0 c × Closed fm.0 c rest
+pub record Good (v : Version) (s : Sort) (fm : Form) : Type 0 where
+  pub good : (c : Forest) (rest : List Token) → Meet v (entries v fm.1) c rest → Stands v s fm.0 c × Closed fm.0 c rest
 
 -- ---- kinds that take no token behind them, and hold no text
 
