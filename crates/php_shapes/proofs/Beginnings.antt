@@ -49,13 +49,13 @@ pub record Headed (v : Version) (k : NodeKind) (c : Forest) (rest : List Token) 
 pub record Heads (v : Version) (fm : Form) : Type 0 where
   pub at_all : (c : Forest) (rest : List Token) → Meet v (entries v fm.1) c rest → Headed v fm.0 c rest
 
-zero_tight : (n limit : ℕ) (b : Bool) → n ≡ 0 → (nat_le n limit || b) ≡ true
+pub zero_tight : (n limit : ℕ) (b : Bool) → n ≡ 0 → (nat_le n limit || b) ≡ true
 zero_tight n limit b e = ap (λ (m : ℕ). nat_le m limit || b) e ∙ go limit b
   where
     go : (limit : ℕ) (b : Bool) → (nat_le 0 limit || b) ≡ true
     go limit b = ap (λ (y : Bool). y || b) (le-leb 0 limit (omega arith))
 
-or_true : (b c : Bool) → c ≡ true → (b || c) ≡ true
+pub or_true : (b c : Bool) → c ≡ true → (b || c) ≡ true
 or_true true c e = refl
 or_true false c e = e
 

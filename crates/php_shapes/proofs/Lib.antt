@@ -8,3 +8,5 @@ pub mod Follows
 pub mod Standing
 pub mod Beginnings
 pub mod Openings
+pub mod Never
+pub mod Operations
