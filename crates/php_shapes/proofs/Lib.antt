@@ -10,3 +10,4 @@ pub mod Beginnings
 pub mod Openings
 pub mod Never
 pub mod Operations
+pub mod Continuations
