@@ -11,3 +11,4 @@ pub mod Openings
 pub mod Never
 pub mod Operations
 pub mod Continuations
+pub mod Walked
