@@ -1,5 +1,5 @@
 -- How expressions begin: each form of the tables is the form of its kind.
-use Rattle.std.proofs.Common.{◌≡◌, ℕ, Bool, true, false, not, cond, ◌&&◌, ◌||◌, nat_le, List, [], ◌∷◌, ◌++◌, drop, Option, Some, None, refl, sym, ap, ◌∙◌, subst, arith}
+use Rattle.std.proofs.Common.{◌≡◌, ℕ, Bool, true, false, not, cond, ◌||◌, nat_le, List, [], ◌∷◌, drop, Some, None, refl, sym, ap, ◌∙◌, subst, arith}
 use Rattle.std.specs.Prelude.{IfSome}
 use Rattle.std.proofs.lemmas.Bool.{le-leb}
 use Rattle.php_tree.specs.declared.kind.NodeKind.{NodeKind}
@@ -7,7 +7,7 @@ use Rattle.php_tree.specs.declared.kind.NodeKind.TheVariants as k
 use Rattle.php_tree.specs.declared.token.Token.{Token}
 use Rattle.php_tree.specs.declared.version.Version.{Version}
 use Rattle.php_tree.specs.declared.version.Version.TheVariants.{V74, V83}
-use Rattle.php_tree.specs.Tree.{Forest, Tree, none, leaf, node, ◌+++◌, leaves}
+use Rattle.php_tree.specs.Tree.{Forest, none, leaf, node, ◌+++◌}
 use Rattle.php_terminals.specs.declared.terminal.Terminal.{Terminal}
 use Rattle.php_terminals.specs.declared.terminal.Terminal.TheVariants as t
 use Rattle.php_terminals.specs.Ahead.{behind_name, first_of, is_called, past_group, second_of}
@@ -20,7 +20,7 @@ use Rattle.php_forms.specs.declared.item.Group.TheVariants as g
 use Rattle.php_forms.specs.Forms.{or_else}
 use Rattle.php_forms.specs.Grammar.{Form}
 use Rattle.php_forms.specs.Atoms as fa
-use Rattle.php_grammar.specs.Accepts.{accepts, same_class}
+use Rattle.php_grammar.specs.Accepts.{same_class}
 use Rattle.php_grammar.specs.Levels.{level}
 use Rattle.php_grammar.specs.Operands as fo
 use Rattle.php_shapes.specs.Atoms as at
@@ -29,11 +29,11 @@ use Rattle.php_shapes.specs.Operators as op
 use Rattle.php_shapes.specs.Postfixes as po
 use Rattle.php_shapes.specs.Quoted as qu
 use Rattle.php_shapes.specs.Forms.{form}
-use Rattle.php_shapes.specs.Nearest.{is_open_if, is_open_yield, is_to, is_value_alone, is_yield}
-use Rattle.php_shapes.specs.Notation.{Rule, nothing, word, kind, place, inside, ◌~◌, ◌|||◌, many, maybe, expr, commas, commas_last, parens, brackets, braces}
-use Rattle.php_shapes.specs.Places.{ClassBase, Callee, Operand, Target, begins_with_class_name, is_class_name, is_prefix}
-use Rattle.php_shapes.specs.Shapes.{Fits, is_nothing, is_word, is_place, is_both, is_first, is_second}
-use Rattle.php_shapes.proofs.Sequences.{Entry, plain, Gives, Meet, Meets, entries, flat, flat_entry, entry_of, whole, one, second, other, is_one_node, none_behind}
+use Rattle.php_shapes.specs.Nearest.{is_to, is_value_alone, is_yield}
+use Rattle.php_shapes.specs.Notation.{Rule, word, kind, place, ◌~◌, ◌|||◌, maybe, expr, commas, parens, brackets, braces}
+use Rattle.php_shapes.specs.Places.{Callee, Operand, Target, is_prefix}
+use Rattle.php_shapes.specs.Shapes.{Fits, is_nothing, is_word, is_both, is_first, is_second}
+use Rattle.php_shapes.proofs.Sequences.{Entry, Gives, Meet, entries, flat, whole, one, second, is_one_node, none_behind}
 use Rattle.php_shapes.proofs.Standing.{Closed, closed, cond_form, cond_option, is_closed, is_operand, is_tight, or_else_form}
 use Rattle.php_shapes.proofs.Told.{first_as, first_none}
 use Rattle.php_shapes.proofs.Follows.{false_is}
@@ -151,8 +151,10 @@ yield_headed v c rest m =
       fits = go m.0 m.1 m.2 m.4 (subst (Fits v (maybe (place (Operand 20) ~ maybe (word t.DoubleArrow ~ place (Operand 20))))) (sym same) a.2.0);
       operand = refl;
       tight = λ limit. or_true (nat_le (level v (k.Yield, c)) limit) true refl;
-      shut = (λ e. false_is e,
-      λ e. ap is_to (sym (first_none a.1 rest a.3)) ∙ a.2.1 (ap is_one_node (sym same) ∙ behind_yield v t.Yield m.0 m.1 m.2 (ap is_value_alone (sym m.4) ∙ e)));
+      shut = (
+        λ e. false_is e,
+        λ e. ap is_to (sym (first_none a.1 rest a.3)) ∙ a.2.1 (ap is_one_node (sym same) ∙ behind_yield v t.Yield m.0 m.1 m.2 (ap is_value_alone (sym m.4) ∙ e)),
+      );
     }
   where
     go : (h i : Forest) → Fits v (word t.Yield) h → c ≡ h +++ i → Fits v (maybe (place (Operand 20) ~ maybe (word t.DoubleArrow ~ place (Operand 20)))) i → Fits v op.yield c

@@ -1,12 +1,12 @@
 -- How nodes of each sort go on and end.
-use Rattle.std.proofs.Common.{◌≡◌, ℕ, Bool, true, false, not, cond, ◌&&◌, ◌||◌, nat_le, List, [], ◌∷◌, ◌++◌, drop, Option, Some, None, refl, sym, ap, ◌∙◌, subst}
+use Rattle.std.proofs.Common.{◌≡◌, ℕ, Bool, true, false, not, cond, ◌&&◌, ◌||◌, List, [], ◌∷◌, ◌++◌, drop, Option, Some, None, refl, sym, ap, ◌∙◌, subst}
 use Rattle.std.specs.Prelude.{IfSome}
 use Rattle.php_tree.specs.declared.kind.NodeKind.{NodeKind}
 use Rattle.php_tree.specs.declared.kind.NodeKind.TheVariants as k
 use Rattle.php_tree.specs.declared.token.Token.{Token}
 use Rattle.php_tree.specs.declared.version.Version.{Version}
 use Rattle.php_tree.specs.declared.version.Version.TheVariants.{V74, V83}
-use Rattle.php_tree.specs.Tree.{Forest, Tree, none, leaf, node, ◌+++◌, leaves}
+use Rattle.php_tree.specs.Tree.{Forest, none, node, leaves}
 use Rattle.php_terminals.specs.declared.terminal.Terminal.{Terminal}
 use Rattle.php_terminals.specs.declared.terminal.Terminal.TheVariants as t
 use Rattle.php_terminals.specs.Ahead.{first_of, is_called}
@@ -16,7 +16,7 @@ use Rattle.php_forms.specs.declared.item.Item.{Item}
 use Rattle.php_forms.specs.declared.item.Item.TheVariants.{Word, Node}
 use Rattle.php_forms.specs.declared.item.Sort.{Sort}
 use Rattle.php_forms.specs.declared.item.Sort.TheVariants as s
-use Rattle.php_forms.specs.Forms.{or_else, refused, when}
+use Rattle.php_forms.specs.Forms.{or_else, refused}
 use Rattle.php_forms.specs.Grammar.{Form}
 use Rattle.php_grammar.specs.Bases.{is_callee, is_class_base, is_list, is_member_base, is_offset_base, is_target, is_variable}
 use Rattle.php_grammar.specs.Levels.{level}
@@ -28,16 +28,15 @@ use Rattle.php_shapes.specs.Postfixes as po
 use Rattle.php_shapes.specs.Quoted as qu
 use Rattle.php_shapes.specs.Forms.{form}
 use Rattle.php_shapes.specs.Nearest.{is_nearest}
-use Rattle.php_shapes.specs.Notation.{Rule, word, kind, place, inside, ◌~◌, ◌|||◌, maybe, expr, brackets, braces}
-use Rattle.php_shapes.specs.Places.{Callee, ClassBase, ClassName, Member, MemberBase, Statement, OffsetBase, Operand, Place, Target, TargetOrList, begins_with_class_name, is_class_name, is_expression, is_prefix, may_stand}
+use Rattle.php_shapes.specs.Notation.{Rule, word, kind, place, ◌~◌, ◌|||◌, maybe, expr, brackets, braces}
+use Rattle.php_shapes.specs.Places.{Callee, ClassName, Member, MemberBase, Statement, OffsetBase, Operand, Place, Target, TargetOrList, begins_with_class_name, is_class_name, is_expression, is_prefix, may_stand}
 use Rattle.php_shapes.specs.Shapes.{Fits, IsNode, is_node, is_kind, is_place, is_inside, is_both, is_first, is_second}
-use Rattle.php_shapes.proofs.Sequences as sq
-use Rattle.php_shapes.proofs.Sequences.{Gives, Meet, Meets, entries, flat, whole, sorted, entry_rule}
+use Rattle.php_shapes.proofs.Sequences.{Gives, Meet, Meets, entries, whole, sorted, entry_rule}
 use Rattle.php_shapes.proofs.Standing.{Closed, Made, Stands, closed, cond_form, cond_option, is_closed, is_operand, is_quiet, is_tight, or_else_form, quiet, quiet_fine, when_form}
 use Rattle.php_shapes.proofs.Follows.{false_is}
 use Rattle.php_shapes.proofs.Never.{no_such}
 use Rattle.php_shapes.proofs.Beginnings.{Headed, zero_tight}
-use Rattle.php_shapes.proofs.Operations.{Grown, GrowsOn, is_no_list, operator_grows}
+use Rattle.php_shapes.proofs.Operations.{GrowsOn, is_no_list, operator_grows}
 
 -- Each node that goes on with such a form stands at a place of the sort.
 pub record GoesOn (v : Version) (s : Sort) (j : NodeKind) (b : Forest) (ts : List Token) (fm : Form) : Type 0 where
@@ -205,9 +204,13 @@ first_true false c e = false_is e
 module _ (v : Version) (j : NodeKind) (b : Forest) (ts : List Token) (n : IsNode v j b) (w : is_class_name j && begins_with_class_name b ≡ true) where
   named : (k : NodeKind) (is : List Item) (a r : Rule) → is_quiet k ≡ true → is_class_name k ≡ true → Fits v a (node j b none) → ((c : Forest) → Fits v (a ~ r) c → Fits v (form v k) c) → Gives v (entries v is) r → GoesOn v s.ClassRef j b ts (k, is)
   named k is a r q d p into gives = record {
-    goes = λ f rest same m.
-        ((record { fits = into (node j b f) (is_both p (gives f rest m) refl); fine = quiet_fine k (node j b f) q },
-        ap (λ (y : Bool). y && (is_class_name j && begins_with_class_name b)) d ∙ w), quiet k (node j b f) rest q);
+    goes = λ f rest same m. (
+      (
+        record { fits = into (node j b f) (is_both p (gives f rest m) refl); fine = quiet_fine k (node j b f) q },
+        ap (λ (y : Bool). y && (is_class_name j && begins_with_class_name b)) d ∙ w,
+      ),
+      quiet k (node j b f) rest q,
+    );
   }
 
   is_class : is_class_name j ≡ true

@@ -1,5 +1,5 @@
 -- No token that a node could have taken stands behind it.
-use Rattle.std.proofs.Common.{◌≡◌, Bool, true, false, not, cond, ◌&&◌, ◌||◌, List, [], ◌∷◌, ◌++◌, refl, sym, ap, ◌∙◌, subst}
+use Rattle.std.proofs.Common.{◌≡◌, Bool, true, false, not, ◌&&◌, ◌||◌, List, ◌++◌, refl, sym, ap, ◌∙◌}
 use Rattle.php_tree.specs.declared.kind.NodeKind.{NodeKind}
 use Rattle.php_tree.specs.declared.token.Token.{Token}
 use Rattle.php_tree.specs.Tree.{Forest, none, leaf, node, ◌+++◌, leaves}
@@ -84,7 +84,7 @@ module _ (opens : NodeKind → Forest → Bool) (takes : Terminal → Bool) wher
   pub follows_append : (h f : Forest) (rest : List Token) → Follows h (leaves f ++ rest) → Follows f rest → Follows (h +++ f) rest
   follows_append h f rest p q =
       let part : (before : Bool) → Shut before (leaves (h +++ f) ++ rest) → Shut before (leaves h ++ (leaves f ++ rest)) =
-          λ before shut. λ e. ap (λ (ts : List Token). takes (first_of ts)) (sym (join h f rest)) ∙ shut e in
+      λ before shut. λ e. ap (λ (ts : List Token). takes (first_of ts)) (sym (join h f rest)) ∙ shut e in
       record {
         ends = λ before shut e. q.ends (ends_in before h) (p.ends before (part before shut)) (sym (ends_append h f before) ∙ e);
         near = λ before shut.

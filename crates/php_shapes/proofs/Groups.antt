@@ -1,10 +1,8 @@
 -- Groups of the tables that stand once: each choice of parts is one of the rule.
-use Rattle.std.proofs.Common.{◌≡◌, ℕ, Bool, true, false, cond, List, [], ◌∷◌, ◌++◌, length, refl, sym, ap, ◌∙◌, subst}
+use Rattle.std.proofs.Common.{[]}
 use Rattle.php_tree.specs.declared.kind.NodeKind.TheVariants as k
-use Rattle.php_tree.specs.declared.token.Token.{Token}
 use Rattle.php_tree.specs.declared.version.Version.{Version}
 use Rattle.php_tree.specs.declared.version.Version.TheVariants.{V74, V83}
-use Rattle.php_tree.specs.Tree.{Forest, none, leaf, node, ◌+++◌, leaves}
 use Rattle.php_terminals.specs.declared.terminal.Terminal.{Terminal}
 use Rattle.php_terminals.specs.declared.terminal.Terminal.TheVariants as t
 use Rattle.php_forms.specs.Atoms as fa
@@ -18,8 +16,8 @@ use Rattle.php_shapes.specs.Names as na
 use Rattle.php_shapes.specs.Namespaces as ns
 use Rattle.php_shapes.specs.Quoted as qu
 use Rattle.php_shapes.specs.Statements as st
-use Rattle.php_shapes.specs.Notation.{Rule, nothing, word, kind, place, inside, ◌~◌, ◌|||◌, many, maybe, expr, commas, commas_last, parens, brackets, braces}
-use Rattle.php_shapes.specs.Places.{Statement, TargetOrList}
+use Rattle.php_shapes.specs.Notation.{nothing, word, kind, place, ◌~◌, ◌|||◌, many, maybe, expr, commas, commas_last, parens, brackets, braces}
+use Rattle.php_shapes.specs.Places.{TargetOrList}
 use Rattle.php_shapes.proofs.Sequences.{Gives, entries, whole, absent, present, one, second, other, flat}
 
 -- ---- names

@@ -1,17 +1,16 @@
 -- No token is of the class that stands for none.
-use Rattle.std.proofs.Common.{◌≡◌, ℕ, Bool, true, false, not, cond, ◌&&◌, ◌||◌, nat_eq, nat_lt, List, [], ◌∷◌, length, refl, sym, ap, ◌∙◌, subst}
+use Rattle.std.proofs.Common.{◌≡◌, ℕ, Bool, true, false, not, cond, ◌&&◌, ◌||◌, nat_eq, nat_lt, List, [], ◌∷◌, length, refl}
 use Rattle.std.specs.Prelude.{codes, slice_index}
 use Rattle.std.specs.Char.{to_ascii_lowercase}
-use Rattle.php_tree.specs.declared.token.Token.{Token}
 use Rattle.php_tree.specs.declared.token.TokenKind.{TokenKind}
 use Rattle.php_tree.specs.declared.token.TokenKind.TheVariants as kind
 use Rattle.php_tree.specs.declared.version.Version.{Version}
-use Rattle.php_tree.specs.Tree.{Forest, none, leaf}
+use Rattle.php_tree.specs.Tree.{Forest}
 use Rattle.php_terminals.specs.declared.terminal.Terminal.{Terminal}
 use Rattle.php_terminals.specs.declared.terminal.Terminal.TheVariants as t
 use Rattle.php_terminals.specs.Classify.{opening, terminal, terminal_by}
 use Rattle.php_terminals.specs.Words.{find_row, front, is_word, keywords, labels, operators}
-use Rattle.php_grammar.specs.Accepts.{accepts, same_class}
+use Rattle.php_grammar.specs.Accepts.{same_class}
 use Rattle.php_shapes.specs.Notation.{word}
 use Rattle.php_shapes.specs.Shapes.{Fits, is_word as is_token}
 

@@ -1,12 +1,12 @@
 -- How nodes of each sort begin: each form of the tables is the form of its kind.
-use Rattle.std.proofs.Common.{◌≡◌, ℕ, Bool, true, false, not, cond, ◌&&◌, ◌||◌, List, [], ◌∷◌, ◌++◌, drop, Option, Some, None, refl, sym, ap, ◌∙◌, subst}
+use Rattle.std.proofs.Common.{◌≡◌, ℕ, Bool, true, false, not, ◌&&◌, ◌||◌, List, [], ◌∷◌, ◌++◌, drop, Option, Some, None, refl, sym, ap, ◌∙◌, subst}
 use Rattle.std.specs.Prelude.{IfSome}
 use Rattle.php_tree.specs.declared.kind.NodeKind.{NodeKind}
 use Rattle.php_tree.specs.declared.kind.NodeKind.TheVariants as k
 use Rattle.php_tree.specs.declared.token.Token.{Token}
 use Rattle.php_tree.specs.declared.version.Version.{Version}
 use Rattle.php_tree.specs.declared.version.Version.TheVariants.{V74, V83}
-use Rattle.php_tree.specs.Tree.{Forest, Tree, none, leaf, node, ◌+++◌, leaves}
+use Rattle.php_tree.specs.Tree.{Forest, none, leaf, node, ◌+++◌, leaves}
 use Rattle.php_terminals.specs.declared.terminal.Terminal.{Terminal}
 use Rattle.php_terminals.specs.declared.terminal.Terminal.TheVariants as t
 use Rattle.php_terminals.specs.Ahead.{first_of, past_group, second_of, third_of}
@@ -21,7 +21,7 @@ use Rattle.php_forms.specs.Grammar.{Form}
 use Rattle.php_forms.specs.Heads as fh
 use Rattle.php_forms.specs.Lists as fl
 use Rattle.php_forms.specs.Statements as fs
-use Rattle.php_grammar.specs.Accepts.{accepts, same_class}
+use Rattle.php_grammar.specs.Accepts.{same_class}
 use Rattle.php_grammar.specs.Operands as fo
 use Rattle.php_grammar.specs.Tables as ft
 use Rattle.php_shapes.specs.Atoms as at
@@ -29,19 +29,18 @@ use Rattle.php_shapes.specs.Declarations as de
 use Rattle.php_shapes.specs.Names as na
 use Rattle.php_shapes.specs.Namespaces as ns
 use Rattle.php_shapes.specs.Postfixes as po
-use Rattle.php_shapes.specs.Quoted as qu
 use Rattle.php_shapes.specs.Statements as st
 use Rattle.php_shapes.specs.Forms.{form}
-use Rattle.php_shapes.specs.Nearest.{goes_on_if, has_else, is_else, is_nearest, is_open_if}
-use Rattle.php_shapes.specs.Notation.{Rule, nothing, word, kind, place, inside, ◌~◌, ◌|||◌, many, maybe, expr, commas, commas_last, parens, brackets, braces}
-use Rattle.php_shapes.specs.Places.{Operand, Target, TargetOrList, begins_with_class_name, is_class_name, is_member, is_statement}
-use Rattle.php_shapes.specs.Shapes.{Fits, is_nothing, is_word, is_place, is_inside, is_both, is_first, is_second}
+use Rattle.php_shapes.specs.Nearest.{goes_on_if, has_else, is_else}
+use Rattle.php_shapes.specs.Notation.{Rule, word, place, ◌~◌, ◌|||◌, many, maybe, expr}
+use Rattle.php_shapes.specs.Places.{TargetOrList, begins_with_class_name, is_class_name, is_member, is_statement}
+use Rattle.php_shapes.specs.Shapes.{Fits, is_nothing, is_word, is_inside, is_both, is_first, is_second}
 use Rattle.php_shapes.proofs.Sequences as sq
 use Rattle.php_shapes.proofs.Sequences.{Entry, plain, Gives, Meet, Meets, entries, flat, whole, one, second, other, else_if_rule, else_rule, entry_rule, entry_to, is_backslash, is_else_if, is_none, none_behind, use_body_rule}
-use Rattle.php_shapes.proofs.Standing.{Closed, Good, Made, Stands, closed, cond_form, cond_option, is_closed, is_quiet, list_item_parts, made, or_else_form, quiet, quiet_fine}
+use Rattle.php_shapes.proofs.Standing.{Good, cond_form, cond_option, is_quiet, list_item_parts, made, or_else_form, quiet}
 use Rattle.php_shapes.proofs.Told.{first_as, first_join, first_none}
 use Rattle.php_shapes.proofs.Follows.{false_is}
-use Rattle.php_shapes.proofs.Beginnings.{Headed, Heads, by_name, by_static, dollar_gives, entry_heads, operand_heads, place_heads, prop_of, target_heads}
+use Rattle.php_shapes.proofs.Beginnings.{Heads, by_name, by_static, dollar_gives, entry_heads, operand_heads, place_heads, prop_of, target_heads}
 
 -- ---- nodes that need nothing of what follows
 
@@ -131,11 +130,16 @@ if_fine c = refl
 if_good : (v : Version) (is : List Item) → entries v is ≡ if_gap if_entries → Good v s.Statement (k.If, is)
 if_good v is same = record {
   good = λ c rest m.
-      let n : Meet v (if_gap if_entries) c rest = subst (λ (es : List Entry). Meet v es c rest) same m in
-      ((record {
-        fits = whole v st.if_else c rest (into_if v if_entries (plain (many else_if_rule) ∷ plain (maybe else_rule) ∷ []) (if_plain v) c rest n);
-        fine = if_fine c;
-      }, refl), (λ e. if_shuts v c rest n (not_false (has_else c) e), λ e. false_is e));
+      let n : Meet v (if_gap if_entries) c rest = subst (λ (es : List Entry). Meet v es c rest) same m in (
+        (
+          record {
+            fits = whole v st.if_else c rest (into_if v if_entries (plain (many else_if_rule) ∷ plain (maybe else_rule) ∷ []) (if_plain v) c rest n);
+            fine = if_fine c;
+          },
+          refl,
+        ),
+        (λ e. if_shuts v c rest n (not_false (has_else c) e), λ e. false_is e),
+      );
 }
 
 -- ---- uses
@@ -152,7 +156,7 @@ use_gives v f rest m =
     let a = m.3 in
     let b = a.3 in
     let guard : is_backslash (first_of (leaves a.1 ++ rest)) ≡ false =
-        ap (λ (y : Forest). is_backslash (first_of (leaves y ++ rest))) b.4 ∙ behind_use v b.0 b.1 rest b.2 in
+    ap (λ (y : Forest). is_backslash (first_of (leaves y ++ rest))) b.4 ∙ behind_use v b.0 b.1 rest b.2 in
     let fits : Fits v (use_body_rule v) a.0 = a.2 guard in
     whole v (ns.use_declaration v) f rest (m.0, m.1, m.2, (a.0, a.1, fits, b, a.4), m.4)
 

@@ -1,19 +1,18 @@
 -- Operators behind an operand: each form of the tables is that of its kind, where the operand's edge is tight enough.
-use Rattle.std.proofs.Common.{◌≡◌, ℕ, ◌≤◌, ◌<◌, Bool, true, false, not, cond, ◌&&◌, ◌||◌, nat_le, nat_lt, List, [], ◌∷◌, ◌++◌, Option, Some, None, refl, sym, ap, ◌∙◌, subst, arith}
+use Rattle.std.proofs.Common.{◌≡◌, ℕ, ◌≤◌, Bool, true, false, cond, ◌&&◌, ◌||◌, nat_le, nat_lt, List, ◌++◌, refl, sym, ap, ◌∙◌, subst, arith}
 use Rattle.std.specs.Prelude.{IfSome}
-use Rattle.std.proofs.lemmas.Bool.{le-leb, leb-true}
+use Rattle.std.proofs.lemmas.Bool.{leb-true}
 use Rattle.php_tree.specs.declared.kind.NodeKind.{NodeKind}
 use Rattle.php_tree.specs.declared.kind.NodeKind.TheVariants as k
 use Rattle.php_tree.specs.declared.token.Token.{Token}
 use Rattle.php_tree.specs.declared.version.Version.{Version}
 use Rattle.php_tree.specs.declared.version.Version.TheVariants.{V74, V83}
-use Rattle.php_tree.specs.Tree.{Forest, Tree, none, leaf, node, ◌+++◌, leaves}
+use Rattle.php_tree.specs.Tree.{Forest, none, node, ◌+++◌, leaves}
 use Rattle.php_terminals.specs.declared.terminal.Terminal.{Terminal}
 use Rattle.php_terminals.specs.declared.terminal.Terminal.TheVariants as t
 use Rattle.php_terminals.specs.Ahead.{first_of, second_of}
 use Rattle.php_terminals.specs.Classify.{terminal}
 use Rattle.php_forms.specs.declared.item.Item.{Item}
-use Rattle.php_forms.specs.Forms.{or_else, when}
 use Rattle.php_forms.specs.Grammar.{Form}
 use Rattle.php_grammar.specs.Accepts.{accepts, same_class}
 use Rattle.php_grammar.specs.Bases.{is_list, is_short_ternary, is_target}
@@ -26,7 +25,7 @@ use Rattle.php_shapes.specs.Forms.{form}
 use Rattle.php_shapes.specs.Notation.{Rule, word, place, ◌~◌, ◌|||◌, expr}
 use Rattle.php_shapes.specs.Places.{ClassName, Left, LeftShort, Operand, Place, Target, TargetOrList, is_expression, is_prefix, may_stand}
 use Rattle.php_shapes.specs.Shapes.{Fits, IsNode, is_word, is_place, is_both, is_first, is_second}
-use Rattle.php_shapes.proofs.Sequences.{Gives, Meet, entries, flat, whole}
+use Rattle.php_shapes.proofs.Sequences.{Gives, Meet, entries, whole}
 use Rattle.php_shapes.proofs.Standing.{Closed, closed, is_closed, is_operand, is_tight, or_else_form, when_form}
 use Rattle.php_shapes.proofs.Follows.{false_is}
 use Rattle.php_shapes.proofs.Beginnings.{or_true, zero_tight}

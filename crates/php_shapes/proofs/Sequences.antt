@@ -1,6 +1,5 @@
 -- Items of the tables as rules one after another, and what is known of the tokens that follow each.
-use Rattle.std.proofs.Common.{◌≡◌, ℕ, Bool, true, false, cond, List, [], ◌∷◌, ◌++◌, length, refl, sym, ap, ◌∙◌, subst}
-use Rattle.php_tree.specs.declared.kind.NodeKind.{NodeKind}
+use Rattle.std.proofs.Common.{◌≡◌, Bool, true, false, List, [], ◌∷◌, ◌++◌, length, refl, sym, ap, ◌∙◌, subst}
 use Rattle.php_tree.specs.declared.kind.NodeKind.TheVariants as k
 use Rattle.php_tree.specs.declared.token.Token.{Token}
 use Rattle.php_tree.specs.declared.version.Version.{Version}
@@ -26,8 +25,8 @@ use Rattle.php_shapes.specs.Quoted as qu
 use Rattle.php_shapes.specs.Statements as st
 use Rattle.php_shapes.specs.Nearest.{has_else, is_else, is_to}
 use Rattle.php_shapes.specs.Notation.{Rule, nothing, word, kind, place, inside, ◌~◌, ◌|||◌, many, tokens, maybe, expr, commas, commas_last, parens, brackets, braces}
-use Rattle.php_shapes.specs.Places.{Place, Statement, Member, Operand, Target, TargetOrList, ClassName}
-use Rattle.php_shapes.specs.Shapes.{Fits, is_nothing, is_word, is_kind, is_place, is_inside, is_both, is_first, is_second, no_more, once_more, is_tokens}
+use Rattle.php_shapes.specs.Places.{Member, Operand, Target, TargetOrList, ClassName}
+use Rattle.php_shapes.specs.Shapes.{Fits, is_nothing, is_both, is_first, is_second}
 
 -- What an item stands for: a rule, or a rule that depends on the tokens that follow.
 pub data Entry : Type 0 where

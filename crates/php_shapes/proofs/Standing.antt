@@ -1,12 +1,11 @@
 -- What is known of nodes as they grow, by the sort of their place.
-use Rattle.std.proofs.Common.{◌≡◌, ℕ, Bool, true, false, not, cond, ◌&&◌, ◌||◌, nat_le, List, [], ◌∷◌, ◌++◌, Option, Some, None, refl, sym, ap, ◌∙◌, subst}
+use Rattle.std.proofs.Common.{◌≡◌, ℕ, Bool, true, false, cond, ◌&&◌, ◌||◌, nat_le, List, Option, Some, None, refl, sym, ◌∙◌}
 use Rattle.std.specs.Prelude.{IfSome}
 use Rattle.php_tree.specs.declared.kind.NodeKind.{NodeKind}
 use Rattle.php_tree.specs.declared.kind.NodeKind.TheVariants as k
 use Rattle.php_tree.specs.declared.token.Token.{Token}
 use Rattle.php_tree.specs.declared.version.Version.{Version}
-use Rattle.php_tree.specs.Tree.{Forest, Tree, none, leaf, node, ◌+++◌, leaves}
-use Rattle.php_terminals.specs.declared.terminal.Terminal.{Terminal}
+use Rattle.php_tree.specs.Tree.{Forest, none, node}
 use Rattle.php_terminals.specs.declared.terminal.Terminal.TheVariants as t
 use Rattle.php_terminals.specs.Ahead.{first_of}
 use Rattle.php_terminals.specs.Indents.{is_misindented}
@@ -21,7 +20,7 @@ use Rattle.php_shapes.specs.Atoms as at
 use Rattle.php_shapes.specs.Quoted as qu
 use Rattle.php_shapes.specs.Forms.{form}
 use Rattle.php_shapes.specs.Nearest.{goes_on_if, is_nearest, is_open_if, is_open_yield, is_to}
-use Rattle.php_shapes.specs.Notation.{Rule, word, place, inside, ◌~◌, ◌|||◌, expr}
+use Rattle.php_shapes.specs.Notation.{Rule, word, place, ◌~◌, ◌|||◌, expr}
 use Rattle.php_shapes.specs.Places.{TargetOrList, begins_with_class_name, is_class_name, is_expression, is_member, is_prefix, is_statement}
 use Rattle.php_shapes.specs.Shapes.{Fits}
 use Rattle.php_shapes.proofs.Sequences.{Gives, Meet, entries}

@@ -1,5 +1,5 @@
 -- Groups of the tables whose choice shows what follows them.
-use Rattle.std.proofs.Common.{◌≡◌, ℕ, suc, ◌+◌, ◌-◌, ◌<◌, Bool, true, false, not, cond, ◌&&◌, ◌||◌, nat_eq, List, [], ◌∷◌, ◌++◌, length, drop, Option, Some, None, refl, sym, ap, ◌∙◌, subst, append_assoc, arith}
+use Rattle.std.proofs.Common.{◌≡◌, ℕ, suc, ◌+◌, ◌-◌, Bool, true, false, not, cond, ◌&&◌, ◌||◌, nat_eq, List, [], ◌∷◌, ◌++◌, length, Option, Some, None, refl, sym, ap, ◌∙◌, subst, append_assoc, arith}
 use Rattle.php_tree.specs.declared.kind.NodeKind.{NodeKind}
 use Rattle.php_tree.specs.declared.kind.NodeKind.TheVariants as k
 use Rattle.php_tree.specs.declared.token.Token.{Token}
@@ -11,28 +11,25 @@ use Rattle.php_terminals.specs.declared.terminal.Terminal.TheVariants as t
 use Rattle.php_terminals.specs.Ahead.{behind_name, first_of, second_of, spanned}
 use Rattle.php_terminals.specs.Classify.{terminal}
 use Rattle.php_terminals.specs.Marks.{closes_brace, is_double_colon, is_name_part, opens_brace}
-use Rattle.php_grammar.specs.Accepts.{accepts, same_class}
+use Rattle.php_grammar.specs.Accepts.{same_class}
 use Rattle.php_grammar.specs.Operands as fo
 use Rattle.php_forms.specs.declared.item.Item.{Item}
 use Rattle.php_forms.specs.Grammar.{Form, IsFlat}
-use Rattle.php_exprs.proofs.Forests.{forest_assoc, leaves_append}
+use Rattle.php_exprs.proofs.Forests.{leaves_append}
 use Rattle.php_forms.specs.Atoms as fa
 use Rattle.php_forms.specs.Declarations as fd
 use Rattle.php_forms.specs.Heads as fh
-use Rattle.php_forms.specs.Lists as fl
 use Rattle.php_forms.specs.Statements as fs
 use Rattle.php_shapes.specs.Atoms as at
 use Rattle.php_shapes.specs.Declarations as de
 use Rattle.php_shapes.specs.Names as na
-use Rattle.php_shapes.specs.Namespaces as ns
 use Rattle.php_shapes.specs.Postfixes as po
 use Rattle.php_shapes.specs.Nearest.{has_else, is_else, is_to}
-use Rattle.php_shapes.specs.Notation.{Rule, nothing, word, kind, place, inside, ◌~◌, ◌|||◌, many, tokens, maybe, expr, commas, commas_last, parens, brackets, braces}
-use Rattle.php_shapes.specs.Places.{Operand, ClassName, TargetOrList}
-use Rattle.php_shapes.specs.Shapes.{Fits, is_nothing, is_word, is_kind, is_place, is_inside, is_both, is_first, is_second, no_more, once_more, is_tokens, is_node, is_balanced}
+use Rattle.php_shapes.specs.Notation.{Rule, nothing, word, kind, place, inside, ◌~◌, ◌|||◌, tokens, maybe, braces}
+use Rattle.php_shapes.specs.Places.{Operand, ClassName}
+use Rattle.php_shapes.specs.Shapes.{Fits, is_nothing, is_word, is_kind, is_place, is_inside, is_both, is_first, is_second, is_tokens, is_node, is_balanced}
 use Rattle.php_shapes.proofs.Sequences as sq
 use Rattle.php_shapes.proofs.Sequences.{Entry, plain, Gives, Meet, Meets, entries, flat, pack, unpack, whole, absent, present, one, second, other, none_behind, alias_rule, else_rule, entry_to, is_backslash, is_none, is_one_node, more_classes, to_rule, use_body_rule, use_rest_rule, used_grouped_rule, used_rule}
-use Rattle.php_shapes.proofs.Turns.{second_is}
 
 -- ---- sequences
 
@@ -238,6 +235,7 @@ yield_value_once v None f rest m = (absent v (place (Operand 20) ~ maybe to_rule
     not_one e = absurd cc
 yield_value_once v (Some form) f rest m =
     let a = m.3 in
-    let same : m.1 ≡ a.0 = a.4 ∙ ap (λ (y : Forest). a.0 +++ y) a.3 ∙ none_behind a.0 in
-    (is_second (is_both m.2 a.2.0 (m.4 ∙ ap (λ (y : Forest). m.0 +++ y) same)),
-    λ d. ap is_to (sym (first_none a.1 rest a.3)) ∙ a.2.1 (ap is_none (sym same) ∙ one_then_none v m.0 m.1 m.2 (ap is_one_node (sym m.4) ∙ d)))
+    let same : m.1 ≡ a.0 = a.4 ∙ ap (λ (y : Forest). a.0 +++ y) a.3 ∙ none_behind a.0 in (
+      is_second (is_both m.2 a.2.0 (m.4 ∙ ap (λ (y : Forest). m.0 +++ y) same)),
+      λ d. ap is_to (sym (first_none a.1 rest a.3)) ∙ a.2.1 (ap is_none (sym same) ∙ one_then_none v m.0 m.1 m.2 (ap is_one_node (sym m.4) ∙ d)),
+    )

@@ -1,9 +1,9 @@
 -- Groups of the tables that stand any number of times: a turn that has a token is what the rule says.
-use Rattle.std.proofs.Common.{◌≡◌, ℕ, ◌<◌, Bool, true, false, cond, List, [], ◌∷◌, ◌++◌, length, refl, sym, ap, ◌∙◌, subst, arith}
+use Rattle.std.proofs.Common.{◌≡◌, ◌<◌, true, List, [], ◌++◌, length, refl, sym, ap, ◌∙◌, subst, arith}
 use Rattle.php_tree.specs.declared.kind.NodeKind.TheVariants as k
 use Rattle.php_tree.specs.declared.token.Token.{Token}
 use Rattle.php_tree.specs.declared.version.Version.{Version}
-use Rattle.php_tree.specs.Tree.{Forest, none, leaf, node, ◌+++◌, leaves}
+use Rattle.php_tree.specs.Tree.{Forest, none, leaf, ◌+++◌, leaves}
 use Rattle.php_terminals.specs.declared.terminal.Terminal.{Terminal}
 use Rattle.php_terminals.specs.declared.terminal.Terminal.TheVariants as t
 use Rattle.php_terminals.specs.Ahead.{first_of, second_of}
@@ -23,10 +23,10 @@ use Rattle.php_shapes.specs.Names as na
 use Rattle.php_shapes.specs.Namespaces as ns
 use Rattle.php_shapes.specs.Quoted as qu
 use Rattle.php_shapes.specs.Statements as st
-use Rattle.php_shapes.specs.Notation.{Rule, nothing, word, kind, place, inside, ◌~◌, ◌|||◌, many, maybe, expr, commas, commas_last, parens, brackets, braces}
+use Rattle.php_shapes.specs.Notation.{Rule, word, kind, place, ◌~◌, ◌|||◌, many, maybe, expr, brackets}
 use Rattle.php_shapes.specs.Places.{Member}
 use Rattle.php_shapes.specs.Shapes.{Fits, is_nothing, is_word, is_both, is_first, is_second, no_more, once_more}
-use Rattle.php_shapes.proofs.Sequences.{Entry, Gives, Meet, Meets, entries, flat, whole, one, second, other, else_if_rule, more_last, none_behind}
+use Rattle.php_shapes.proofs.Sequences.{Entry, Gives, Meet, entries, flat, whole, one, second, other, else_if_rule, more_last, none_behind}
 
 -- Parts of these entries with a token are what the rule says.
 abbrev pub Turn : Version → List Entry → Rule → Type 0

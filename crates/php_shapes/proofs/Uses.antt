@@ -1,21 +1,21 @@
 -- Uses, and items of list forms: groups of the tables that belong together.
-use Rattle.std.proofs.Common.{◌≡◌, ℕ, ◌<◌, Bool, true, false, not, cond, ◌&&◌, ◌||◌, List, [], ◌∷◌, ◌++◌, length, refl, sym, ap, ◌∙◌, subst, arith}
+use Rattle.std.proofs.Common.{◌≡◌, ◌<◌, Bool, true, false, List, [], ◌∷◌, ◌++◌, length, refl, sym, ap, ◌∙◌, subst, arith}
 use Rattle.php_tree.specs.declared.token.Token.{Token}
 use Rattle.php_tree.specs.declared.version.Version.{Version}
 use Rattle.php_tree.specs.declared.version.Version.TheVariants.{V74, V83}
-use Rattle.php_tree.specs.Tree.{Forest, none, leaf, node, ◌+++◌, leaves}
+use Rattle.php_tree.specs.Tree.{Forest, none, ◌+++◌, leaves}
 use Rattle.php_terminals.specs.declared.terminal.Terminal.{Terminal}
 use Rattle.php_terminals.specs.declared.terminal.Terminal.TheVariants as t
 use Rattle.php_terminals.specs.Ahead.{first_of, second_of}
 use Rattle.php_terminals.specs.Classify.{terminal}
-use Rattle.php_grammar.specs.Accepts.{accepts, same_class}
+use Rattle.php_grammar.specs.Accepts.{same_class}
 use Rattle.php_exprs.proofs.Forests.{forest_assoc}
 use Rattle.php_forms.specs.Declarations as fd
 use Rattle.php_forms.specs.Lists as fl
 use Rattle.php_shapes.specs.Atoms as at
 use Rattle.php_shapes.specs.Names as na
 use Rattle.php_shapes.specs.Namespaces as ns
-use Rattle.php_shapes.specs.Notation.{Rule, nothing, word, place, ◌~◌, ◌|||◌, many, maybe, commas, commas_last, braces}
+use Rattle.php_shapes.specs.Notation.{Rule, nothing, word, place, ◌~◌, ◌|||◌, many, commas, commas_last, braces}
 use Rattle.php_shapes.specs.Places.{TargetOrList}
 use Rattle.php_shapes.specs.Shapes.{Fits, is_nothing, is_word, is_both, is_first, is_second, no_more, once_more}
 use Rattle.php_shapes.proofs.Sequences as sq
@@ -131,7 +131,7 @@ more_class_uses_turn v t.Comma h f rest m has ih guard =
     let same : a.1 ≡ b.0 = b.4 ∙ ap (λ (y : Forest). b.0 +++ y) b.3 ∙ none_behind b.0 in
     let alias : Fits v (alias_rule x) b.0 = subst (λ (y : Terminal). Fits v (alias_rule y) b.0) (sym (first_join a.1 b.0 b.1 after b.4)) b.2 in
     let last : is_backslash x ≡ true → ⊥ = λ e.
-        both (is_backslash x) e (ap is_backslash (first_none a.1 after (same ∙ alias_none v x b.0 e alias)) ∙ more_no_backslash v f rest fits guard) in
+    both (is_backslash x) e (ap is_backslash (first_none a.1 after (same ∙ alias_none v x b.0 e alias)) ∙ more_no_backslash v f rest fits guard) in
     let class : Fits v (ns.imported_as_class v) (a.0 +++ b.0) = class_by v x a.0 b.0 a.2 alias last in
     once_more (is_both m.2 class (m.4 ∙ ap (λ (y : Forest). m.0 +++ y) (a.4 ∙ ap (λ (y : Forest). a.0 +++ y) same))) fits refl
 more_class_uses_turn v _ h f rest m has ih guard = absurd (omega (arith, subst (λ (y : Forest). 0 < length (leaves y)) m has))
@@ -176,7 +176,7 @@ use_body_once v _ f rest m guard =
     let a = m.3 in
     let same : m.1 ≡ a.0 = a.4 ∙ ap (λ (y : Forest). a.0 +++ y) a.3 ∙ none_behind a.0 in
     let uses : Fits v (use_rest_rule v (first_of (leaves m.1 ++ rest))) a.0 =
-        subst (λ (y : Terminal). Fits v (use_rest_rule v y) a.0) (sym (first_join m.1 a.0 a.1 rest a.4)) (a.2 (ap is_backslash (first_none a.1 rest a.3) ∙ guard)) in
+    subst (λ (y : Terminal). Fits v (use_rest_rule v y) a.0) (sym (first_join m.1 a.0 a.1 rest a.4)) (a.2 (ap is_backslash (first_none a.1 rest a.3) ∙ guard)) in
     is_second (subst (Fits v (commas (ns.imported_as_class v) ||| ns.in_group v (ns.grouped_as_class v))) (sym (m.4 ∙ ap (λ (y : Forest). m.0 +++ y) same))
     (classes_by v (first_of (leaves m.1 ++ rest)) m.0 a.0 m.2 uses))
 

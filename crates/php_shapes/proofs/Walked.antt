@@ -1,5 +1,5 @@
 -- What is read has the shape.
-use Rattle.std.proofs.Common.{◌≡◌, ℕ, ◌<◌, true, false, List, [], ◌∷◌, ◌++◌, length, Option, Some, None, refl, sym, ap, ◌∙◌, subst}
+use Rattle.std.proofs.Common.{◌≡◌, ℕ, ◌<◌, true, List, [], ◌∷◌, ◌++◌, length, Option, Some, None, refl, sym, ap, ◌∙◌, subst}
 use Rattle.std.specs.Prelude.{IfSome}
 use Rattle.php_tree.specs.declared.kind.NodeKind.{NodeKind}
 use Rattle.php_tree.specs.declared.token.Token.{Token}
@@ -8,7 +8,6 @@ use Rattle.php_tree.specs.Tree.{File, Forest, Tree, none, leaf, node, ◌+++◌,
 use Rattle.php_terminals.specs.declared.terminal.Terminal.{Terminal}
 use Rattle.php_terminals.specs.Ahead.{spanned}
 use Rattle.php_forms.specs.declared.item.Group.{Group}
-use Rattle.php_forms.specs.declared.item.Group.TheVariants.{Statements}
 use Rattle.php_forms.specs.declared.item.Item.{Item}
 use Rattle.php_forms.specs.declared.item.Item.TheVariants.{Word, Node, Part, Turns, Span}
 use Rattle.php_forms.specs.declared.item.Sort.{Sort}
@@ -16,7 +15,6 @@ use Rattle.php_forms.specs.declared.item.Sort.TheVariants.{Operand}
 use Rattle.php_forms.specs.Grammar.{Form, Grows, IsFlat, Walks, child, ends, head, onward, part, span, stop, turn, word}
 use Rattle.php_grammar.specs.Tables.{form, parts, php, tail}
 use Rattle.php_exprs.specs.Expr as ex
-use Rattle.php_exprs.specs.Reading.{Reads}
 use Rattle.php_exprs.proofs.Forests.{forest_assoc}
 use Rattle.php_parser.specs.Files.{ReadsFile}
 use Rattle.php_shapes.specs.Notation as no
@@ -83,7 +81,7 @@ module _ (v : Version) where
       let b = pack_entry v (turns v g) (entries v is) f rest r in
       let same : leaves f ++ rest ≡ leaves b.0 ++ (leaves b.1 ++ rest) = ap (λ (y : Forest). leaves y ++ rest) b.4 ∙ join b.0 b.1 rest in
       let here : Meet v (entries v (parts v g (leaves h ++ (leaves b.0 ++ (leaves b.1 ++ rest))))) h (leaves b.0 ++ (leaves b.1 ++ rest)) =
-          subst (λ (ts : List Token). Meet v (entries v (parts v g (leaves h ++ ts))) h ts) same m in
+      subst (λ (ts : List Token). Meet v (entries v (parts v g (leaves h ++ ts))) h ts) same m in
       subst (λ (y : Forest). Meet v (entries v (Turns g ∷ is)) y rest)
       (forest_assoc h b.0 b.1 ∙ ap (λ (y : Forest). h +++ y) (sym b.4))
       (unpack_entry v (turns v g) (entries v is) (h +++ b.0) b.1 rest (turn_meets v g h b.0 (leaves b.1 ++ rest) here has b.2) b.3)

@@ -6,7 +6,6 @@ use Rattle.php_shapes.specs.Places.{Place, Operand}
 
 infixr 20 ◌~◌
 infixr 10 ◌|||◌
-
 -- what parts may be
 pub data Rule : Type 0 where
   -- no part
