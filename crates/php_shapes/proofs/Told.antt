@@ -10,7 +10,7 @@ use Rattle.php_terminals.specs.declared.terminal.Terminal.{Terminal}
 use Rattle.php_terminals.specs.declared.terminal.Terminal.TheVariants as t
 use Rattle.php_terminals.specs.Ahead.{behind_name, first_of, second_of, spanned}
 use Rattle.php_terminals.specs.Classify.{terminal}
-use Rattle.php_terminals.specs.Marks.{closes_brace, is_double_colon, is_name_part, opens_brace}
+use Rattle.php_terminals.specs.Marks.{closes, is_double_colon, is_name_part, opens}
 use Rattle.php_grammar.specs.Accepts.{same_class}
 use Rattle.php_grammar.specs.Operands as fo
 use Rattle.php_forms.specs.declared.item.Item.{Item}
@@ -62,13 +62,16 @@ first_join f h i rest e = ap (λ (y : Forest). first_of (leaves y ++ rest)) e �
 
 -- ---- the braces of a use of traits
 
-brace_opens_none : (own : Terminal) → same_class t.CloseBrace own ≡ true → opens_brace own ≡ false
+brace_opens_none : (own : Terminal) → same_class t.CloseBrace own ≡ true → opens own ≡ false
+brace_opens_none t.OpenParen e = absurd cc
+brace_opens_none t.OpenBracket e = absurd cc
 brace_opens_none t.OpenBrace e = absurd cc
 brace_opens_none t.CurlyOpen e = absurd cc
 brace_opens_none t.DollarBrace e = absurd cc
+brace_opens_none t.AttributeOpen e = absurd cc
 brace_opens_none _ e = refl
 
-brace_closes : (own : Terminal) → same_class t.CloseBrace own ≡ true → closes_brace own ≡ true
+brace_closes : (own : Terminal) → same_class t.CloseBrace own ≡ true → closes own ≡ true
 brace_closes t.CloseBrace e = refl
 brace_closes _ e = absurd cc
 
@@ -76,17 +79,17 @@ at_end : (b : Bool) (m : ℕ) → cond b 0 (suc m) ≡ 0 → b ≡ true
 at_end true m e = refl
 at_end false m e = absurd (omega (arith, e))
 
-closed_here : (n : ℕ) (y : Token) (zs : List Token) → opens_brace (terminal y) ≡ false → closes_brace (terminal y) ≡ true → spanned n (y ∷ zs) ≡ 0 → nat_eq n 0 ≡ true
+closed_here : (n : ℕ) (y : Token) (zs : List Token) → opens (terminal y) ≡ false → closes (terminal y) ≡ true → spanned n (y ∷ zs) ≡ 0 → nat_eq n 0 ≡ true
 closed_here n y zs p q e =
     at_end (nat_eq n 0) (spanned (n - 1) zs)
     (sym (rw (p, q) refl) ∙ e)
 
-module _ (y : Token) (zs : List Token) (p : opens_brace (terminal y) ≡ false) (q : closes_brace (terminal y) ≡ true) where
+module _ (y : Token) (zs : List Token) (p : opens (terminal y) ≡ false) (q : closes (terminal y) ≡ true) where
   span_balanced : (h : Forest) (n : ℕ) → IsFlat h → spanned n (leaves h ++ (y ∷ zs)) ≡ length (leaves h) → is_balanced n h ≡ true
   span_balanced none n flat e = closed_here n y zs p q e
   span_balanced (node j b h) n flat e = absurd flat
   span_balanced (leaf x h) n flat e =
-      go (opens_brace (terminal x)) (closes_brace (terminal x)) (nat_eq n 0) e
+      go (opens (terminal x)) (closes (terminal x)) (nat_eq n 0) e
       (λ d. span_balanced h (n + 1) flat d) (λ d. span_balanced h (n - 1) flat d) (λ d. span_balanced h n flat d)
     where
       more : List Token

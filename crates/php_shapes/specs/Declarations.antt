@@ -63,6 +63,6 @@ method =
     many (word t.Modifier) ~ word t.Function ~ by_ref ~ word t.AnyWord ~ params ~ return_type
     ~ (kind k.Block ||| word t.Semi)
 
--- a use of traits, with any tokens between its braces
+-- a use of traits, with any tokens between its braces, each bracket with one that closes it
 abbrev pub trait_use : Version → Rule
 trait_use v = word t.Use ~ names v ~ (word t.Semi ||| braces tokens)

@@ -24,7 +24,7 @@ pub data Rule : Type 0 where
   ◌|||◌ : Rule → Rule → Rule
   -- a rule any number of times
   many : Rule → Rule
-  -- any tokens, with braces in pairs
+  -- any tokens, each bracket with one that closes it
   tokens : Rule
 
 -- a rule, or nothing

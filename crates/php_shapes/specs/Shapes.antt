@@ -8,7 +8,7 @@ use Rattle.php_terminals.specs.declared.terminal.Terminal.{Terminal}
 use Rattle.php_grammar.specs.Accepts.{accepts}
 use Rattle.php_terminals.specs.Classify.{terminal}
 use Rattle.php_terminals.specs.Indents.{is_misindented}
-use Rattle.php_terminals.specs.Marks.{closes_brace, opens_brace}
+use Rattle.php_terminals.specs.Marks.{closes, opens}
 use Rattle.php_parser.specs.Ends.{is_end}
 use Rattle.php_shapes.specs.Forms.{form}
 use Rattle.php_shapes.specs.Nearest.{is_nearest}
@@ -16,12 +16,12 @@ use Rattle.php_shapes.specs.Notation.{Rule, nothing, word, kind, place, inside, 
 use Rattle.php_shapes.specs.Places.{Place, Operand, may_stand}
 use Rattle.php_shapes.specs.Statements.{statements}
 
--- Whether parts are tokens alone, with braces in pairs, where so many braces are open.
+-- Whether parts are tokens alone, each bracket with one that closes it, where so many brackets are open.
 abbrev pub is_balanced : ℕ → Forest → Bool
 is_balanced n none = nat_eq n 0
 is_balanced n (leaf x f) =
-    cond (opens_brace (terminal x)) (is_balanced (n + 1) f)
-    (cond (closes_brace (terminal x)) (not (nat_eq n 0) && is_balanced (n - 1) f) (is_balanced n f))
+    cond (opens (terminal x)) (is_balanced (n + 1) f)
+    (cond (closes (terminal x)) (not (nat_eq n 0) && is_balanced (n - 1) f) (is_balanced n f))
 is_balanced n (node j b f) = false
 
 -- Fits v r f: the parts are what the rule says.
@@ -48,7 +48,7 @@ mutual
     no_more : {r : Rule} → Fits v (many r) none
     -- a rule once more
     once_more : {r : Rule} {f g h : Forest} → Fits v r g → Fits v (many r) h → f ≡ g +++ h → Fits v (many r) f
-    -- tokens with braces in pairs
+    -- tokens, each bracket with one that closes it
     is_tokens : {f : Forest} → is_balanced 0 f ≡ true → Fits v tokens f
 
   pub data IsNode (v : Version) : NodeKind → Forest → Type 0 where
