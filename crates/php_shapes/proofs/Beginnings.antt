@@ -1,183 +1,35 @@
 -- How expressions begin: each form of the tables is the form of its kind.
-use Rattle.std.proofs.Common.{◌≡◌, ℕ, Bool, true, false, not, cond, ◌||◌, nat_le, List, [], ◌∷◌, drop, Some, None, refl, sym, ap, ◌∙◌, subst, arith}
+use Rattle.std.proofs.Common.{Bool, true, false, not, cond, List, [], drop, Some, None, refl}
 use Rattle.std.specs.Prelude.{IfSome}
-use Rattle.std.proofs.lemmas.Bool.{le-leb}
-use Rattle.php_tree.specs.declared.kind.NodeKind.{NodeKind}
 use Rattle.php_tree.specs.declared.kind.NodeKind.TheVariants as k
 use Rattle.php_tree.specs.declared.token.Token.{Token}
 use Rattle.php_tree.specs.declared.version.Version.{Version}
 use Rattle.php_tree.specs.declared.version.Version.TheVariants.{V74, V83}
-use Rattle.php_tree.specs.Tree.{Forest, none, leaf, node, ◌+++◌}
+use Rattle.php_tree.specs.Tree.{Forest}
 use Rattle.php_terminals.specs.declared.terminal.Terminal.{Terminal}
 use Rattle.php_terminals.specs.declared.terminal.Terminal.TheVariants as t
 use Rattle.php_terminals.specs.Ahead.{behind_name, first_of, is_called, past_group, second_of}
-use Rattle.php_terminals.specs.Classify.{terminal}
 use Rattle.php_terminals.specs.Marks.{begins_place, ends_item, goes_on, is_assign, is_name_part, is_variable_start}
-use Rattle.php_forms.specs.declared.item.Item.{Item}
-use Rattle.php_forms.specs.declared.item.Item.TheVariants.{Word, Node, Part}
-use Rattle.php_forms.specs.declared.item.Sort.TheVariants as s
-use Rattle.php_forms.specs.declared.item.Group.TheVariants as g
 use Rattle.php_forms.specs.Forms.{or_else}
-use Rattle.php_forms.specs.Grammar.{Form}
 use Rattle.php_forms.specs.Atoms as fa
-use Rattle.php_grammar.specs.Accepts.{same_class}
-use Rattle.php_grammar.specs.Levels.{level}
 use Rattle.php_grammar.specs.Operands as fo
 use Rattle.php_shapes.specs.Atoms as at
 use Rattle.php_shapes.specs.Names as na
 use Rattle.php_shapes.specs.Operators as op
 use Rattle.php_shapes.specs.Postfixes as po
 use Rattle.php_shapes.specs.Quoted as qu
-use Rattle.php_shapes.specs.Forms.{form}
-use Rattle.php_shapes.specs.Nearest.{is_to, is_value_alone, is_yield}
 use Rattle.php_shapes.specs.Notation.{Rule, word, kind, place, ◌~◌, ◌|||◌, maybe, expr, commas, parens, brackets, braces}
-use Rattle.php_shapes.specs.Places.{Callee, Operand, Target, is_prefix}
-use Rattle.php_shapes.specs.Shapes.{Fits, is_nothing, is_word, is_both, is_first, is_second}
-use Rattle.php_shapes.proofs.Sequences.{Entry, Gives, Meet, entries, flat, whole, one, second, is_one_node, none_behind}
-use Rattle.php_shapes.proofs.Standing.{Closed, closed, cond_form, cond_option, is_closed, is_operand, is_tight, or_else_form}
-use Rattle.php_shapes.proofs.Told.{first_as, first_none}
-use Rattle.php_shapes.proofs.Follows.{false_is}
-
--- The head of an expression: it may stand behind any operator.
-pub record Headed (v : Version) (k : NodeKind) (c : Forest) (rest : List Token) : Type 0 where
-  pub fits : Fits v (form v k) c
-  pub operand : is_operand k ≡ true
-  pub tight : (limit : ℕ) → is_tight v limit k c ≡ true
-  pub shut : Closed k c rest
-
--- Each node with such a form is the head of an expression.
-pub record Heads (v : Version) (fm : Form) : Type 0 where
-  pub at_all : (c : Forest) (rest : List Token) → Meet v (entries v fm.1) c rest → Headed v fm.0 c rest
-
-pub zero_tight : (n limit : ℕ) (b : Bool) → n ≡ 0 → (nat_le n limit || b) ≡ true
-zero_tight n limit b e = ap (λ (m : ℕ). nat_le m limit || b) e ∙ go limit b
-  where
-    go : (limit : ℕ) (b : Bool) → (nat_le 0 limit || b) ≡ true
-    go limit b = ap (λ (y : Bool). y || b) (le-leb 0 limit (omega arith))
-
-pub or_true : (b c : Bool) → c ≡ true → (b || c) ≡ true
-or_true true c e = refl
-or_true false c e = e
-
--- an expression without an operator of its own
-atom : (v : Version) (k : NodeKind) (is : List Item) → is_operand k ≡ true → is_closed k ≡ true → ((c : Forest) → level v (k, c) ≡ 0) → Gives v (entries v is) (form v k) → Heads v (k, is)
-atom v k is o q low p = record {
-  at_all = λ c rest m.
-      record {
-        fits = p c rest m;
-        operand = o;
-        tight = λ limit. zero_tight (level v (k, c)) limit (is_prefix k) (low c);
-        shut = closed k c rest q;
-      };
-}
-
--- a prefix
-before : (v : Version) (k : NodeKind) (is : List Item) → is_operand k ≡ true → is_closed k ≡ true → is_prefix k ≡ true → Gives v (entries v is) (form v k) → Heads v (k, is)
-before v k is o q b p = record {
-  at_all = λ c rest m.
-      record {
-        fits = p c rest m;
-        operand = o;
-        tight = λ limit. or_true (nat_le (level v (k, c)) limit) (is_prefix k) b;
-        shut = closed k c rest q;
-      };
-}
-
--- ---- prefixes and casts
-
-abbrev clone_rule : Rule
-clone_rule = word t.Clone ~ place (Operand 1)
-
-abbrev sign_rule : Rule
-sign_rule = word t.SignOrTight ~ place (Operand 3)
-
-abbrev not_rule : Rule
-not_rule = word t.Not ~ place (Operand 5)
-
-abbrev step_rule : Rule
-step_rule = word t.Step ~ place Target
-
-cast_rule : (v : Version) → Gives v (flat (word t.Cast ~ place (Operand 3)) []) (op.cast v)
-cast_rule V74 = first_as V74 (word t.Cast) (word t.Cast ||| word t.OldCast) (op.cast V74) (flat (place (Operand 3)) []) (λ f p. is_first p) (whole V74 (op.cast V74))
-cast_rule V83 = whole V83 (op.cast V83)
-
--- ---- closures
-
--- a first part that isn't there
-without : (v : Version) (r s : Rule) (es : List Entry) → Gives v es s → Gives v es (maybe r ~ s)
-without v r s es p f rest m = is_both (is_first is_nothing) (p f rest m) refl
-
--- a first part that is there
-withal : (v : Version) (r s : Rule) → Gives v (flat (r ~ s) []) (maybe r ~ s)
-withal v r s = first_as v r (maybe r) (maybe r ~ s) (flat s []) (λ f p. is_second p) (whole v (maybe r ~ s))
-
-abbrev closure_rule : Rule
-closure_rule = word t.Function ~ at.by_ref ~ at.params ~ at.closure_use ~ at.return_type ~ kind k.Block
-
-abbrev arrow_rule : Rule
-arrow_rule = word t.Fn ~ at.by_ref ~ at.params ~ at.return_type ~ word t.DoubleArrow ~ expr
-
--- ---- `yield`
-
-value_one : (x : Token) (i : Forest) → is_value_alone (leaf x i) ≡ true → is_one_node i ≡ true
-value_one x (node j b none) e = refl
-value_one x none e = false_is e
-value_one x (leaf y i) e = false_is e
-value_one x (node j b (leaf y i)) e = false_is e
-value_one x (node j b (node l a i)) e = false_is e
-
-value_yield : (x : Token) (i : Forest) → is_value_alone (leaf x i) ≡ true → is_yield (terminal x) ≡ true
-value_yield x (node j b none) e = e
-value_yield x none e = false_is e
-value_yield x (leaf y i) e = false_is e
-value_yield x (node j b (leaf y i)) e = false_is e
-value_yield x (node j b (node l a i)) e = false_is e
-
-from_is_not : (own : Terminal) → same_class t.YieldFrom own ≡ true → is_yield own ≡ false
-from_is_not t.Yield e = absurd cc
-from_is_not _ e = refl
-
-behind_yield : (v : Version) (c : Terminal) (h i : Forest) → Fits v (word c) h → is_value_alone (h +++ i) ≡ true → is_one_node i ≡ true
-behind_yield v c h i (is_word {x} p) e = value_one x i e
-
-from_shut : (v : Version) (h i : Forest) → Fits v (word t.YieldFrom) h → is_value_alone (h +++ i) ≡ true → false ≡ true
-from_shut v h i (is_word {x} p) e = sym (from_is_not (terminal x) p) ∙ value_yield x i e
-
-yield_headed : (v : Version) (c : Forest) (rest : List Token) → Meet v (entries v (Word t.Yield ∷ Part g.YieldValue ∷ [])) c rest → Headed v k.Yield c rest
-yield_headed v c rest m =
-    let a = m.3 in
-    let same : m.1 ≡ a.0 = a.4 ∙ ap (λ (y : Forest). a.0 +++ y) a.3 ∙ none_behind a.0 in
-    record {
-      fits = go m.0 m.1 m.2 m.4 (subst (Fits v (maybe (place (Operand 20) ~ maybe (word t.DoubleArrow ~ place (Operand 20))))) (sym same) a.2.0);
-      operand = refl;
-      tight = λ limit. or_true (nat_le (level v (k.Yield, c)) limit) true refl;
-      shut = (
-        λ e. false_is e,
-        λ e. ap is_to (sym (first_none a.1 rest a.3)) ∙ a.2.1 (ap is_one_node (sym same) ∙ behind_yield v t.Yield m.0 m.1 m.2 (ap is_value_alone (sym m.4) ∙ e)),
-      );
-    }
-  where
-    go : (h i : Forest) → Fits v (word t.Yield) h → c ≡ h +++ i → Fits v (maybe (place (Operand 20) ~ maybe (word t.DoubleArrow ~ place (Operand 20)))) i → Fits v op.yield c
-    go h i p e (is_first is_nothing) = is_first (subst (Fits v (word t.Yield)) (sym (e ∙ none_behind h)) p)
-    go h i p e (is_second q) = is_second (is_first (is_both p q e))
-
-yield_heads : (v : Version) → Heads v (k.Yield, Word t.Yield ∷ Part g.YieldValue ∷ [])
-yield_heads v = record { at_all = yield_headed v }
-
-yield_from_headed : (v : Version) (c : Forest) (rest : List Token) → Meet v (entries v (Word t.YieldFrom ∷ Node (s.Operand 20) ∷ [])) c rest → Headed v k.Yield c rest
-yield_from_headed v c rest m = record {
-  fits = is_second (is_second (whole v (word t.YieldFrom ~ place (Operand 20)) c rest m));
-  operand = refl;
-  tight = λ limit. or_true (nat_le (level v (k.Yield, c)) limit) true refl;
-  shut = (λ e. false_is e, λ e. false_is (from_shut v m.0 m.1 m.2 (ap is_value_alone (sym m.4) ∙ e)));
-}
-
-yield_from_heads : (v : Version) → Heads v (k.Yield, Word t.YieldFrom ∷ Node (s.Operand 20) ∷ [])
-yield_from_heads v = record { at_all = yield_from_headed v }
+use Rattle.php_shapes.specs.Places.{Callee, Operand}
+use Rattle.php_shapes.specs.Shapes.{Fits, is_both, is_first, is_second}
+use Rattle.php_shapes.proofs.Entries.{entries, flat}
+use Rattle.php_shapes.proofs.Sequences.{Gives, one, second, whole}
+use Rattle.php_shapes.proofs.Told.{first_as}
+use Rattle.php_shapes.proofs.Standing.{cond_form, cond_option, or_else_form}
+use Rattle.php_shapes.proofs.Heads.{Heads, arrow_rule, atom, before, cast_rule, clone_rule, closure_rule, not_rule, sign_rule, step_rule, withal, without, yield_from_heads, yield_heads}
 
 -- ---- expressions that their first token settles
 
-atom_heads : (v : Version) (x : Terminal) → IfSome (fa.atom_form x) (Heads v)
+pub atom_heads : (v : Version) (x : Terminal) → IfSome (fa.atom_form x) (Heads v)
 atom_heads v t.Variable = atom v k.Variable _ refl refl (λ c. refl) (one v (word t.Variable) at.dollar_variable)
 atom_heads v t.Int = atom v k.Number _ refl refl (λ c. refl) (whole v (word t.Int))
 atom_heads v t.Float = atom v k.Float _ refl refl (λ c. refl) (whole v (word t.Float))
@@ -210,7 +62,7 @@ pub dollar_gives : (v : Version) (x : Terminal) → Gives v (entries v (fo.dolla
 dollar_gives v t.OpenBrace f rest m = is_both m.2 (one v (braces expr) (kind k.Variable) m.1 rest m.3) m.4
 dollar_gives v _ f rest m = is_both m.2 (second v (braces expr) (kind k.Variable) m.1 rest m.3) m.4
 
-dollar_heads : (v : Version) (x : Terminal) → Heads v (fo.dollar_form x)
+pub dollar_heads : (v : Version) (x : Terminal) → Heads v (fo.dollar_form x)
 dollar_heads v t.OpenBrace = atom v k.Variable _ refl refl (λ c. refl) (λ f rest m. is_second (dollar_gives v t.OpenBrace f rest m))
 dollar_heads v x = atom v k.Variable _ refl refl (λ c. refl) (λ f rest m. is_second (dollar_gives v x f rest m))
 
@@ -231,7 +83,7 @@ by_name v f p = is_first p
 pub by_static : (v : Version) (f : Forest) → Fits v (word t.Static) f → Fits v (po.class_before v) f
 by_static v f p = is_second (is_first p)
 
-static_name_heads : (v : Version) (ts : List Token) → Heads v (fo.static_name_form ts)
+pub static_name_heads : (v : Version) (ts : List Token) → Heads v (fo.static_name_form ts)
 static_name_heads v ts =
     cond_form (Heads v) (is_called ts) _ _
     (atom v k.StaticCall _ refl refl (λ c. refl) (call_of v (na.name v) (by_name v)))
@@ -239,7 +91,7 @@ static_name_heads v ts =
     (atom v k.StaticProp _ refl refl (λ c. refl) (prop_of v (na.name v) (by_name v)))
     (atom v k.ClassConstant _ refl refl (λ c. refl) (constant_of v (na.name v) (by_name v))))
 
-static_member_heads : (v : Version) (ts : List Token) → Heads v (fo.static_member_form ts)
+pub static_member_heads : (v : Version) (ts : List Token) → Heads v (fo.static_member_form ts)
 static_member_heads v ts =
     cond_form (Heads v) (is_called ts) _ _
     (atom v k.StaticCall _ refl refl (λ c. refl) (call_of v (word t.Static) (by_static v)))
@@ -247,14 +99,14 @@ static_member_heads v ts =
     (atom v k.StaticProp _ refl refl (λ c. refl) (prop_of v (word t.Static) (by_static v)))
     (atom v k.ClassConstant _ refl refl (λ c. refl) (constant_of v (word t.Static) (by_static v))))
 
-name_heads : (v : Version) (x : Terminal) (ts : List Token) → Heads v (fo.name_by x ts)
+pub name_heads : (v : Version) (x : Terminal) (ts : List Token) → Heads v (fo.name_by x ts)
 name_heads v t.OpenParen ts =
     atom v k.Call _ refl refl (λ c. refl)
     (first_as v (na.called_name v) (na.called_name v ||| place Callee) (po.call v) (flat po.called []) (λ f p. is_first p) (whole v (po.call v)))
 name_heads v t.DoubleColon ts = static_name_heads v (drop 1 ts)
 name_heads v _ ts = atom v k.Constant _ refl refl (λ c. refl) (whole v (na.name v))
 
-static_heads : (v : Version) (x : Terminal) (ts : List Token) → IfSome (fo.static_by x ts) (Heads v)
+pub static_heads : (v : Version) (x : Terminal) (ts : List Token) → IfSome (fo.static_by x ts) (Heads v)
 static_heads v t.Function ts = atom v k.Closure _ refl refl (λ c. refl) (withal v (word t.Static) closure_rule)
 static_heads v t.Fn ts = before v k.Arrow _ refl refl refl (withal v (word t.Static) arrow_rule)
 static_heads v t.DoubleColon ts = static_member_heads v (drop 2 ts)
@@ -267,17 +119,17 @@ bracket_heads v false = atom v k.Array _ refl refl (λ c. refl) (one v (brackets
 pub list_word_heads : (v : Version) → Heads v fo.list_word_form
 list_word_heads v = atom v k.List _ refl refl (λ c. refl) (second v (brackets (commas (maybe at.list_item))) (word t.List ~ parens (commas (maybe at.list_item))))
 
-array_word_heads : (v : Version) (x : Terminal) → IfSome (fo.array_word_form x) (Heads v)
+pub array_word_heads : (v : Version) (x : Terminal) → IfSome (fo.array_word_form x) (Heads v)
 array_word_heads v t.OpenParen = atom v k.Array _ refl refl (λ c. refl) (second v (brackets at.items) (word t.Array ~ parens at.items))
 array_word_heads v _ = tt
 
-old_cast_heads : (v : Version) → IfSome (fo.old_cast_form v) (Heads v)
+pub old_cast_heads : (v : Version) → IfSome (fo.old_cast_form v) (Heads v)
 old_cast_heads V74 =
     before V74 k.Cast _ refl refl refl
     (first_as V74 (word t.OldCast) (word t.Cast ||| word t.OldCast) (op.cast V74) (flat (place (Operand 3)) []) (λ f p. is_second p) (whole V74 (op.cast V74)))
 old_cast_heads V83 = tt
 
-operand_by_heads : (v : Version) (x : Terminal) (ts : List Token) → IfSome (fo.operand_by v x ts) (Heads v)
+pub operand_by_heads : (v : Version) (x : Terminal) (ts : List Token) → IfSome (fo.operand_by v x ts) (Heads v)
 operand_by_heads v t.Dollar ts = dollar_heads v (second_of ts)
 operand_by_heads v t.Static ts = static_heads v (second_of ts) ts
 operand_by_heads v t.OpenBracket ts = bracket_heads v (is_assign (first_of (past_group 0 ts)))
@@ -286,7 +138,7 @@ operand_by_heads v t.List ts = list_word_heads v
 operand_by_heads v t.OldCast ts = old_cast_heads v
 operand_by_heads v _ ts = tt
 
-named_heads : (v : Version) (b : Bool) (ts : List Token) → IfSome (cond b (Some (fo.name_form (behind_name ts))) None) (Heads v)
+pub named_heads : (v : Version) (b : Bool) (ts : List Token) → IfSome (cond b (Some (fo.name_form (behind_name ts))) None) (Heads v)
 named_heads v true ts = name_heads v (first_of (behind_name ts)) (behind_name ts)
 named_heads v false ts = tt
 
@@ -301,7 +153,7 @@ operand_heads v ts =
 pub place_heads : (v : Version) (ts : List Token) → IfSome (fo.place_form v ts) (Heads v)
 place_heads v ts = cond_option (Heads v) (begins_place (first_of ts)) (fo.operand_form v ts) None (λ e. operand_heads v ts) (λ e. tt)
 
-target_by_heads : (v : Version) (x : Terminal) (ts : List Token) → IfSome (fo.target_by x ts) (Heads v)
+pub target_by_heads : (v : Version) (x : Terminal) (ts : List Token) → IfSome (fo.target_by x ts) (Heads v)
 target_by_heads v t.OpenBracket ts = bracket_heads v (not (goes_on (first_of (past_group 0 ts))))
 target_by_heads v t.List ts = list_word_heads v
 target_by_heads v _ ts = tt
@@ -310,7 +162,7 @@ target_by_heads v _ ts = tt
 pub target_heads : (v : Version) (ts : List Token) → IfSome (fo.target_form v ts) (Heads v)
 target_heads v ts = or_else_form (Heads v) (fo.target_list_form ts) (fo.place_form v ts) (target_by_heads v (first_of ts) ts) (place_heads v ts)
 
-entry_by_heads : (v : Version) (x : Terminal) (ts : List Token) → IfSome (fo.entry_by x ts) (Heads v)
+pub entry_by_heads : (v : Version) (x : Terminal) (ts : List Token) → IfSome (fo.entry_by x ts) (Heads v)
 entry_by_heads v t.OpenBracket ts = bracket_heads v (ends_item (first_of (past_group 0 ts)))
 entry_by_heads v _ ts = tt
 

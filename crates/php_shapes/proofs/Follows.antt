@@ -8,6 +8,7 @@ use Rattle.php_terminals.specs.Ahead.{first_of}
 use Rattle.php_terminals.specs.Classify.{terminal}
 use Rattle.php_forms.specs.Grammar.{IsFlat}
 use Rattle.php_shapes.specs.Nearest.{arrows_are_nearest, elses_are_nearest, ends_in_if, ends_in_yield, goes_on_if, is_nearest, is_open_if, is_open_yield, is_to}
+use Rattle.php_shapes.proofs.Entries.{flat}
 use Rattle.php_shapes.proofs.Told.{join}
 
 -- nothing is both

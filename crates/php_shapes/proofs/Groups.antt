@@ -18,7 +18,8 @@ use Rattle.php_shapes.specs.Quoted as qu
 use Rattle.php_shapes.specs.Statements as st
 use Rattle.php_shapes.specs.Notation.{nothing, word, kind, place, ◌~◌, ◌|||◌, many, maybe, expr, commas, commas_last, parens, brackets, braces}
 use Rattle.php_shapes.specs.Places.{TargetOrList}
-use Rattle.php_shapes.proofs.Sequences.{Gives, entries, whole, absent, present, one, second, other, flat}
+use Rattle.php_shapes.proofs.Entries.{entries, flat}
+use Rattle.php_shapes.proofs.Sequences.{Gives, absent, one, other, present, second, whole}
 
 -- ---- names
 

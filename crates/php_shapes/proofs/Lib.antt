@@ -12,3 +12,8 @@ pub mod Never
 pub mod Operations
 pub mod Continuations
 pub mod Walked
+pub mod Entries
+pub mod StatementOpenings
+pub mod Additions
+pub mod Endings
+pub mod Heads

@@ -13,6 +13,7 @@ use Rattle.php_terminals.specs.Words.{find_row, front, is_word, keywords, labels
 use Rattle.php_grammar.specs.Accepts.{same_class}
 use Rattle.php_shapes.specs.Notation.{word}
 use Rattle.php_shapes.specs.Shapes.{Fits, is_word as is_token}
+use Rattle.php_shapes.proofs.Sequences.{other}
 
 abbrev pub is_never : Terminal → Bool
 is_never t.Never = true

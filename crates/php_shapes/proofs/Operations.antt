@@ -25,10 +25,11 @@ use Rattle.php_shapes.specs.Forms.{form}
 use Rattle.php_shapes.specs.Notation.{Rule, word, place, ◌~◌, ◌|||◌, expr}
 use Rattle.php_shapes.specs.Places.{ClassName, Left, LeftShort, Operand, Place, Target, TargetOrList, is_expression, is_prefix, may_stand}
 use Rattle.php_shapes.specs.Shapes.{Fits, IsNode, is_word, is_place, is_both, is_first, is_second}
-use Rattle.php_shapes.proofs.Sequences.{Gives, Meet, entries, whole}
-use Rattle.php_shapes.proofs.Standing.{Closed, closed, is_closed, is_operand, is_tight, or_else_form, when_form}
+use Rattle.php_shapes.proofs.Entries.{Meet, entries}
+use Rattle.php_shapes.proofs.Sequences.{Gives, whole}
 use Rattle.php_shapes.proofs.Follows.{false_is}
-use Rattle.php_shapes.proofs.Beginnings.{or_true, zero_tight}
+use Rattle.php_shapes.proofs.Standing.{Closed, closed, is_closed, is_operand, is_tight, or_else_form, when_form}
+use Rattle.php_shapes.proofs.Heads.{or_true, zero_tight}
 
 -- An expression of a level that has grown.
 pub record Grown (v : Version) (limit : ℕ) (k : NodeKind) (c : Forest) (rest : List Token) : Type 0 where

@@ -21,11 +21,11 @@ use Rattle.php_shapes.specs.Statements as st
 use Rattle.php_shapes.specs.Notation.{word, kind, place, ◌~◌, maybe, expr}
 use Rattle.php_shapes.specs.Places.{Member}
 use Rattle.php_shapes.specs.Shapes.{is_nothing, is_both, is_first, no_more}
-use Rattle.php_shapes.proofs.Sequences.{Meet, Meets, entries, once, turns, else_if_rule, is_else_if}
+use Rattle.php_shapes.proofs.Entries.{Meet, Meets, else_if_rule, entries, is_else_if, once, turns}
 use Rattle.php_shapes.proofs.Groups.{alias_once, alt_else_once, arg_list_once, array_items_once, by_ref_once, called_name_once, case_mark_once, closure_use_once, ctor_args_once, declare_body_once, exit_code_once, exit_value_once, exprs_once, extends_once, finally_part_once, first_semi_once, first_value_once, for_body_once, foreach_body_once, foreach_target_once, foreach_value_once, grouped_class_once, grouped_name_once, grouped_once, handlers_once, implements_once, imported_class_once, imported_name_once, item_value_once, list_head_once, loop_count_once, member_once, method_body_once, name_lead_once, name_once, named_key_once, namespace_body_once, namespace_name_once, namespace_rest_once, nullable_once, offset_key_once, param_type_once, params_once, parents_once, property_type_once, return_type_once, return_value_once, root_lead_once, simple_key_once, switch_body_once, type_word_once, use_rest_once, variadic_once, while_body_once}
+use Rattle.php_shapes.proofs.Turns.{alt_else_ifs_turn, cases_turn, catches_turn, caught_names_turn, class_modifiers_turn, comma_again, else_ifs_turn, list_more_turn, members_turn, modifiers_turn, more_args_turn, more_class_consts_turn, more_class_grouped_turn, more_consts_turn, more_directives_turn, more_exprs_turn, more_globals_turn, more_grouped_turn, more_items_turn, more_names_turn, more_params_turn, more_unset_turn, more_used_turn, more_uses_turn, more_variables_turn, name_more_turn, once_again, quoted_parts_turn, statements_turn}
 use Rattle.php_shapes.proofs.Told.{attribute_once, created_once, else_part_once, instance_ref_once, static_member_once, trait_rules_once, yield_to_once, yield_value_once}
-use Rattle.php_shapes.proofs.Turns.{once_again, comma_again, alt_else_ifs_turn, cases_turn, catches_turn, caught_names_turn, class_modifiers_turn, else_ifs_turn, list_more_turn, members_turn, modifiers_turn, more_args_turn, more_class_consts_turn, more_class_grouped_turn, more_consts_turn, more_directives_turn, more_exprs_turn, more_globals_turn, more_grouped_turn, more_items_turn, more_names_turn, more_params_turn, more_unset_turn, more_used_turn, more_uses_turn, more_variables_turn, name_more_turn, quoted_parts_turn, statements_turn}
-use Rattle.php_shapes.proofs.Uses.{class_alias_once, class_grouped_once, class_use_rest_once, entry_value_once, use_body_once, used_class_once, used_grouped_once, more_class_uses_turn}
+use Rattle.php_shapes.proofs.Uses.{class_alias_once, class_grouped_once, class_use_rest_once, entry_value_once, more_class_uses_turn, use_body_once, used_class_once, used_grouped_once}
 
 no_else_if : (x : Terminal) → else_ifs x ≡ [] → is_else_if x ≡ false
 no_else_if t.ElseIf e = absurd cc

@@ -23,7 +23,8 @@ use Rattle.php_shapes.specs.Nearest.{goes_on_if, is_nearest, is_open_if, is_open
 use Rattle.php_shapes.specs.Notation.{Rule, word, place, ◌~◌, ◌|||◌, expr}
 use Rattle.php_shapes.specs.Places.{TargetOrList, begins_with_class_name, is_class_name, is_expression, is_member, is_prefix, is_statement}
 use Rattle.php_shapes.specs.Shapes.{Fits}
-use Rattle.php_shapes.proofs.Sequences.{Gives, Meet, entries}
+use Rattle.php_shapes.proofs.Entries.{Meet, entries}
+use Rattle.php_shapes.proofs.Sequences.{Gives}
 use Rattle.php_shapes.proofs.Follows.{false_is}
 
 -- ---- what is known of a node

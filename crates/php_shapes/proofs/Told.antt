@@ -28,8 +28,9 @@ use Rattle.php_shapes.specs.Nearest.{has_else, is_else, is_to}
 use Rattle.php_shapes.specs.Notation.{Rule, nothing, word, kind, place, inside, ◌~◌, ◌|||◌, tokens, maybe, braces}
 use Rattle.php_shapes.specs.Places.{Operand, ClassName}
 use Rattle.php_shapes.specs.Shapes.{Fits, is_nothing, is_word, is_kind, is_place, is_inside, is_both, is_first, is_second, is_tokens, is_node, is_balanced}
-use Rattle.php_shapes.proofs.Sequences as sq
-use Rattle.php_shapes.proofs.Sequences.{Entry, plain, Gives, Meet, Meets, entries, flat, pack, unpack, whole, absent, present, one, second, other, none_behind, alias_rule, else_rule, entry_to, is_backslash, is_none, is_one_node, more_classes, to_rule, use_body_rule, use_rest_rule, used_grouped_rule, used_rule}
+use Rattle.php_shapes.proofs.Entries as sq
+use Rattle.php_shapes.proofs.Entries.{Entry, Meet, Meets, else_rule, entries, flat, is_none, is_one_node, to_rule}
+use Rattle.php_shapes.proofs.Sequences.{Gives, absent, none_behind, one, pack, present, second, unpack, whole}
 
 -- ---- sequences
 

@@ -26,7 +26,8 @@ use Rattle.php_shapes.specs.Statements as st
 use Rattle.php_shapes.specs.Notation.{Rule, word, kind, place, ◌~◌, ◌|||◌, many, maybe, expr, brackets}
 use Rattle.php_shapes.specs.Places.{Member}
 use Rattle.php_shapes.specs.Shapes.{Fits, is_nothing, is_word, is_both, is_first, is_second, no_more, once_more}
-use Rattle.php_shapes.proofs.Sequences.{Entry, Gives, Meet, entries, flat, whole, one, second, other, else_if_rule, more_last, none_behind}
+use Rattle.php_shapes.proofs.Entries.{Entry, Meet, else_if_rule, entries, flat, more_last}
+use Rattle.php_shapes.proofs.Sequences.{Gives, none_behind, one, other, second, whole}
 
 -- Parts of these entries with a token are what the rule says.
 abbrev pub Turn : Version → List Entry → Rule → Type 0

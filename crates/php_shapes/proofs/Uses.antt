@@ -18,10 +18,11 @@ use Rattle.php_shapes.specs.Namespaces as ns
 use Rattle.php_shapes.specs.Notation.{Rule, nothing, word, place, ◌~◌, ◌|||◌, many, commas, commas_last, braces}
 use Rattle.php_shapes.specs.Places.{TargetOrList}
 use Rattle.php_shapes.specs.Shapes.{Fits, is_nothing, is_word, is_both, is_first, is_second, no_more, once_more}
-use Rattle.php_shapes.proofs.Sequences as sq
-use Rattle.php_shapes.proofs.Sequences.{Entry, plain, Gives, Meet, Meets, entries, flat, pack, whole, none_behind, alias_rule, entry_to, is_backslash, more_classes, use_body_rule, use_rest_rule, used_grouped_rule, used_rule}
-use Rattle.php_shapes.proofs.Told.{bare, first_join, first_none}
+use Rattle.php_shapes.proofs.Entries as sq
+use Rattle.php_shapes.proofs.Entries.{Meet, Meets, alias_rule, entries, entry_to, flat, is_backslash, more_classes, plain, use_rest_rule, used_grouped_rule, used_rule}
+use Rattle.php_shapes.proofs.Sequences.{Gives, none_behind, pack, whole}
 use Rattle.php_shapes.proofs.Turns.{second_is}
+use Rattle.php_shapes.proofs.Told.{bare, first_join, first_none}
 
 -- ---- names that a use gives to classes
 

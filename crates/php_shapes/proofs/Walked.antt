@@ -22,14 +22,16 @@ use Rattle.php_shapes.specs.Places as pl
 use Rattle.php_shapes.specs.Nearest.{goes_on_if, is_nearest, is_open_if, is_open_yield, is_to}
 use Rattle.php_shapes.specs.Shapes.{Fits, IsExpression, Shape, is_place, is_word}
 use Rattle.php_shapes.specs.Statements as st
-use Rattle.php_shapes.proofs.Sequences as sq
-use Rattle.php_shapes.proofs.Sequences.{Entry, Meet, Meets, entries, none_behind, once, pack_entry, plain, sorted, turns, unpack_entry, whole}
-use Rattle.php_shapes.proofs.Standing.{Closed, Good, Stands}
-use Rattle.php_shapes.proofs.Follows.{Ifs, Yields, follows_append, follows_flat, follows_leaf, follows_node, follows_none, nearest, shut_by}
+use Rattle.php_shapes.proofs.Entries as sq
+use Rattle.php_shapes.proofs.Entries.{Meet, entries, flat, once, sorted, turns}
+use Rattle.php_shapes.proofs.Sequences.{pack_entry, unpack_entry, whole}
 use Rattle.php_shapes.proofs.Told.{join}
 use Rattle.php_shapes.proofs.Parts.{once_meets, stop_meets, turn_meets}
+use Rattle.php_shapes.proofs.Follows.{Ifs, Yields, follows_append, follows_flat, follows_leaf, follows_node, follows_none, nearest, shut_by}
+use Rattle.php_shapes.proofs.Standing.{Closed, Good, Stands}
 use Rattle.php_shapes.proofs.Openings.{begins_good}
-use Rattle.php_shapes.proofs.Continuations.{GoesOn, ends_good, goes_good}
+use Rattle.php_shapes.proofs.Continuations.{GoesOn, goes_good}
+use Rattle.php_shapes.proofs.Endings.{ends_good}
 
 -- What is known of parts that were read.
 record Walked (v : Version) (is : List Item) (f : Forest) (rest : List Token) : Type 0 where
