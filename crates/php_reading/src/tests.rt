@@ -1,4 +1,7 @@
 // Trees of source texts, held against the manual's grammar and PHP's own.
+mod assignments;
+mod branches;
+mod constructs;
 mod declarations;
 mod depths;
 mod exprs;

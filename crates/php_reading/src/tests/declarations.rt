@@ -3,7 +3,8 @@
 use super::sketch::assert_statements;
 use std::test::Fail;
 
-static FUNCTIONS: [(&str, &str, &str); 9] = [
+// Functions, parameters and types.
+static FUNCTIONS: [(&str, &str, &str); 11] = [
     (
         "function & f(A $a, ?int & ...$b) : array { }",
         "(Function function & f ( (Param (TypeName A) $a) , (Param (TypeName ? int) & ... $b) ) : (TypeName array) (Block { }))",
@@ -33,14 +34,20 @@ static FUNCTIONS: [(&str, &str, &str); 9] = [
         "(Function function f ( ) (Block { (Statics static $a ;) (Global global ($b) ;) (Return return (StaticCall static :: c ( (Args) )) ;) }))",
         "same",
     ),
+    (
+        "function f(?callable $a = null, self $b = self::C) { }",
+        "(Function function f ( (Param (TypeName ? callable) $a = (null)) , (Param (TypeName self) $b = (ClassConstant self :: C)) ) (Block { }))",
+        "same",
+    ),
+    (
+        "function f(namespace\\A $a) { }",
+        "(Function function f ( (Param (TypeName namespace \\ A) $a) ) (Block { }))",
+        "(Function function f ( (Param (TypeName namespace\\A) $a) ) (Block { }))",
+    ),
 ];
 
-#[test]
-fn functions(rt: HostRuntime) -> Result<(), Fail> {
-    assert_statements(&rt, rt.alloc(), &FUNCTIONS)
-}
-
-static CLASSES: [(&str, &str, &str); 25] = [
+// Classes, interfaces, traits and their members.
+static CLASSES: [(&str, &str, &str); 28] = [
     (
         "abstract class A extends B implements C, D { }",
         "(Class abstract class A extends B implements C , D { })",
@@ -122,14 +129,21 @@ static CLASSES: [(&str, &str, &str); 25] = [
     ),
     ("class A { function b() }", "none", "same"),
     ("interface A implements B { }", "none", "same"),
+    (
+        "class A { function class() { } function match() { } }",
+        "(Class class A { (Method function class ( ) (Block { })) (Method function match ( ) (Block { })) })",
+        "same",
+    ),
+    (
+        "class A { public ?array $a; protected \\B $c; }",
+        "(Class class A { (Property public (TypeName ? array) $a ;) (Property protected (TypeName \\ B) $c ;) })",
+        "(Class class A { (Property public (TypeName ? array) $a ;) (Property protected (TypeName \\B) $c ;) })",
+    ),
+    ("class A { } ;", "(Class class A { })(Empty ;)", "same"),
 ];
 
-#[test]
-fn classes(rt: HostRuntime) -> Result<(), Fail> {
-    assert_statements(&rt, rt.alloc(), &CLASSES)
-}
-
-static NAMESPACES_AND_USES: [(&str, &str, &str); 18] = [
+// Namespaces in both forms, and uses, also in groups.
+static NAMESPACES_AND_USES: [(&str, &str, &str); 21] = [
     (
         "namespace A\\B; 1;",
         "(Namespace namespace A \\ B ;)(ExprStmt (1) ;)",
@@ -196,9 +210,22 @@ static NAMESPACES_AND_USES: [(&str, &str, &str); 18] = [
         "(Use use function A \\ { b as c , D \\ e } ;)",
         "(Use use function A \\ { b as c , D\\e } ;)",
     ),
+    ("use namespace\\A;", "none", "same"),
+    (
+        "use A\\{B\\C, D};",
+        "(Use use A \\ { B \\ C , D } ;)",
+        "(Use use A \\ { B\\C , D } ;)",
+    ),
+    (
+        "namespace A\\B { } namespace C { }",
+        "(Namespace namespace A \\ B { })(Namespace namespace C { })",
+        "(Namespace namespace A\\B { })(Namespace namespace C { })",
+    ),
 ];
 
 #[test]
-fn namespaces_and_uses(rt: HostRuntime) -> Result<(), Fail> {
+fn declarations_of_each_kind(rt: HostRuntime) -> Result<(), Fail> {
+    assert_statements(&rt, rt.alloc(), &FUNCTIONS)?;
+    assert_statements(&rt, rt.alloc(), &CLASSES)?;
     assert_statements(&rt, rt.alloc(), &NAMESPACES_AND_USES)
 }

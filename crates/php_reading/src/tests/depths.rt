@@ -20,20 +20,13 @@ fn in_parens(alloc: Global, pairs: usize) -> Result<Vec<u8>, AllocError> {
 }
 
 #[test]
-fn parentheses_within_the_depth(rt: HostRuntime) -> Result<(), Fail> {
+fn parentheses_up_to_the_depth(rt: HostRuntime) -> Result<(), Fail> {
     for (version, pairs, depth) in [(Version::V74, 498, 500), (Version::V83, 1498, 1500)] {
         let source = in_parens(rt.alloc(), pairs)?;
         let tree = read(rt.alloc(), version, source.as_slice())?;
         assert_eq!(rt; tree.depth(), depth);
-    }
-    Ok(())
-}
-
-#[test]
-fn parentheses_past_the_depth(rt: HostRuntime) -> Result<(), Fail> {
-    for (version, pairs) in [(Version::V74, 499), (Version::V83, 1499)] {
-        let source = in_parens(rt.alloc(), pairs)?;
-        match read(rt.alloc(), version, source.as_slice()) {
+        let deeper = in_parens(rt.alloc(), pairs + 1)?;
+        match read(rt.alloc(), version, deeper.as_slice()) {
             Ok(_) => assert!(rt; false),
             Err(fault) => assert_eq!(rt; fault, ReadFault::NotInGrammar),
         }

@@ -4,6 +4,7 @@ use crate::{ReadFault, read};
 use php_tree::Version;
 use std::test::Fail;
 
+// Faults of tokens, and one of the grammar.
 static FAULTS: [(&str, &str, &str); 5] = [
     ("1 . 'a", "OpenText(10)", "same"),
     ("1; /* 'a", "OpenComment(9)", "same"),

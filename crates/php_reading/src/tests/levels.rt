@@ -4,6 +4,7 @@
 use super::sketch::assert_exprs;
 use std::test::Fail;
 
+// Arithmetic, `.` and shifts.
 static ARITHMETIC: [(&str, &str, &str); 17] = [
     ("2 ** 3 ** 4", "(Binary (2) ** (Binary (3) ** (4)))", "same"),
     ("2 ** 3 * 4", "(Binary (Binary (2) ** (3)) * (4))", "same"),
@@ -44,11 +45,7 @@ static ARITHMETIC: [(&str, &str, &str); 17] = [
     ),
 ];
 
-#[test]
-fn arithmetic(rt: HostRuntime) -> Result<(), Fail> {
-    assert_exprs(&rt, rt.alloc(), &ARITHMETIC)
-}
-
+// Comparisons, which group neither way, and operators on bits.
 static COMPARISON_AND_BITS: [(&str, &str, &str); 16] = [
     ("1 < 2 < 3", "none", "same"),
     ("1 <= 2 > 3", "none", "same"),
@@ -72,11 +69,7 @@ static COMPARISON_AND_BITS: [(&str, &str, &str); 16] = [
     ("1 | 2 | 3", "(Binary (Binary (1) | (2)) | (3))", "same"),
 ];
 
-#[test]
-fn comparison_and_bits(rt: HostRuntime) -> Result<(), Fail> {
-    assert_exprs(&rt, rt.alloc(), &COMPARISON_AND_BITS)
-}
-
+// Logic, in signs and in words.
 static LOGIC: [(&str, &str, &str); 16] = [
     ("1 && 2 | 3", "(Binary (1) && (Binary (2) | (3)))", "same"),
     ("1 | 2 && 3", "(Binary (Binary (1) | (2)) && (3))", "same"),
@@ -120,12 +113,8 @@ static LOGIC: [(&str, &str, &str); 16] = [
     ("1 or 2 or 3", "(Binary (Binary (1) or (2)) or (3))", "same"),
 ];
 
-#[test]
-fn logic(rt: HostRuntime) -> Result<(), Fail> {
-    assert_exprs(&rt, rt.alloc(), &LOGIC)
-}
-
-static TERNARIES_AND_ASSIGNMENTS: [(&str, &str, &str); 16] = [
+// Ternaries, which 8.3 nests on the left only where both are `?:`, and assignments.
+static TERNARIES_AND_ASSIGNMENTS: [(&str, &str, &str); 20] = [
     (
         "1 ?? 2 ? 3 : 4",
         "(Ternary (Binary (1) ?? (2)) ? (3) : (4))",
@@ -194,9 +183,28 @@ static TERNARIES_AND_ASSIGNMENTS: [(&str, &str, &str); 16] = [
         "(Binary (Print print (1)) and (2))",
         "same",
     ),
+    (
+        "1 ?: 2 ?: 3 ?: 4",
+        "(ShortTernary (ShortTernary (ShortTernary (1) ? : (2)) ? : (3)) ? : (4))",
+        "same",
+    ),
+    ("-1 ? 2 : 3", "(Ternary (Prefix - (1)) ? (2) : (3))", "same"),
+    (
+        "$a = 1 ? 2 : 3 ? 4 : 5",
+        "(Assign ($a) = (Ternary (Ternary (1) ? (2) : (3)) ? (4) : (5)))",
+        "none",
+    ),
+    (
+        "$a or $b = 1 or $c",
+        "(Binary (Binary ($a) or (Assign ($b) = (1))) or ($c))",
+        "same",
+    ),
 ];
 
 #[test]
-fn ternaries_and_assignments(rt: HostRuntime) -> Result<(), Fail> {
+fn levels_of_operators(rt: HostRuntime) -> Result<(), Fail> {
+    assert_exprs(&rt, rt.alloc(), &ARITHMETIC)?;
+    assert_exprs(&rt, rt.alloc(), &COMPARISON_AND_BITS)?;
+    assert_exprs(&rt, rt.alloc(), &LOGIC)?;
     assert_exprs(&rt, rt.alloc(), &TERNARIES_AND_ASSIGNMENTS)
 }

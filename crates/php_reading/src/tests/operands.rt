@@ -1,8 +1,8 @@
-// Operands: names, members, calls, `new`, arrays and list forms (PHP manual, "Variables", "Classes and Objects",
-// "Arrays", "Name resolution rules").
+// Names, members, calls and `new` (PHP manual, "Variables", "Classes and Objects", "Name resolution rules").
 use super::sketch::assert_exprs;
 use std::test::Fail;
 
+// Names, numbers and offsets.
 static NAMES_AND_OFFSETS: [(&str, &str, &str); 24] = [
     ("A", "(A)", "same"),
     ("\\A\\B", "(Constant \\ A \\ B)", "(\\A\\B)"),
@@ -46,12 +46,8 @@ static NAMES_AND_OFFSETS: [(&str, &str, &str); 24] = [
     ("$a{0}", "(BraceOffset ($a) { (0) })", "none"),
 ];
 
-#[test]
-fn names_and_offsets(rt: HostRuntime) -> Result<(), Fail> {
-    assert_exprs(&rt, rt.alloc(), &NAMES_AND_OFFSETS)
-}
-
-static MEMBERS_AND_CALLS: [(&str, &str, &str); 32] = [
+// Members by name and by value, and calls.
+static MEMBERS_AND_CALLS: [(&str, &str, &str); 40] = [
     ("$a->b->c", "(Prop (Prop ($a) -> b) -> c)", "same"),
     ("$a->list", "(Prop ($a) -> list)", "same"),
     (
@@ -136,14 +132,30 @@ static MEMBERS_AND_CALLS: [(&str, &str, &str); 32] = [
     ("A::B->c", "none", "same"),
     ("A::B::C", "none", "same"),
     ("'A'::f()", "none", "same"),
+    ("f()::$a", "(StaticProp (Call f ( (Args) )) :: $a)", "same"),
+    (
+        "A::$b->c()",
+        "(MethodCall (StaticProp A :: $b) -> c ( (Args) ))",
+        "same",
+    ),
+    ("$a->$$b", "(Prop ($a) -> (Variable $ ($b)))", "same"),
+    ("$$a->b", "(Prop (Variable $ ($a)) -> b)", "same"),
+    ("f(& $a)", "none", "same"),
+    (
+        "f(...$a, ...$b)",
+        "(Call f ( (Args ... ($a) , ... ($b)) ))",
+        "same",
+    ),
+    (
+        "(function () { })()",
+        "(Call (Paren ( (Closure function ( ) (Block { })) )) ( (Args) ))",
+        "same",
+    ),
+    ("function () { }()", "none", "same"),
 ];
 
-#[test]
-fn members_and_calls(rt: HostRuntime) -> Result<(), Fail> {
-    assert_exprs(&rt, rt.alloc(), &MEMBERS_AND_CALLS)
-}
-
-static NEW_AND_INSTANCEOF: [(&str, &str, &str); 21] = [
+// Classes behind `new` and `instanceof`.
+static NEW_AND_INSTANCEOF: [(&str, &str, &str); 27] = [
     ("new A", "(New new A)", "same"),
     ("new A(1)", "(New new A ( (Args (1)) ))", "same"),
     ("new A + 1", "(Binary (New new A) + (1))", "same"),
@@ -209,147 +221,33 @@ static NEW_AND_INSTANCEOF: [(&str, &str, &str); 21] = [
         "(Prop (Paren ( (Prefix clone ($a)) )) -> b)",
         "same",
     ),
+    (
+        "new $a->b['c']->d()",
+        "(New new (Prop (Offset (Prop ($a) -> b) [ ('c') ]) -> d) ( (Args) ))",
+        "same",
+    ),
+    ("new $$a", "(New new (Variable $ ($a)))", "same"),
+    (
+        "new A::$$b",
+        "(New new (StaticProp A :: (Variable $ ($b))))",
+        "same",
+    ),
+    (
+        "(new class { })->a()",
+        "(MethodCall (Paren ( (New new class { }) )) -> a ( (Args) ))",
+        "same",
+    ),
+    (
+        "$a instanceof namespace\\B",
+        "(InstanceOf ($a) instanceof namespace \\ B)",
+        "(InstanceOf ($a) instanceof namespace\\B)",
+    ),
+    ("clone($a)", "(Prefix clone (Paren ( ($a) )))", "same"),
 ];
 
 #[test]
-fn new_and_instanceof(rt: HostRuntime) -> Result<(), Fail> {
+fn operands_of_each_kind(rt: HostRuntime) -> Result<(), Fail> {
+    assert_exprs(&rt, rt.alloc(), &NAMES_AND_OFFSETS)?;
+    assert_exprs(&rt, rt.alloc(), &MEMBERS_AND_CALLS)?;
     assert_exprs(&rt, rt.alloc(), &NEW_AND_INSTANCEOF)
-}
-
-static ARRAYS_AND_LIST_FORMS: [(&str, &str, &str); 23] = [
-    (
-        "[1, 'a' => 2, & $b, 'c' => & $d, ...$e,]",
-        "(Array [ (Item (1)) , (Item ('a') => (2)) , (Item & ($b)) , (Item ('c') => & ($d)) , (Item ... ($e)) , ])",
-        "same",
-    ),
-    ("array()", "(Array array ( ))", "same"),
-    ("array(1,)", "(Array array ( (Item (1)) , ))", "same"),
-    ("[,]", "none", "same"),
-    ("[1,,2]", "none", "same"),
-    (
-        "[$a, [$b, , $c]] = $d",
-        "(Assign (List [ (Item ($a)) , (Item (List [ (Item ($b)) , , (Item ($c)) ])) ]) = ($d))",
-        "same",
-    ),
-    (
-        "list('a' => $b, 'c' => list($d)) = $e",
-        "(Assign (List list ( (Item ('a') => ($b)) , (Item ('c') => (List list ( (Item ($d)) ))) )) = ($e))",
-        "same",
-    ),
-    (
-        "[, $a] = $b",
-        "(Assign (List [ , (Item ($a)) ]) = ($b))",
-        "same",
-    ),
-    (
-        "[$a,] = $b",
-        "(Assign (List [ (Item ($a)) , ]) = ($b))",
-        "same",
-    ),
-    (
-        "[& $a, 1 => & $b] = $c",
-        "(Assign (List [ (Item & ($a)) , (Item (1) => & ($b)) ]) = ($c))",
-        "same",
-    ),
-    (
-        "[$a->b, $c[0]] = $d",
-        "(Assign (List [ (Item (Prop ($a) -> b)) , (Item (Offset ($c) [ (0) ])) ]) = ($d))",
-        "same",
-    ),
-    (
-        "[[1, 2][0] => $a] = $b",
-        "(Assign (List [ (Item (Offset (Array [ (Item (1)) , (Item (2)) ]) [ (0) ]) => ($a)) ]) = ($b))",
-        "same",
-    ),
-    (
-        "[[$a] = $b]",
-        "(Array [ (Item (Assign (List [ (Item ($a)) ]) = ($b))) ])",
-        "same",
-    ),
-    ("[$a, $b]", "(Array [ (Item ($a)) , (Item ($b)) ])", "same"),
-    ("[1] = $a", "none", "same"),
-    ("[f()] = $a", "none", "same"),
-    ("list($a)", "none", "same"),
-    ("[$a] += $b", "none", "same"),
-    (
-        "$a = [1, 2] + [3]",
-        "(Assign ($a) = (Binary (Array [ (Item (1)) , (Item (2)) ]) + (Array [ (Item (3)) ])))",
-        "same",
-    ),
-    (
-        "[$a, $b] = [$b, $a]",
-        "(Assign (List [ (Item ($a)) , (Item ($b)) ]) = (Array [ (Item ($b)) , (Item ($a)) ]))",
-        "same",
-    ),
-    (
-        "[$a => [$b, $c]] = $d",
-        "(Assign (List [ (Item ($a) => (List [ (Item ($b)) , (Item ($c)) ])) ]) = ($d))",
-        "same",
-    ),
-    (
-        "[$a[0] => $b] = $c",
-        "(Assign (List [ (Item (Offset ($a) [ (0) ]) => ($b)) ]) = ($c))",
-        "same",
-    ),
-    (
-        "list(, , $a) = $b",
-        "(Assign (List list ( , , (Item ($a)) )) = ($b))",
-        "same",
-    ),
-];
-
-#[test]
-fn arrays_and_list_forms(rt: HostRuntime) -> Result<(), Fail> {
-    assert_exprs(&rt, rt.alloc(), &ARRAYS_AND_LIST_FORMS)
-}
-
-static FUNCTIONS_AND_CONSTRUCTS: [(&str, &str, &str); 19] = [
-    (
-        "function () { }",
-        "(Closure function ( ) (Block { }))",
-        "same",
-    ),
-    (
-        "function & ($a) use ($b, & $c) : int { return; }",
-        "(Closure function & ( (Param $a) ) use ( $b , & $c ) : (TypeName int) (Block { (Return return ;) }))",
-        "same",
-    ),
-    (
-        "fn(?A $a = 1) : array => $a",
-        "(Arrow fn ( (Param (TypeName ? A) $a = (1)) ) : (TypeName array) => ($a))",
-        "same",
-    ),
-    (
-        "fn & ($a) => fn() => $a",
-        "(Arrow fn & ( (Param $a) ) => (Arrow fn ( ) => ($a)))",
-        "same",
-    ),
-    (
-        "isset($a, $b[0],)",
-        "(Isset isset ( ($a) , (Offset ($b) [ (0) ]) , ))",
-        "same",
-    ),
-    ("empty($a)", "(EmptyTest empty ( ($a) ))", "same"),
-    ("1 + exit", "(Binary (1) + (Exit exit))", "same"),
-    (
-        "f() or die('a')",
-        "(Binary (Call f ( (Args) )) or (Exit die ( ('a') )))",
-        "same",
-    ),
-    ("exit()", "(Exit exit ( ))", "same"),
-    ("eval('a')", "(EvalTest eval ( ('a') ))", "same"),
-    ("(real)1", "(Cast (real) (1))", "none"),
-    ("(unset)$a", "(Cast (unset) ($a))", "none"),
-    ("(binary)1", "(Cast (binary) (1))", "same"),
-    ("1 ? throw $a : 2", "none", "same"),
-    ("match (1) { }", "none", "same"),
-    ("$a?->b", "none", "same"),
-    ("f(a: 1)", "none", "same"),
-    ("f(...)", "none", "same"),
-    ("exit + 1", "(Binary (Exit exit) + (1))", "same"),
-];
-
-#[test]
-fn functions_and_constructs(rt: HostRuntime) -> Result<(), Fail> {
-    assert_exprs(&rt, rt.alloc(), &FUNCTIONS_AND_CONSTRUCTS)
 }

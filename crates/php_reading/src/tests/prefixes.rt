@@ -1,8 +1,9 @@
-// Prefixes that reach far right, and assignments behind tighter operators (PHP manual, "Operator Precedence").
+// Prefixes, and how far right they reach (PHP manual, "Operator Precedence").
 use super::sketch::assert_exprs;
 use std::test::Fail;
 
-static TIGHT_PREFIXES: [(&str, &str, &str); 24] = [
+// `clone`, signs, casts, `instanceof` and `!`.
+static TIGHT_PREFIXES: [(&str, &str, &str); 30] = [
     (
         "clone $a ** 2",
         "(Binary (Prefix clone ($a)) ** (2))",
@@ -95,14 +96,32 @@ static TIGHT_PREFIXES: [(&str, &str, &str); 24] = [
         "(Binary (Prefix @ (Offset ($a) [ (0) ])) ?? (1))",
         "same",
     ),
+    (
+        "2 ** -1 instanceof A",
+        "(InstanceOf (Binary (2) ** (Prefix - (1))) instanceof A)",
+        "same",
+    ),
+    (
+        "$a % -$b + @$c",
+        "(Binary (Binary ($a) % (Prefix - ($b))) + (Prefix @ ($c)))",
+        "same",
+    ),
+    (
+        "~ + - ! @ $a",
+        "(Prefix ~ (Prefix + (Prefix - (Prefix ! (Prefix @ ($a))))))",
+        "same",
+    ),
+    ("1 == !$a == 2", "none", "same"),
+    (
+        "(int)($a) + 1",
+        "(Binary (Cast (int) (Paren ( ($a) ))) + (1))",
+        "same",
+    ),
+    ("(A)($a)", "(Call (Paren ( (A) )) ( (Args ($a)) ))", "same"),
 ];
 
-#[test]
-fn tight_prefixes(rt: HostRuntime) -> Result<(), Fail> {
-    assert_exprs(&rt, rt.alloc(), &TIGHT_PREFIXES)
-}
-
-static PREFIXES_THAT_REACH_FAR_RIGHT: [(&str, &str, &str); 26] = [
+// `print`, `yield`, `include` and arrow functions as right operands.
+static PREFIXES_THAT_REACH_FAR_RIGHT: [(&str, &str, &str); 38] = [
     (
         "1 + print 2 + 3",
         "(Binary (1) + (Print print (Binary (2) + (3))))",
@@ -209,96 +228,62 @@ static PREFIXES_THAT_REACH_FAR_RIGHT: [(&str, &str, &str); 26] = [
         "(Arrow fn ( ) => (Yield yield (1)))",
         "same",
     ),
+    (
+        "1 < print 2 < 3",
+        "(Binary (1) < (Print print (Binary (2) < (3))))",
+        "same",
+    ),
+    (
+        "-print 1 + 2",
+        "(Prefix - (Print print (Binary (1) + (2))))",
+        "same",
+    ),
+    (
+        "!include 'a' and 1",
+        "(Prefix ! (Include include (Binary ('a') and (1))))",
+        "same",
+    ),
+    (
+        "1 and print 2 and 3",
+        "(Binary (Binary (1) and (Print print (2))) and (3))",
+        "same",
+    ),
+    (
+        "1 + fn() => 2 and 3",
+        "(Binary (1) + (Arrow fn ( ) => (Binary (2) and (3))))",
+        "same",
+    ),
+    (
+        "1 ? fn() => 2 : 3",
+        "(Ternary (1) ? (Arrow fn ( ) => (2)) : (3))",
+        "same",
+    ),
+    (
+        "1 + print 2 ? 3 : 4",
+        "(Binary (1) + (Print print (Ternary (2) ? (3) : (4))))",
+        "same",
+    ),
+    ("print 1, 2", "none", "same"),
+    (
+        "yield from yield $a",
+        "(Yield yield from (Yield yield ($a)))",
+        "same",
+    ),
+    ("yield 1 => 2 => 3", "none", "same"),
+    (
+        "yield yield 1 => 2",
+        "(Yield yield (Yield yield (1) => (2)))",
+        "same",
+    ),
+    (
+        "$a = yield $b = 1",
+        "(Assign ($a) = (Yield yield (Assign ($b) = (1))))",
+        "same",
+    ),
 ];
 
 #[test]
-fn prefixes_that_reach_far_right(rt: HostRuntime) -> Result<(), Fail> {
+fn prefixes_and_their_reach(rt: HostRuntime) -> Result<(), Fail> {
+    assert_exprs(&rt, rt.alloc(), &TIGHT_PREFIXES)?;
     assert_exprs(&rt, rt.alloc(), &PREFIXES_THAT_REACH_FAR_RIGHT)
-}
-
-static ASSIGNMENTS_BEHIND_TIGHTER_OPERATORS: [(&str, &str, &str); 23] = [
-    (
-        "!$a = f()",
-        "(Prefix ! (Assign ($a) = (Call f ( (Args) ))))",
-        "same",
-    ),
-    ("1 + $a = 2", "(Binary (1) + (Assign ($a) = (2)))", "same"),
-    (
-        "1 + $a = 2 + 3",
-        "(Binary (1) + (Assign ($a) = (Binary (2) + (3))))",
-        "same",
-    ),
-    (
-        "1 < $a = 2 < 3",
-        "(Binary (1) < (Assign ($a) = (Binary (2) < (3))))",
-        "same",
-    ),
-    (
-        "1 + $a = 2 and 3",
-        "(Binary (Binary (1) + (Assign ($a) = (2))) and (3))",
-        "same",
-    ),
-    (
-        "-$a = 1 + 2",
-        "(Prefix - (Assign ($a) = (Binary (1) + (2))))",
-        "same",
-    ),
-    ("(int)$a = 1", "(Cast (int) (Assign ($a) = (1)))", "same"),
-    (
-        "$a && $b += 1",
-        "(Binary ($a) && (CompoundAssign ($b) += (1)))",
-        "same",
-    ),
-    (
-        "$a ?? $b = & $c",
-        "(Binary ($a) ?? (AssignRef ($b) = & ($c)))",
-        "same",
-    ),
-    (
-        "1 + [$a] = $b",
-        "(Binary (1) + (Assign (List [ (Item ($a)) ]) = ($b)))",
-        "same",
-    ),
-    (
-        "$a ? $b : $c = 1",
-        "(Ternary ($a) ? ($b) : (Assign ($c) = (1)))",
-        "same",
-    ),
-    ("1 = 2", "none", "same"),
-    ("f() = 1", "none", "same"),
-    ("-$a += 1 = 2", "none", "same"),
-    (
-        "f()[0] = 1",
-        "(Assign (Offset (Call f ( (Args) )) [ (0) ]) = (1))",
-        "same",
-    ),
-    (
-        "$a++ + ++$b",
-        "(Binary (Postfix ($a) ++) + (Prefix ++ ($b)))",
-        "same",
-    ),
-    ("--$a ** 2", "(Binary (Prefix -- ($a)) ** (2))", "same"),
-    ("!$a--", "(Prefix ! (Postfix ($a) --))", "same"),
-    ("++1", "none", "same"),
-    ("f()++", "none", "same"),
-    (
-        "$a = $b + $c = 1",
-        "(Assign ($a) = (Binary ($b) + (Assign ($c) = (1))))",
-        "same",
-    ),
-    (
-        "!$a = $b && $c",
-        "(Prefix ! (Assign ($a) = (Binary ($b) && ($c))))",
-        "same",
-    ),
-    (
-        "$a ? 1 : $b = 2 ? 3 : 4",
-        "(Ternary ($a) ? (1) : (Assign ($b) = (Ternary (2) ? (3) : (4))))",
-        "same",
-    ),
-];
-
-#[test]
-fn assignments_behind_tighter_operators(rt: HostRuntime) -> Result<(), Fail> {
-    assert_exprs(&rt, rt.alloc(), &ASSIGNMENTS_BEHIND_TIGHTER_OPERATORS)
 }

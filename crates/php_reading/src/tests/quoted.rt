@@ -2,7 +2,8 @@
 use super::sketch::assert_exprs;
 use std::test::Fail;
 
-static PARTS_OF_TEXTS: [(&str, &str, &str); 15] = [
+// Parts of quoted texts.
+static PARTS_OF_TEXTS: [(&str, &str, &str); 18] = [
     ("\"a$b\"", "(Quoted \" a ($b) \")", "same"),
     (
         "\"$a[b]$a[-1]$a[$b]$a[0]\"",
@@ -50,13 +51,20 @@ static PARTS_OF_TEXTS: [(&str, &str, &str); 15] = [
     ("\"$a->list\"", "(Quoted \" (Prop ($a) -> list) \")", "same"),
     ("\"\\$a{$b}\"", "(Quoted \" \\$a { ($b) } \")", "same"),
     ("``", "(Quoted ` `)", "same"),
+    ("\"$a{0}\"", "(Quoted \" ($a) {0} \")", "same"),
+    (
+        "\"{$a{0}}\"",
+        "(Quoted \" { (BraceOffset ($a) { (0) }) } \")",
+        "none",
+    ),
+    (
+        "\"${a{0}}\"",
+        "(Quoted \" ${ (BraceOffset (a) { (0) }) } \")",
+        "none",
+    ),
 ];
 
-#[test]
-fn parts_of_texts(rt: HostRuntime) -> Result<(), Fail> {
-    assert_exprs(&rt, rt.alloc(), &PARTS_OF_TEXTS)
-}
-
+// Heredocs and nowdocs as operands, and their indentation.
 static HEREDOCS_AS_OPERANDS: [(&str, &str, &str); 10] = [
     (
         "<<<A\na$b\nA . 1",
@@ -91,6 +99,7 @@ static HEREDOCS_AS_OPERANDS: [(&str, &str, &str); 10] = [
 ];
 
 #[test]
-fn heredocs_as_operands(rt: HostRuntime) -> Result<(), Fail> {
+fn quoted_texts(rt: HostRuntime) -> Result<(), Fail> {
+    assert_exprs(&rt, rt.alloc(), &PARTS_OF_TEXTS)?;
     assert_exprs(&rt, rt.alloc(), &HEREDOCS_AS_OPERANDS)
 }

@@ -3,6 +3,7 @@
 use super::sketch::assert_statements;
 use std::test::Fail;
 
+// `match` as a name that is used.
 static MATCH_AS_A_NAME: [(&str, &str, &str); 17] = [
     ("match;", "(ExprStmt (match) ;)", "none"),
     ("Match();", "(ExprStmt (Call Match ( (Args) )) ;)", "none"),
@@ -71,12 +72,8 @@ static MATCH_AS_A_NAME: [(&str, &str, &str); 17] = [
     ),
 ];
 
-#[test]
-fn match_as_a_name(rt: HostRuntime) -> Result<(), Fail> {
-    assert_statements(&rt, rt.alloc(), &MATCH_AS_A_NAME)
-}
-
-static MATCH_WHERE_IT_IS_DECLARED: [(&str, &str, &str); 11] = [
+// `match` as a name that is declared.
+static MATCH_WHERE_IT_IS_DECLARED: [(&str, &str, &str); 12] = [
     (
         "function match() { }",
         "(Function function match ( ) (Block { }))",
@@ -108,14 +105,15 @@ static MATCH_WHERE_IT_IS_DECLARED: [(&str, &str, &str); 11] = [
         "(Use use A \\ { B as match } ;)",
         "none",
     ),
+    (
+        "function & match() { }",
+        "(Function function & match ( ) (Block { }))",
+        "none",
+    ),
 ];
 
-#[test]
-fn match_where_it_is_declared(rt: HostRuntime) -> Result<(), Fail> {
-    assert_statements(&rt, rt.alloc(), &MATCH_WHERE_IT_IS_DECLARED)
-}
-
-static READONLY: [(&str, &str, &str); 14] = [
+// `readonly`, which a function may still be called.
+static READONLY: [(&str, &str, &str); 15] = [
     ("readonly;", "(ExprStmt (readonly) ;)", "none"),
     ("new Readonly;", "(ExprStmt (New new Readonly) ;)", "none"),
     ("class readonly { }", "(Class class readonly { })", "none"),
@@ -162,13 +160,14 @@ static READONLY: [(&str, &str, &str); 14] = [
         "(Class class A { (ClassConst const readonly = (1) ;) (Property public $readonly ;) })",
         "same",
     ),
+    (
+        "function & readonly() { }",
+        "(Function function & readonly ( ) (Block { }))",
+        "same",
+    ),
 ];
 
-#[test]
-fn readonly(rt: HostRuntime) -> Result<(), Fail> {
-    assert_statements(&rt, rt.alloc(), &READONLY)
-}
-
+// `mixed` and `never` as names of classes, and `enum`.
 static MIXED_AND_NEVER: [(&str, &str, &str); 15] = [
     ("class mixed { }", "(Class class mixed { })", "none"),
     (
@@ -228,6 +227,9 @@ static MIXED_AND_NEVER: [(&str, &str, &str); 15] = [
 ];
 
 #[test]
-fn mixed_and_never(rt: HostRuntime) -> Result<(), Fail> {
+fn words_that_8_3_refuses(rt: HostRuntime) -> Result<(), Fail> {
+    assert_statements(&rt, rt.alloc(), &MATCH_AS_A_NAME)?;
+    assert_statements(&rt, rt.alloc(), &MATCH_WHERE_IT_IS_DECLARED)?;
+    assert_statements(&rt, rt.alloc(), &READONLY)?;
     assert_statements(&rt, rt.alloc(), &MIXED_AND_NEVER)
 }
