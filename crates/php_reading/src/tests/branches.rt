@@ -3,7 +3,7 @@ use super::sketch::assert_statements;
 use std::test::Fail;
 
 // `if` in both forms, with the nearest `else`, and `switch`.
-static BRANCHES: [(&str, &str, &str); 28] = [
+static BRANCHES: [(&str, &str, &str); 29] = [
     (
         "if (1) if (2) 3; else 4;",
         "(If if ( (1) ) (If if ( (2) ) (ExprStmt (3) ;) else (ExprStmt (4) ;)))",
@@ -108,6 +108,11 @@ static BRANCHES: [(&str, &str, &str); 28] = [
         "same",
     ),
     ("if 1 ;", "none", "same"),
+    (
+        "switch (1) { case 1: ?>a<?php case 2: }",
+        "(Switch switch ( (1) ) { (Case case (1) : (Empty ?>) (Html a)) (Case case (2) :) })",
+        "same",
+    ),
 ];
 
 // Loops, and `try`.

@@ -4,7 +4,7 @@ use super::sketch::assert_statements;
 use std::test::Fail;
 
 // Functions, parameters and types.
-static FUNCTIONS: [(&str, &str, &str); 11] = [
+static FUNCTIONS: [(&str, &str, &str); 13] = [
     (
         "function & f(A $a, ?int & ...$b) : array { }",
         "(Function function & f ( (Param (TypeName A) $a) , (Param (TypeName ? int) & ... $b) ) : (TypeName array) (Block { }))",
@@ -44,6 +44,8 @@ static FUNCTIONS: [(&str, &str, &str); 11] = [
         "(Function function f ( (Param (TypeName namespace \\ A) $a) ) (Block { }))",
         "(Function function f ( (Param (TypeName namespace\\A) $a) ) (Block { }))",
     ),
+    ("$a = function () use ($b,) { };", "none", "same"),
+    ("function f() : static { }", "none", "same"),
 ];
 
 // Classes, interfaces, traits and their members.
@@ -143,7 +145,7 @@ static CLASSES: [(&str, &str, &str); 28] = [
 ];
 
 // Namespaces in both forms, and uses, also in groups.
-static NAMESPACES_AND_USES: [(&str, &str, &str); 21] = [
+static NAMESPACES_AND_USES: [(&str, &str, &str); 23] = [
     (
         "namespace A\\B; 1;",
         "(Namespace namespace A \\ B ;)(ExprStmt (1) ;)",
@@ -220,6 +222,12 @@ static NAMESPACES_AND_USES: [(&str, &str, &str); 21] = [
         "namespace A\\B { } namespace C { }",
         "(Namespace namespace A \\ B { })(Namespace namespace C { })",
         "(Namespace namespace A\\B { })(Namespace namespace C { })",
+    ),
+    ("use A \\B;", "(Use use A \\ B ;)", "none"),
+    (
+        "use function\\A\\b;",
+        "(Use use function \\ A \\ b ;)",
+        "(Use use function\\A\\b ;)",
     ),
 ];
 

@@ -5,7 +5,7 @@ use super::sketch::assert_exprs;
 use std::test::Fail;
 
 // Arithmetic, `.` and shifts.
-static ARITHMETIC: [(&str, &str, &str); 17] = [
+static ARITHMETIC: [(&str, &str, &str); 19] = [
     ("2 ** 3 ** 4", "(Binary (2) ** (Binary (3) ** (4)))", "same"),
     ("2 ** 3 * 4", "(Binary (Binary (2) ** (3)) * (4))", "same"),
     ("2 * 3 ** 4", "(Binary (2) * (Binary (3) ** (4)))", "same"),
@@ -42,6 +42,16 @@ static ARITHMETIC: [(&str, &str, &str); 17] = [
         "1 . 2 + 3",
         "(Binary (Binary (1) . (2)) + (3))",
         "(Binary (1) . (Binary (2) + (3)))",
+    ),
+    (
+        "'a' . -1 + 2",
+        "(Binary (Binary ('a') . (Prefix - (1))) + (2))",
+        "(Binary ('a') . (Binary (Prefix - (1)) + (2)))",
+    ),
+    (
+        "1 << 2 . 3 << 4",
+        "(Binary (Binary (1) << (Binary (2) . (3))) << (4))",
+        "(Binary (Binary (1) << (2)) . (Binary (3) << (4)))",
     ),
 ];
 
@@ -114,7 +124,7 @@ static LOGIC: [(&str, &str, &str); 16] = [
 ];
 
 // Ternaries, which 8.3 nests on the left only where both are `?:`, and assignments.
-static TERNARIES_AND_ASSIGNMENTS: [(&str, &str, &str); 20] = [
+static TERNARIES_AND_ASSIGNMENTS: [(&str, &str, &str); 22] = [
     (
         "1 ?? 2 ? 3 : 4",
         "(Ternary (Binary (1) ?? (2)) ? (3) : (4))",
@@ -197,6 +207,16 @@ static TERNARIES_AND_ASSIGNMENTS: [(&str, &str, &str); 20] = [
     (
         "$a or $b = 1 or $c",
         "(Binary (Binary ($a) or (Assign ($b) = (1))) or ($c))",
+        "same",
+    ),
+    (
+        "$a ? $b ?: $c : $d",
+        "(Ternary ($a) ? (ShortTernary ($b) ? : ($c)) : ($d))",
+        "same",
+    ),
+    (
+        "$a . $b ?? $c . $d",
+        "(Binary (Binary ($a) . ($b)) ?? (Binary ($c) . ($d)))",
         "same",
     ),
 ];

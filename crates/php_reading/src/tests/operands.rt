@@ -47,7 +47,7 @@ static NAMES_AND_OFFSETS: [(&str, &str, &str); 24] = [
 ];
 
 // Members by name and by value, and calls.
-static MEMBERS_AND_CALLS: [(&str, &str, &str); 40] = [
+static MEMBERS_AND_CALLS: [(&str, &str, &str); 41] = [
     ("$a->b->c", "(Prop (Prop ($a) -> b) -> c)", "same"),
     ("$a->list", "(Prop ($a) -> list)", "same"),
     (
@@ -152,10 +152,15 @@ static MEMBERS_AND_CALLS: [(&str, &str, &str); 40] = [
         "same",
     ),
     ("function () { }()", "none", "same"),
+    (
+        "static::{'a'}()",
+        "(StaticCall static :: { ('a') } ( (Args) ))",
+        "same",
+    ),
 ];
 
 // Classes behind `new` and `instanceof`.
-static NEW_AND_INSTANCEOF: [(&str, &str, &str); 27] = [
+static NEW_AND_INSTANCEOF: [(&str, &str, &str); 30] = [
     ("new A", "(New new A)", "same"),
     ("new A(1)", "(New new A ( (Args (1)) ))", "same"),
     ("new A + 1", "(Binary (New new A) + (1))", "same"),
@@ -243,6 +248,13 @@ static NEW_AND_INSTANCEOF: [(&str, &str, &str); 27] = [
         "(InstanceOf ($a) instanceof namespace\\B)",
     ),
     ("clone($a)", "(Prefix clone (Paren ( ($a) )))", "same"),
+    ("new A::B", "none", "same"),
+    ("$a instanceof A::B", "none", "same"),
+    (
+        "new A(new B(1), ...$c)",
+        "(New new A ( (Args (New new B ( (Args (1)) )) , ... ($c)) ))",
+        "same",
+    ),
 ];
 
 #[test]

@@ -121,7 +121,7 @@ static TIGHT_PREFIXES: [(&str, &str, &str); 30] = [
 ];
 
 // `print`, `yield`, `include` and arrow functions as right operands.
-static PREFIXES_THAT_REACH_FAR_RIGHT: [(&str, &str, &str); 38] = [
+static PREFIXES_THAT_REACH_FAR_RIGHT: [(&str, &str, &str); 39] = [
     (
         "1 + print 2 + 3",
         "(Binary (1) + (Print print (Binary (2) + (3))))",
@@ -278,6 +278,11 @@ static PREFIXES_THAT_REACH_FAR_RIGHT: [(&str, &str, &str); 38] = [
     (
         "$a = yield $b = 1",
         "(Assign ($a) = (Yield yield (Assign ($b) = (1))))",
+        "same",
+    ),
+    (
+        "print(1) + print(2)",
+        "(Print print (Binary (Paren ( (1) )) + (Print print (Paren ( (2) )))))",
         "same",
     ),
 ];

@@ -3,7 +3,7 @@ use super::sketch::assert_exprs;
 use std::test::Fail;
 
 // Parts of quoted texts.
-static PARTS_OF_TEXTS: [(&str, &str, &str); 18] = [
+static PARTS_OF_TEXTS: [(&str, &str, &str); 20] = [
     ("\"a$b\"", "(Quoted \" a ($b) \")", "same"),
     (
         "\"$a[b]$a[-1]$a[$b]$a[0]\"",
@@ -62,6 +62,8 @@ static PARTS_OF_TEXTS: [(&str, &str, &str); 18] = [
         "(Quoted \" ${ (BraceOffset (a) { (0) }) } \")",
         "none",
     ),
+    ("\"$$a\"", "(Quoted \" $ ($a) \")", "same"),
+    ("b\"a$b\"", "(Quoted b\" a ($b) \")", "same"),
 ];
 
 // Heredocs and nowdocs as operands, and their indentation.

@@ -97,7 +97,7 @@ static SIMPLE_STATEMENTS: [(&str, &str, &str); 30] = [
 ];
 
 // `?>` as a semicolon, `<?=` as `echo`, and inline HTML.
-static TAGS_AND_HTML: [(&str, &str, &str); 12] = [
+static TAGS_AND_HTML: [(&str, &str, &str); 14] = [
     (
         "echo 1 ?>a<?= 2, 3 ?>\nb",
         "(Echo echo (1) ?>)(Html a)(Echo <?= (2) , (3) ?>\n)(Html b)",
@@ -144,6 +144,12 @@ static TAGS_AND_HTML: [(&str, &str, &str); 12] = [
     (
         "while (1): ?>a<?php endwhile ?>\n",
         "(While while ( (1) ) : (Empty ?>) (Html a) endwhile ?>\n)",
+        "same",
+    ),
+    ("1; #[a]\n2;", "(ExprStmt (1) ;)(ExprStmt (2) ;)", "none"),
+    (
+        "1; #a\n2; //b ?>c",
+        "(ExprStmt (1) ;)(ExprStmt (2) ;)(Empty ?>)(Html c)",
         "same",
     ),
 ];
