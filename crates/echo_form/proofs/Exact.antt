@@ -1,7 +1,6 @@
 -- The test of a tree says whether it has the form.
-use Rattle.std.proofs.Common.{◌≡◌, Bool, true, ◌&&◌, ap, ◌∙◌, sym}
-use Rattle.php_tree.specs.Tree.{Forest, File, leaves, file_leaves, file_printed}
-use Rattle.php_tree.specs.declared.token.Token.{Token}
+use Rattle.std.proofs.Common.{◌≡◌, true, ap, ◌∙◌, sym}
+use Rattle.php_tree.specs.Tree.{File, leaves, file_printed}
 use Rattle.echo_form.specs.declared.before.Before.TheVariants.{Nothing}
 use Rattle.echo_form.specs.Form.{IsOfForm}
 use Rattle.echo_form.specs.Before.{behind_all, may_end}

@@ -1,5 +1,5 @@
 -- What fits a row has the grammar, and the other way round.
-use Rattle.std.proofs.Common.{◌≡◌, ℕ, Bool, true, false, not, cond, ◌&&◌, List, [], ◌∷◌, refl, ap, sym, ◌∙◌, subst}
+use Rattle.std.proofs.Common.{◌≡◌, ℕ, Bool, true, false, cond, ◌&&◌, List, [], ◌∷◌, refl, ap, sym, ◌∙◌, subst}
 use Rattle.std.specs.Str.{bytes_eq}
 use Rattle.std.proofs.lemmas.Slice.Eq.{bytes_eq-Decides}
 use Rattle.std.proofs.lemmas.Bool.{and_parts, and_from}
@@ -14,7 +14,7 @@ use Rattle.echo_form.specs.Form.{IsOp, IsTruth, is_truth_word, IsExpr, AreItems,
 use Rattle.echo_form.specs.Form as form
 use Rattle.echo_form.specs.declared.rows.Item.{Item}
 use Rattle.echo_form.specs.declared.rows.Item.TheVariants.{Echo, Int, Text, Truth, Op, Expr, Operand, Mark, Never}
-use Rattle.echo_form.specs.Rows.{row, is_ternary, inside, is_keyword, is_int, is_text, is_label, is_op_kind, is_semi, is_op, is_it, goes_on, after, fits, is_echo, is_statement, are_statements}
+use Rattle.echo_form.specs.Rows.{row, is_ternary, inside, is_keyword, is_int, is_text, is_label, is_op_kind, is_semi, is_op, is_it, goes_on, fits, is_echo, is_statement, are_statements}
 
 -- ---- tokens by their tests
 
@@ -135,9 +135,6 @@ operand k c s e = by_test (is_ternary k) refl e
     by_test : (b : Bool) → is_ternary k ≡ b → fits (cond b (Never ∷ []) (row k)) c ≡ true → IsExpr V74 false k c
     by_test true q h = absurd (never_fits c h)
     by_test false q h = tighten q (s h)
-
-same_after : (w : Item) (ws : List Item) (f g : Forest) → f ≡ g → fits (w ∷ ws) f ≡ true → fits (w ∷ ws) g ≡ true
-same_after w ws f g e h = ap (fits (w ∷ ws)) (sym e) ∙ h
 
 literal : (w : Item) (k : NodeKind) (f : Forest) → ((t : Token) → goes_on w t ≡ false) → ((k : NodeKind) → inside w k ≡ Never ∷ []) → ((t : Token) → is_it w t ≡ true → IsExpr V74 true k (leaf t none)) → fits (w ∷ []) f ≡ true → IsExpr V74 true k f
 literal w k f g i make e =

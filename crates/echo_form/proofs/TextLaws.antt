@@ -1,5 +1,5 @@
 -- Quoted texts, byte by byte; and what may stand behind a token.
-use Rattle.std.proofs.Common.{◌≡◌, ◌≢◌, ℕ, ◌+◌, ◌<◌, Bool, true, false, not, ◌&&◌, ◌==◌, List, [], ◌∷◌, ◌++◌, length, drop, get_or, refl, ◌∙◌, sym}
+use Rattle.std.proofs.Common.{◌≡◌, ◌≢◌, ℕ, ◌+◌, ◌<◌, Bool, true, false, not, ◌&&◌, ◌==◌, List, [], ◌∷◌, ◌++◌, length, drop, get_or, refl}
 use Rattle.std.proofs.lemmas.List.{drop_more}
 use Rattle.php_tree.specs.declared.token.TokenKind.{TokenKind}
 use Rattle.php_tree.specs.declared.token.TokenKind.TheVariants as kind
@@ -44,10 +44,6 @@ goes_on_front kind.Keyword (b ∷ bs) text h = refl
 goes_on_front kind.Label (b ∷ bs) text h = refl
 goes_on_front kind.Int (b ∷ bs) text h = refl
 goes_on_front _ (b ∷ bs) text h = refl
-
--- nothing goes on at the end
-pub goes_on_end : (k : TokenKind) → goes_on k [] ≡ false
-goes_on_end k = refl
 
 -- no token is empty
 pub spelled_filled : (k : TokenKind) → is_spelled k [] ≡ true → ⊥

@@ -1,12 +1,9 @@
 -- The form and PHP's own reading.
-use Rattle.std.proofs.Common.{◌≡◌, ◌≢◌, ◌≤◌, ◌<◌, ℕ, Bool, true, false, List, length, Err, refl, ap, sym, ◌∙◌, subst, arith}
+use Rattle.std.proofs.Common.{◌≡◌, ◌≢◌, ◌≤◌, ℕ, Bool, true, false, List, length, Err, refl, sym, subst, arith}
 use Rattle.php_tree.specs.declared.token.Token.{Token}
-use Rattle.php_tree.specs.declared.version.Version.{Version}
 use Rattle.php_tree.specs.declared.version.Version.TheVariants.{V74}
 use Rattle.php_tree.specs.Tree.{File, file_leaves, file_printed}
 use Rattle.php_tree.specs.Places.{ArePlaced}
-use Rattle.php_lexer.specs.Lexed.{TokensOf, byte_limit}
-use Rattle.php_parser.specs.Files.{ReadsFile}
 use Rattle.php_reading.specs.declared.fault.ReadFault.{ReadFault}
 use Rattle.php_reading.specs.declared.fault.ReadFault.TheVariants.{OpenText, OpenComment, OpenHeredoc, BadByte, TooLong, NotInGrammar, Memory}
 use Rattle.php_reading.specs.Reading.{Answers, IsFault}

@@ -1,4 +1,4 @@
-use Rattle.std.proofs.Common.{◌≡◌, true, refl, ap, sym, ◌∙◌}
+use Rattle.std.proofs.Common.{◌≡◌, refl, ap, sym, ◌∙◌}
 use Rattle.php_tree.specs.Whole.{file}
 use Rattle.echo_form.specs.declared.before.Before.TheVariants.{Nothing}
 use Rattle.echo_form.specs.Before.{behind_all, may_end}
