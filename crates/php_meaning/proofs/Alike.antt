@@ -99,7 +99,7 @@ starting_follows false b w u k l e s h =
 
 -- ---- nodes with the same scripts
 
-children_same : {f g : Forest} → HasScriptsOf f g → children g ≡ children f
+pub children_same : {f g : Forest} → HasScriptsOf f g → children g ≡ children f
 children_same nothing = refl
 children_same (token_before d) = children_same d
 children_same (token_behind d) = children_same d

@@ -26,3 +26,4 @@ pub mod ArrayLemmas
 pub mod CopyLemmas
 pub mod OrderLemmas
 pub mod CellLemmas
+pub mod Silent

@@ -32,3 +32,4 @@ pub mod Classes
 pub mod ValueLaws
 pub mod ArrayLaws
 pub mod CellLaws
+pub mod Asking

@@ -1,4 +1,5 @@
 // Laws of runs.
+ghost use Rattle.php_meaning.specs.Asking.{AsksNowhere};
 ghost use Rattle.php_meaning.specs.SameScripts.{SameScriptsKeepMeaning, NamesAsOneToken, OtherTokensCountNothing};
 ghost use Rattle.std.specs.Prelude.{codes};
 ghost use Rattle.php_tree.specs.declared.version.Version.{Version};
@@ -23,6 +24,11 @@ pub fn marks_only_stop()
 /// A 7.4 run that asks at no point where the versions differ is the 8.3 run of the same trees.
 pub fn same_where_unasked()
     ensures { SameWhereUnasked }
+{}
+
+/// In each version, a run asks at no point where the versions differ, where no node of the files is an operator of numbers.
+pub fn asks_nowhere()
+    ensures { AsksNowhere }
 {}
 
 /// In each version, parentheses round expressions change no run that stays inside the profile.
