@@ -6,3 +6,6 @@ pub mod HashCommentKeeps
 pub mod SplitNameKeeps
 pub mod DollarBraceKeeps
 pub mod TogetherKeeps
+pub mod OwnTexts
+pub mod Drafts
+pub mod Kept

@@ -11,3 +11,4 @@ pub mod SplitName
 pub mod DollarBrace
 pub mod Together
 pub mod Rewritten
+pub mod Keeps

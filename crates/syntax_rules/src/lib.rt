@@ -1,10 +1,11 @@
-//! The rules on syntax: where each stands, what it changes, that the change loses no byte of the source, and for nested
-//! ternaries that it keeps the meaning. A rule is a file here and one in `specs/`.
+//! The rules on syntax: where each stands, what it changes, that the change loses no byte of the source, and that all
+//! together keep the meaning. A rule is a file here and one in `specs/`.
 #![tactic(auto)]
 
 mod brace_offset;
 mod dollar_brace;
 mod hash_comment;
+mod keeps;
 mod nested_ternary;
 mod real_cast;
 mod split_name;
@@ -14,6 +15,7 @@ mod unset_cast;
 pub use brace_offset::brace_offset_is_written;
 pub use dollar_brace::dollar_brace_is_written;
 pub use hash_comment::hash_comment_is_written;
+pub use keeps::rewriting_keeps_meaning;
 pub use nested_ternary::nested_ternary_keeps_meaning;
 pub use real_cast::real_cast_is_written;
 pub use split_name::split_name_is_written;
@@ -31,6 +33,7 @@ mod tests {
         hash_comment_is_written();
         nested_ternary_keeps_meaning();
         real_cast_is_written();
+        rewriting_keeps_meaning();
         split_name_is_written();
         syntax_is_rewritten();
         unset_cast_is_written();
