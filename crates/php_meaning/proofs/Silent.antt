@@ -3,6 +3,7 @@ use Rattle.std.proofs.Common.{◌≡◌, ℕ, zero, suc, ◌+◌, Bool, true, fa
 use Rattle.std.specs.Str.{bytes_eq}
 use Rattle.php_tree.specs.declared.kind.NodeKind.{NodeKind}
 use Rattle.php_tree.specs.declared.kind.NodeKind.TheVariants as kind
+use Rattle.php_tree.specs.declared.version.Version.TheVariants.{V74}
 use Rattle.php_tree.specs.Tree.{Forest, none, leaf, node, count}
 use Rattle.php_meaning.specs.Value.{Value}
 use Rattle.php_meaning.specs.Cause.{Outcome, Gives, Outside, Came, Returns, Throws, outcome_map}
@@ -17,7 +18,7 @@ use Rattle.php_meaning.specs.TextLiterals.{text_literal}
 use Rattle.php_meaning.specs.Rules.{first_text, run_all, echo_all, constant, ternary, short_ternary, reading, rule}
 use Rattle.php_meaning.specs.Statements.{is_statement}
 use Rattle.php_meaning.specs.Run.{begun, Program, Mark, file_at, is_stopped, is_refused, Result, Done, Over, then_do, with_turn, play, own_texts, children, Entry, FileStart, BodyStart, Site, place_in, place_of_file, told, left, starting, unless_stopped, going, step, run_file, unless_refused, enter, first_world, and_start, start_all, is_newer}
-use Rattle.php_meaning.specs.Asking.{may_ask, asks_nothing, AsksNowhere}
+use Rattle.php_meaning.specs.Asking.{may_ask, asks_nothing, AsksNowhere, InsideIsCovered}
 use Rattle.php_meaning.proofs.Unasked.{asked_in, answer_asked}
 
 -- ---- scripts
@@ -209,3 +210,7 @@ asks_nowhere v p marks entry input n a =
     let starts : Bytes → World → Result = λ path. enter (is_newer v) p marks (suc (suc n)) (FileStart path) in
     answer_asked entry (start_all starts p.prepend entry (first_world input n))
     ∙ start_all_quiet starts (λ path. enter_quiet (is_newer v) p marks a (suc (suc n)) (FileStart path)) p.prepend entry (first_world input n)
+
+pub inside_is_covered : InsideIsCovered
+inside_is_covered source written marks a keeps entry input n i =
+    keeps entry input n (record { inside = i; unasked = asks_nowhere V74 source marks entry input n a })

@@ -9,6 +9,7 @@ use Rattle.php_meaning.specs.World.{Bytes}
 use Rattle.php_meaning.specs.Input.{Input}
 use Rattle.php_meaning.specs.Rules.{first_text}
 use Rattle.php_meaning.specs.Run.{Program, Mark, own_texts, run}
+use Rattle.php_meaning.specs.Laws.{KeepsMeaning, KeepsRuns}
 
 -- Whether a node may ask, by its kind and its own tokens: an operator of numbers, on a text without one. The operator `.`
 -- never asks.
@@ -28,3 +29,9 @@ abbrev pub AsksNowhere : Type 0
 AsksNowhere =
     (v : Version) (p : Program) (marks : List Mark) (entry : Bytes) (input : Input) (n : ℕ)
     → All (λ f. IsTrue (asks_nothing f.1)) p.files → (run v p marks entry input n).asked ≡ []
+
+-- What keeps the meaning of such a program keeps each of its runs that stays inside.
+abbrev pub InsideIsCovered : Type 0
+InsideIsCovered =
+    (source written : Program) (marks : List Mark)
+    → All (λ f. IsTrue (asks_nothing f.1)) source.files → KeepsMeaning source marks written → KeepsRuns source marks written

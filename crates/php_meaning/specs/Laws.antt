@@ -77,6 +77,13 @@ KeepsMeaning source marks written =
     → IsCovered (run V74 source marks entry input n)
     → SameRun (run V74 source marks entry input n) (run V83 written [] entry input n)
 
+-- the same wherever the first run stays inside, whatever it asks
+abbrev pub KeepsRuns : Program → List Mark → Program → Type 0
+KeepsRuns source marks written =
+    (entry : Bytes) (input : Input) (n : ℕ)
+    → IsInside (run V74 source marks entry input n).end
+    → SameRun (run V74 source marks entry input n) (run V83 written [] entry input n)
+
 -- ---- parentheses
 
 -- The second forest is the first one with some nodes in parentheses. Trivia, places and kinds of tokens don't count, nor

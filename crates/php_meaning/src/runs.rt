@@ -1,5 +1,5 @@
 // Laws of runs.
-ghost use Rattle.php_meaning.specs.Asking.{AsksNowhere};
+ghost use Rattle.php_meaning.specs.Asking.{AsksNowhere, InsideIsCovered};
 ghost use Rattle.php_meaning.specs.SameScripts.{SameScriptsKeepMeaning, NamesAsOneToken, OtherTokensCountNothing};
 ghost use Rattle.std.specs.Prelude.{codes};
 ghost use Rattle.php_tree.specs.declared.version.Version.{Version};
@@ -29,6 +29,11 @@ pub fn same_where_unasked()
 /// In each version, a run asks at no point where the versions differ, where no node of the files is an operator of numbers.
 pub fn asks_nowhere()
     ensures { AsksNowhere }
+{}
+
+/// What keeps the meaning of files in which no node is an operator of numbers keeps each run that stays inside the profile.
+pub fn inside_is_covered()
+    ensures { InsideIsCovered }
 {}
 
 /// In each version, parentheses round expressions change no run that stays inside the profile.
