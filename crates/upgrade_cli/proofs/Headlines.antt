@@ -7,7 +7,8 @@ use Rattle.php_tree.specs.declared.version.Version.TheVariants.{V74}
 use Rattle.echo_form.specs.Form.{Reads}
 use Rattle.tree_patches.specs.Changes.{edits}
 use Rattle.tree_patches.proofs.Splicing.{spliced_is_rewritten}
-use Rattle.syntax_rules.specs.NestedTernary.{nested_ternary, grouped}
+use Rattle.syntax_rules.specs.NestedTernary.{nested_ternary, grouped, program, all_grouped}
+use Rattle.php_meaning.proofs.Silent.{inside_is_covered}
 use Rattle.syntax_rules.proofs.ParenLemmas.{grouping_keeps_meaning}
 use Rattle.grouped_reading.proofs.Shapes.{statements_tokens}
 use Rattle.echo_reader.proofs.Wired.{form_is_php}
@@ -24,6 +25,7 @@ use Rattle.upgrade_cli.specs.Outcome.{AreRead, target_after, summary, IsDone, Is
 use Rattle.upgrade_cli.specs.Run.{of_stop, status_of, Answers, LinePut}
 use Rattle.upgrade_cli.specs.Headline.{Headline, IsWritten, AreWritten, with_written, by_path, counts}
 use Rattle.upgrade_cli.proofs.Writing.{written_is}
+use Rattle.upgrade_cli.proofs.FormAsksNothing.{files_ask_nothing}
 use Rattle.upgrade_cli.proofs.Counting.{length-edits, none_replaced, have_tokens}
 
 file_written : (bytes : List ℕ) (t : File) → Reads V74 bytes t → IsWritten bytes t (file_printed (grouped t))
@@ -69,7 +71,9 @@ done_headline files before after held held' s d l = record {
   target = d.target ∙ ap Some (target_is files d.trees before d.read);
   written = are_written files d.trees d.read;
   line = line_of held l;
-  means_the_same = grouping_keeps_meaning (by_path files d.trees) None [];
+  means_the_same =
+      inside_is_covered (program (by_path files d.trees) None) (program (all_grouped (by_path files d.trees)) None) []
+      (files_ask_nothing files d.trees d.read) (grouping_keeps_meaning (by_path files d.trees) None []);
 }
   where
     line_of : (h : Option (List ℕ)) → IfSome h (λ old. held' ≡ Some (old ++ summary_line s)) → IfSome h (λ old. held' ≡ Some (old ++ summary_line (counts d.trees)))

@@ -2,3 +2,4 @@ pub mod Counting
 pub mod Headlines
 pub mod Outcomes
 pub mod Writing
+pub mod FormAsksNothing

@@ -6,7 +6,7 @@ use Rattle.php_tree.specs.declared.version.Version.TheVariants.{V74, V83}
 use Rattle.php_reading.specs.Reading.{Reads}
 use Rattle.tree_patches.specs.Changes.{edits}
 use Rattle.php_meaning.specs.World.{Bytes}
-use Rattle.php_meaning.specs.Laws.{KeepsMeaning}
+use Rattle.php_meaning.specs.Laws.{KeepsRuns}
 use Rattle.syntax_rules.specs.NestedTernary.{nested_ternary, grouped, program, all_grouped}
 use Rattle.io_ports.specs.Files as ports
 use Rattle.io_ports.specs.Files.{put_file}
@@ -56,4 +56,4 @@ pub record Headline (files before : List ports.File) (after : Option (List ports
   pub target : after ≡ Some (with_written files trees before)
   pub written : AreWritten files trees
   pub line : IfSome held (λ old. held' ≡ Some (old ++ summary_line (counts trees)))
-  pub means_the_same : KeepsMeaning (program (by_path files trees) None) [] (program (all_grouped (by_path files trees)) None)
+  pub means_the_same : KeepsRuns (program (by_path files trees) None) [] (program (all_grouped (by_path files trees)) None)
