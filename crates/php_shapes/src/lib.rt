@@ -3,4 +3,8 @@
 
 mod laws;
 
-pub use laws::{read_expressions_have_the_shape, read_files_have_the_shape};
+pub use laws::{
+    expressions_with_the_shape_are_read, files_with_the_shape_are_read,
+    leaves_determine_expressions, leaves_determine_files, read_expressions_have_the_shape,
+    read_files_have_the_shape,
+};
