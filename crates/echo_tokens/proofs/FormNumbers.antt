@@ -7,8 +7,8 @@ use Rattle.php_spellings.specs.declared.table.Kind.TheVariants.{Decimal, Octal}
 use Rattle.php_spellings.specs.Bytes.{is_digit}
 use Rattle.php_spellings.specs.Words.{greatest_int, token_of, value_from}
 use Rattle.echo_form.specs.Spelling as form
-use Rattle.echo_tokens.proofs.Decimals.{are_digits}
-use Rattle.echo_tokens.proofs.Bools.{not_it}
+use Rattle.php_relexing.proofs.Decimals.{are_digits}
+use Rattle.php_relexing.proofs.Bools.{not_it}
 
 -- ---- the digits
 

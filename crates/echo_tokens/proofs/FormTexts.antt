@@ -6,7 +6,7 @@ use Rattle.php_spellings.specs.declared.table.State.TheVariants.{First, Plain, E
 use Rattle.php_spellings.specs.declared.table.Until.TheVariants.{Simple}
 use Rattle.php_lexer.specs.Scan.{until_len}
 use Rattle.echo_form.specs.Spelling as form
-use Rattle.echo_tokens.proofs.Bools.{not_it}
+use Rattle.php_relexing.proofs.Bools.{not_it}
 
 -- behind a backslash, or not
 abbrev state : Bool → State

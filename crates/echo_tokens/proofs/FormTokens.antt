@@ -17,17 +17,17 @@ use Rattle.php_lexer.specs.Scan.{until_len}
 use Rattle.php_lexer.specs.Lexed.{Lexeme, Lexed, lexeme}
 use Rattle.php_relexing.proofs.Written.{closing_is, opening_is}
 use Rattle.echo_form.specs.Spelling as form
-use Rattle.echo_tokens.proofs.Stops.{is_stop}
-use Rattle.echo_tokens.proofs.Labelled.{word_is}
-use Rattle.echo_tokens.proofs.Decimals.{decimal_is, zero_is}
-use Rattle.echo_tokens.proofs.Marks.{comma_is, semicolon_is, question_is, colon_is, text_is}
-use Rattle.echo_tokens.proofs.Lexing.{plain, token_before}
-use Rattle.echo_tokens.proofs.LowerCase.{same_as_one, keyword_lower}
+use Rattle.php_relexing.proofs.Stops.{is_stop}
+use Rattle.php_relexing.proofs.Labelled.{word_is}
+use Rattle.php_relexing.proofs.Decimals.{decimal_is, zero_is}
+use Rattle.php_relexing.proofs.Marks.{comma_is, semicolon_is, question_is, colon_is, text_is}
+use Rattle.php_relexing.proofs.Lexing.{plain, token_before}
+use Rattle.php_relexing.proofs.LowerCase.{same_as_one, keyword_lower}
 use Rattle.echo_tokens.proofs.FormWords.{lower_at, label_letter, label_rest}
 use Rattle.echo_tokens.proofs.FormNumbers.{decimal_digits, first_digit, digits_are, no_zero, decimal_kind, zero_kind}
 use Rattle.echo_tokens.proofs.FormTexts.{text_len}
 use Rattle.echo_tokens.proofs.Starts.{digit_space, letter_space, is_calm}
-use Rattle.echo_tokens.proofs.Bools.{not_it}
+use Rattle.php_relexing.proofs.Bools.{not_it}
 
 -- ---- tokens whose first trivia are read already
 

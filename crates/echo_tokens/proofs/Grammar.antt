@@ -12,8 +12,8 @@ use Rattle.php_lexer.specs.Lexed.{Lexed, ends, lexeme}
 use Rattle.echo_form.specs.Spelling as form
 use Rattle.echo_form.specs.Form.{IsToken, IsEnd, AreTokens, IsOp, IsTruth, IsExpr, AreItems, AreStatements}
 use Rattle.echo_form.specs.Form as grammar
-use Rattle.echo_tokens.proofs.Stops.{is_stop}
-use Rattle.echo_tokens.proofs.Lexing.{plain, spaced}
+use Rattle.php_relexing.proofs.Stops.{is_stop}
+use Rattle.php_relexing.proofs.Lexing.{plain, spaced}
 use Rattle.echo_tokens.proofs.FormWords.{word_is, truth_is}
 use Rattle.echo_tokens.proofs.FormTokens.{AreLexed, close_lexed, comma_lexed, semi_lexed, open_lexed, question_lexed, colon_lexed, quoted_lexed, number_lexed, echo_lexed, true_lexed, false_lexed}
 use Rattle.echo_tokens.proofs.Neighbours.{split, spelled_as, label_of, IsOpening, number, text, constant, enclosed, opened, IsClosing, close, question, colon, comma, semi, closed, semi_text, blank_first}

@@ -14,10 +14,10 @@ use Rattle.echo_form.specs.Form.{IsToken, IsEnd, AreTokens, without_lead, AreOpe
 use Rattle.echo_form.specs.Form as grammar
 use Rattle.echo_form.proofs.Files.{file_bytes}
 use Rattle.echo_tokens.specs.Tokens.{FormTokensArePhpTokens, FormTokensAtAnyDepth}
-use Rattle.echo_tokens.proofs.Spaces.{all_space}
-use Rattle.echo_tokens.proofs.Lexing.{plain}
+use Rattle.php_relexing.proofs.Spaces.{all_space}
+use Rattle.php_relexing.proofs.Lexing.{plain}
 use Rattle.echo_tokens.proofs.Neighbours.{split, spelled_as}
-use Rattle.echo_tokens.proofs.Tags.{tagged, opened}
+use Rattle.php_relexing.proofs.Tags.{tagged, opened}
 use Rattle.echo_tokens.proofs.FormWords.{blank_is, blanks_are, word_is}
 use Rattle.echo_tokens.proofs.FormTokens.{AreLexed, led_by}
 use Rattle.echo_tokens.proofs.Grammar.{onto, onto_is, echo_before, statements_lexed, end_lexed}

@@ -1,13 +1,3 @@
-pub mod Bools
-pub mod Listed
-pub mod Spaces
-pub mod Stops
-pub mod Labelled
-pub mod Decimals
-pub mod Marks
-pub mod Lexing
-pub mod Tags
-pub mod LowerCase
 pub mod FormWords
 pub mod FormNumbers
 pub mod FormTexts

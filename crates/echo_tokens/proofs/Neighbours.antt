@@ -12,8 +12,8 @@ use Rattle.php_lexer.specs.Scan.{until_len}
 use Rattle.php_spellings.specs.Bytes.{lower, is_empty, begins}
 use Rattle.echo_form.specs.Spelling as form
 use Rattle.echo_form.specs.Form.{IsToken, AreTokens, IsOp, IsTruth}
-use Rattle.echo_tokens.proofs.Spaces.{all_space}
-use Rattle.echo_tokens.proofs.Stops.{is_stop}
+use Rattle.php_relexing.proofs.Spaces.{all_space}
+use Rattle.php_relexing.proofs.Stops.{is_stop}
 use Rattle.echo_tokens.proofs.FormWords.{blanks_are, label_letter, lower_at, truth_is}
 use Rattle.echo_tokens.proofs.FormNumbers.{decimal_digits, first_digit}
 use Rattle.echo_tokens.proofs.Starts.{Start, digit, quote, bracket, truth, falsity, is_calm, calm_front, uncast_front, word_front, stop_front}

@@ -9,9 +9,9 @@ use Rattle.php_spellings.specs.Bytes.{is_digit, is_letter, is_space, is_blank_by
 use Rattle.php_lexer.specs.Tails.{begins_type}
 use Rattle.php_lexer.specs.Scan.{until_len}
 use Rattle.echo_form.specs.Spelling as form
-use Rattle.echo_tokens.proofs.Listed.{is_among, each}
-use Rattle.echo_tokens.proofs.Spaces.{spaces, among_spaces}
-use Rattle.echo_tokens.proofs.Stops.{is_stop}
+use Rattle.php_relexing.proofs.Listed.{is_among, each}
+use Rattle.php_relexing.proofs.Spaces.{spaces, among_spaces}
+use Rattle.php_relexing.proofs.Stops.{is_stop}
 use Rattle.echo_tokens.proofs.FormWords.{blank_is, letter_is}
 
 -- The front of a text that an expression may begin with.

@@ -3,3 +3,13 @@ pub mod Near
 pub mod Inserted
 pub mod Spelling
 pub mod Written
+pub mod Bools
+pub mod Listed
+pub mod Spaces
+pub mod Stops
+pub mod Labelled
+pub mod Decimals
+pub mod Marks
+pub mod Lexing
+pub mod Tags
+pub mod LowerCase

@@ -14,8 +14,8 @@ use Rattle.php_lexer.specs.Modes.{code, IsLongest}
 use Rattle.php_lexer.specs.Scan.{scan, scan_by, shape_len, add_to, or_else}
 use Rattle.php_lexer.proofs.Longest.{scanned_longest}
 use Rattle.php_lexer.proofs.Dispatch.{other_head, digit_scan, older_scan, nameless_scan}
-use Rattle.echo_tokens.proofs.Listed.{each}
-use Rattle.echo_tokens.proofs.Stops.{stops, is_stop, decimal_stops, float_stops}
+use Rattle.php_relexing.proofs.Listed.{each}
+use Rattle.php_relexing.proofs.Stops.{stops, is_stop, decimal_stops, float_stops}
 
 -- behind a digit, or behind a `_`
 abbrev pub behind_digit : Bool → Spot

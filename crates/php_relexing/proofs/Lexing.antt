@@ -10,7 +10,7 @@ use Rattle.php_spellings.specs.Bytes.{is_space, begins}
 use Rattle.php_spellings.specs.Words.{token_of}
 use Rattle.php_lexer.specs.Modes.{code, stay, code_turn, IsLongest}
 use Rattle.php_lexer.specs.Lexed.{Lexeme, Stack, Lexed, trivia, token, turned_by, after}
-use Rattle.echo_tokens.proofs.Spaces.{all_space, space_is}
+use Rattle.php_relexing.proofs.Spaces.{all_space, space_is}
 
 -- code outside of any text and brace
 abbrev pub plain : Stack

@@ -10,10 +10,10 @@ use Rattle.php_lexer.specs.Lexed.{Lexeme, Lexed, start, trivia}
 use Rattle.php_lexer.specs.Scan.{scan}
 use Rattle.php_lexer.proofs.Longest.{scanned_longest}
 use Rattle.php_lexer.proofs.Dispatch.{other_head}
-use Rattle.echo_tokens.proofs.Listed.{each}
-use Rattle.echo_tokens.proofs.Spaces.{all_space, spaces, among_spaces}
-use Rattle.echo_tokens.proofs.Lexing.{plain, spaced}
-use Rattle.echo_tokens.proofs.Bools.{and_false}
+use Rattle.php_relexing.proofs.Listed.{each}
+use Rattle.php_relexing.proofs.Spaces.{all_space, spaces, among_spaces}
+use Rattle.php_relexing.proofs.Lexing.{plain, spaced}
+use Rattle.php_relexing.proofs.Bools.{and_false}
 
 -- the bytes of a tag before others, with the three letters of `php` in any case
 abbrev pub tagged : ℕ → ℕ → ℕ → List ℕ → List ℕ

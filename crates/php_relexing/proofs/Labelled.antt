@@ -16,7 +16,7 @@ use Rattle.php_lexer.specs.Modes.{code, IsLongest}
 use Rattle.php_lexer.specs.Scan.{scan, run_len, shape_len, behind, tail_len, longer}
 use Rattle.php_lexer.proofs.Longest.{scanned_longest}
 use Rattle.php_lexer.proofs.Dispatch.{plain_scan, older_scan, newer_scan}
-use Rattle.echo_tokens.proofs.Stops.{is_stop, label_stops, name_stops}
+use Rattle.php_relexing.proofs.Stops.{is_stop, label_stops, name_stops}
 
 -- each byte is one of a label
 abbrev pub all_label : List ℕ → Bool
