@@ -9,7 +9,8 @@ use Rattle.php_spellings.specs.Bytes.{is_digit, is_letter, is_space, is_blank_by
 use Rattle.php_lexer.specs.Tails.{begins_type}
 use Rattle.php_lexer.specs.Scan.{until_len}
 use Rattle.echo_form.specs.Spelling as form
-use Rattle.php_relexing.proofs.Listed.{is_among, each}
+use Rattle.php_relexing.specs.Alike.{is_among}
+use Rattle.php_relexing.proofs.Listed.{each}
 use Rattle.php_relexing.proofs.Spaces.{spaces, among_spaces}
 use Rattle.php_relexing.proofs.Stops.{is_stop}
 use Rattle.echo_tokens.proofs.FormWords.{blank_is, letter_is}

@@ -13,3 +13,6 @@ pub mod Marks
 pub mod Lexing
 pub mod Tags
 pub mod LowerCase
+pub mod Numbers
+pub mod Crossing
+pub mod Staying

@@ -62,7 +62,7 @@ abbrev pub stops_rows : ℕ → List Row → Bool
 stops_rows c [] = true
 stops_rows c (row ∷ rows) = stops_row c row && stops_rows c rows
 
-fst : (x y : Bool) → (x && y) ≡ true → x ≡ true
+pub fst : (x y : Bool) → (x && y) ≡ true → x ≡ true
 fst true y e = refl
 fst false y e = absurd cc
 
@@ -74,11 +74,11 @@ not_not : (x : Bool) → not x ≡ true → x ≡ false
 not_not true e = absurd cc
 not_not false e = refl
 
-or_left : (x y : Bool) → (x || y) ≡ false → x ≡ false
+pub or_left : (x y : Bool) → (x || y) ≡ false → x ≡ false
 or_left true y e = absurd cc
 or_left false y e = refl
 
-or_right : (x y : Bool) → (x || y) ≡ false → y ≡ false
+pub or_right : (x y : Bool) → (x || y) ≡ false → y ≡ false
 or_right true y e = absurd cc
 or_right false y e = e
 
@@ -100,7 +100,7 @@ filled : (a more : List ℕ) (c : ℕ) → is_empty (a ++ c ∷ more) ≡ false
 filled [] more c = refl
 filled (b ∷ a) more c = refl
 
-some_cross : (r : Run) (label : List ℕ) (c : ℕ) → ((s : State) (bs : List ℕ) → goes r label s c bs ≡ false) → (s : State) (a more rest : List ℕ) → some_run r label s (a ++ c ∷ more) rest ≡ false
+pub some_cross : (r : Run) (label : List ℕ) (c : ℕ) → ((s : State) (bs : List ℕ) → goes r label s c bs ≡ false) → (s : State) (a more rest : List ℕ) → some_run r label s (a ++ c ∷ more) rest ≡ false
 some_cross r label c h s a more rest = rw (run_cross r label c h s a more rest) (and_false (not (is_empty (a ++ c ∷ more))))
 
 tail_cross : (label : List ℕ) (c : ℕ) (tail : Tail) → is_bracket c ≡ true → stops_tail tail ≡ true → (a more rest : List ℕ) → is_tail label tail (a ++ c ∷ more) rest ≡ false
@@ -134,7 +134,7 @@ led_cross label c tail e h (x ∷ w) n (b ∷ a) more rest = rw (led_cross label
 
 -- ---- rows that begin far, or with a letter
 
-far_lower : (x b : ℕ) → is_far x ≡ true → is_far b ≡ false → nat_eq x (lower b) ≡ false
+pub far_lower : (x b : ℕ) → is_far x ≡ true → is_far b ≡ false → nat_eq x (lower b) ≡ false
 far_lower x b p q = grind (arith, nat_tests)
 
 -- the text goes on behind its first byte with none of the words
@@ -150,14 +150,14 @@ lettered_no label tail x y w b z t rest h (inr leaves) = both (nat_eq x (lower b
     both false p = refl
     both true p = let e : nat_eq y (lower z) ≡ false = grind (arith, nat_tests) in rw e refl
 
-row_lettered : (label : List ℕ) (tail : Tail) (x : ℕ) (w : List ℕ) (b : ℕ) (t rest : List ℕ) → is_lettered (x ∷ w) ≡ true → GoesOn b t rest → led lower (x ∷ w) (is_tail label tail) (b ∷ t) rest ≡ false
+pub row_lettered : (label : List ℕ) (tail : Tail) (x : ℕ) (w : List ℕ) (b : ℕ) (t rest : List ℕ) → is_lettered (x ∷ w) ≡ true → GoesOn b t rest → led lower (x ∷ w) (is_tail label tail) (b ∷ t) rest ≡ false
 row_lettered label tail x [] b t rest h g = absurd cc
 row_lettered label tail x (y ∷ w) b [] rest h g = and_false (nat_eq x (lower b))
 row_lettered label tail x (y ∷ w) b (z ∷ t) rest h g = lettered_no label tail x y w b z t rest h g
 
 -- ---- rows over a bracket
 
-spread : (b : ℕ) (a : List ℕ) (c : ℕ) (more rest : List ℕ) → is_near b a ≡ true → GoesOn b (a ++ c ∷ more) rest
+pub spread : (b : ℕ) (a : List ℕ) (c : ℕ) (more rest : List ℕ) → is_near b a ≡ true → GoesOn b (a ++ c ∷ more) rest
 spread b [] c more rest near = inl (by_words (begins_words b) refl (snd (not (is_far b)) (not (begins_words b) || false) near))
   where
     by_words : (t : Bool) → begins_words b ≡ t → (not t || false) ≡ true → t ≡ false

@@ -11,7 +11,7 @@ use Rattle.php_spellings.specs.declared.table.Tail.TheVariants.{SomeOf}
 use Rattle.php_spellings.specs.Bytes.{is_space, is_letter, lower, begins}
 use Rattle.php_lexer.specs.Modes.{code, IsLongest}
 use Rattle.php_lexer.specs.Scan.{scan, run_len, add_to, some_len, behind, tail_len, longer}
-use Rattle.php_relexing.proofs.Listed.{is_among}
+use Rattle.php_relexing.specs.Alike.{is_among}
 use Rattle.php_lexer.proofs.Longest.{scanned_longest}
 use Rattle.php_lexer.proofs.Dispatch.{space_scan, older_scan, nameless_scan}
 

@@ -7,7 +7,8 @@ use Rattle.php_spellings.specs.declared.table.Spot.TheVariants.{Whole, FirstLabe
 use Rattle.php_spellings.specs.Bytes.{is_label_byte, begins}
 use Rattle.php_lexer.specs.Shapes.{step}
 use Rattle.php_lexer.specs.Scan.{run_len, shape_len}
-use Rattle.php_relexing.proofs.Listed.{is_among, each}
+use Rattle.php_relexing.specs.Alike.{is_among}
+use Rattle.php_relexing.proofs.Listed.{each}
 
 -- white space, a single quote, brackets and marks
 abbrev pub stops : List ℕ

@@ -3,6 +3,7 @@
 
 ghost use Rattle.php_relexing.specs.Tiles.{BracketComesIn};
 ghost use Rattle.php_relexing.specs.Spelled.{TilesAreTokens};
+ghost use Rattle.php_relexing.specs.Alike.{NearTokensStay};
 
 /// A token that begins with a bracket may come in behind any tokens that look no further than the
 /// byte behind them: all others stay the longest of their places.
@@ -16,6 +17,11 @@ pub fn tiles_are_tokens()
     ensures { TilesAreTokens }
 {}
 
+/// A token of 7.4 that looks near stays where the bytes behind it go on alike.
+pub fn near_tokens_stay()
+    ensures { NearTokensStay }
+{}
+
 #[cfg(test)]
 mod tests {
     use super::*;
@@ -24,5 +30,6 @@ mod tests {
     fn laws_can_be_called() {
         a_bracket_comes_in();
         tiles_are_tokens();
+        near_tokens_stay();
     }
 }
