@@ -16,3 +16,7 @@ pub mod LowerCase
 pub mod Numbers
 pub mod Crossing
 pub mod Staying
+pub mod Scanned
+pub mod Newer
+pub mod NameRows
+pub mod Names

@@ -1,3 +1,4 @@
 pub mod Tiles
 pub mod Spelled
 pub mod Alike
+pub mod Newer

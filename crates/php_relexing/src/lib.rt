@@ -4,6 +4,7 @@
 ghost use Rattle.php_relexing.specs.Tiles.{BracketComesIn};
 ghost use Rattle.php_relexing.specs.Spelled.{TilesAreTokens};
 ghost use Rattle.php_relexing.specs.Alike.{NearTokensStay};
+ghost use Rattle.php_relexing.specs.Newer.{SameInNewerCode, SameInNewerTexts, NamesAreTokens};
 
 /// A token that begins with a bracket may come in behind any tokens that look no further than the
 /// byte behind them: all others stay the longest of their places.
@@ -22,6 +23,22 @@ pub fn near_tokens_stay()
     ensures { NearTokensStay }
 {}
 
+/// A token of code of 7.4 is the same in 8.3 where neither `#` nor a name with `\` begins.
+pub fn same_in_newer_code()
+    ensures { SameInNewerCode }
+{}
+
+/// A token of inline HTML, of a quoted text or of a simple offset is the same in 8.3.
+pub fn same_in_newer_texts()
+    ensures { SameInNewerTexts }
+{}
+
+/// Labels with `\` between them, maybe with one in front, are one token of 8.3, where no name goes
+/// on behind them.
+pub fn names_are_tokens()
+    ensures { NamesAreTokens }
+{}
+
 #[cfg(test)]
 mod tests {
     use super::*;
@@ -31,5 +48,8 @@ mod tests {
         a_bracket_comes_in();
         tiles_are_tokens();
         near_tokens_stay();
+        same_in_newer_code();
+        same_in_newer_texts();
+        names_are_tokens();
     }
 }

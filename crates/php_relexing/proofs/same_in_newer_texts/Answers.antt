@@ -1,0 +1,5 @@
+use Rattle.php_relexing.proofs.Newer.{same_in_newer_texts}
+use Rattle.php_relexing.proofs.same_in_newer_texts.Goals as goal
+
+pub returns : goal.returns
+returns c = same_in_newer_texts
