@@ -20,3 +20,4 @@ pub mod Scanned
 pub mod Newer
 pub mod NameRows
 pub mod Names
+pub mod Comments

@@ -10,6 +10,13 @@ use Rattle.php_lexer.proofs.Single.{same_kind, same_length, clash}
 abbrev pub found : Kind → ℕ → Option (Kind × ℕ)
 found kind n = Some (kind, n)
 
+abbrev length_found : Option (Kind × ℕ) → ℕ
+length_found None = 0
+length_found (Some x) = x.1
+
+pub found_length : (k j : Kind) (m n : ℕ) → found k m ≡ found j n → m ≡ n
+found_length k j m n e = ap length_found e
+
 scan_by : (v : Version) (m : Mode) (bytes : List ℕ) (kind : Kind) (n : ℕ) (r : Option (Kind × ℕ)) → scan v m bytes ≡ r → IsLongest v m bytes kind n → r ≡ found kind n
 scan_by v m bytes kind n None e h = clash h.is (scanned_none v m bytes None e n h.within)
 scan_by v m bytes kind n (Some x) e h =

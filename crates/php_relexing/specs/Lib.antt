@@ -2,3 +2,4 @@ pub mod Tiles
 pub mod Spelled
 pub mod Alike
 pub mod Newer
+pub mod Comments

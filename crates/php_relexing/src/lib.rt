@@ -4,6 +4,7 @@
 ghost use Rattle.php_relexing.specs.Tiles.{BracketComesIn};
 ghost use Rattle.php_relexing.specs.Spelled.{TilesAreTokens};
 ghost use Rattle.php_relexing.specs.Alike.{NearTokensStay};
+ghost use Rattle.php_relexing.specs.Comments.{SlashCommentsStay, HashCommentsStay, SpacedCommentsStay};
 ghost use Rattle.php_relexing.specs.Newer.{SameInNewerCode, SameInNewerTexts, NamesAreTokens};
 
 /// A token that begins with a bracket may come in behind any tokens that look no further than the
@@ -39,6 +40,21 @@ pub fn names_are_tokens()
     ensures { NamesAreTokens }
 {}
 
+/// A comment with `//` stays where the line ends behind it, in both versions.
+pub fn slash_comments_stay()
+    ensures { SlashCommentsStay }
+{}
+
+/// A comment with `#` of 7.4 is one of 8.3 where the line ends behind it and it begins no `#[`.
+pub fn hash_comments_stay()
+    ensures { HashCommentsStay }
+{}
+
+/// A comment with `#` of 7.4 is one of 8.3 with a space behind the `#`.
+pub fn spaced_comments_stay()
+    ensures { SpacedCommentsStay }
+{}
+
 #[cfg(test)]
 mod tests {
     use super::*;
@@ -51,5 +67,8 @@ mod tests {
         same_in_newer_code();
         same_in_newer_texts();
         names_are_tokens();
+        slash_comments_stay();
+        hash_comments_stay();
+        spaced_comments_stay();
     }
 }
