@@ -21,3 +21,5 @@ pub mod Newer
 pub mod NameRows
 pub mod Names
 pub mod Comments
+pub mod Closing
+pub mod Closed

@@ -2,4 +2,5 @@ pub mod Tiles
 pub mod Spelled
 pub mod Alike
 pub mod Newer
+pub mod Closed
 pub mod Comments

@@ -6,6 +6,7 @@ ghost use Rattle.php_relexing.specs.Spelled.{TilesAreTokens};
 ghost use Rattle.php_relexing.specs.Alike.{NearTokensStay};
 ghost use Rattle.php_relexing.specs.Comments.{SlashCommentsStay, HashCommentsStay, SpacedCommentsStay};
 ghost use Rattle.php_relexing.specs.Newer.{SameInNewerCode, SameInNewerTexts, NamesAreTokens};
+ghost use Rattle.php_relexing.specs.Closed.{QuotedTextsStay, BinaryTextsStay, BlockCommentsStay, CastsStay};
 
 /// A token that begins with a bracket may come in behind any tokens that look no further than the
 /// byte behind them: all others stay the longest of their places.
@@ -55,6 +56,26 @@ pub fn spaced_comments_stay()
     ensures { SpacedCommentsStay }
 {}
 
+/// A text in quotes stays whatever follows it, in both versions.
+pub fn quoted_texts_stay()
+    ensures { QuotedTextsStay }
+{}
+
+/// A text in quotes with `b` in front stays whatever follows it, in both versions.
+pub fn binary_texts_stay()
+    ensures { BinaryTextsStay }
+{}
+
+/// A comment between `/*` and `*/` stays whatever follows it, in both versions.
+pub fn block_comments_stay()
+    ensures { BlockCommentsStay }
+{}
+
+/// A cast stays whatever follows it, in both versions.
+pub fn casts_stay()
+    ensures { CastsStay }
+{}
+
 #[cfg(test)]
 mod tests {
     use super::*;
@@ -70,5 +91,9 @@ mod tests {
         slash_comments_stay();
         hash_comments_stay();
         spaced_comments_stay();
+        quoted_texts_stay();
+        binary_texts_stay();
+        block_comments_stay();
+        casts_stay();
     }
 }
