@@ -1,5 +1,5 @@
 -- No near token of 7.4 goes over a break.
-use Rattle.std.proofs.Common.{◌≡◌, ℕ, Bool, true, false, not, nat_eq, ◌&&◌, ◌||◌, List, [], ◌∷◌, ◌++◌, None, refl, arith}
+use Rattle.std.proofs.Common.{◌≡◌, ℕ, Bool, true, false, not, nat_eq, ◌&&◌, ◌||◌, List, [], ◌∷◌, ◌++◌, ◌⊎◌, inl, inr, None, refl, arith}
 use Rattle.std.proofs.lemmas.Bool.{and_parts}
 use Rattle.std.proofs.lemmas.Bool.Decides.{nat_tests}
 use Rattle.php_tree.specs.declared.version.Version.TheVariants.{V74}
@@ -9,7 +9,7 @@ use Rattle.php_spellings.specs.declared.table.State.TheVariants.{First, Plain, E
 use Rattle.php_spellings.specs.declared.table.Run.TheVariants.{Spaces, Labels, Line, HashLine, Html, Body}
 use Rattle.php_spellings.specs.declared.table.Tail.{Tail}
 use Rattle.php_spellings.specs.declared.table.Tail.TheVariants.{When, AnyRun, SomeOf, UpTo, Shaped, AnyWord, BracedName, EndLine, NowdocRest}
-use Rattle.php_spellings.specs.Bytes.{is_empty, is_space, is_label_byte, is_letter, lower}
+use Rattle.php_spellings.specs.Bytes.{is_empty, begins_by, is_space, is_label_byte, is_letter, lower}
 use Rattle.php_lexer.specs.Heredocs.{led}
 use Rattle.php_lexer.specs.Tails.{goes}
 use Rattle.php_lexer.specs.Rules.{Row, rule, is_tail, kind_by}
@@ -18,7 +18,7 @@ use Rattle.php_relexing.specs.Tiles.{is_far, is_near}
 use Rattle.php_relexing.specs.Alike.{breaks, is_break, is_tight}
 use Rattle.php_relexing.proofs.Bools.{not_it, and_false}
 use Rattle.php_relexing.proofs.Listed.{every_is}
-use Rattle.php_relexing.proofs.Near.{GoesOn, has, is_lettered, row_lettered, some_cross, or_left, or_right}
+use Rattle.php_relexing.proofs.Near.{GoesOn, far_lower, has, is_lettered, row_lettered, some_cross, or_left, or_right}
 use Rattle.php_relexing.proofs.Numbers.{is_number, number_cross}
 
 -- ---- which rows go over no break
@@ -45,13 +45,14 @@ abbrev is_blank_tail : Tail → Bool
 is_blank_tail (SomeOf Spaces s) = true
 is_blank_tail _ = false
 
--- the first bytes of the rows that a tight token is of none of
-abbrev is_loose : ℕ → Bool
-is_loose x = is_far x || nat_eq x 63
+-- whether the word begins with `?>`
+abbrev is_closing : List ℕ → Bool
+is_closing [] = false
+is_closing (x ∷ w) = nat_eq x 63 && begins_by 62 w
 
 abbrev stops_row : ℕ → Row → Bool
 stops_row c (rule kind [] tail) = is_blank_tail tail || stops_tail tail
-stops_row c (rule kind (x ∷ w) tail) = is_loose x || (is_lettered (x ∷ w) || not (has c w) && stops_tail tail)
+stops_row c (rule kind (x ∷ w) tail) = is_far x || (is_lettered (x ∷ w) || (is_closing (x ∷ w) || not (has c w) && stops_tail tail))
 
 abbrev stops_rows : List Row → ℕ → Bool
 stops_rows [] c = true
@@ -105,8 +106,28 @@ led_cross c tail e h (x ∷ w) n (b ∷ a) more rest = rw (led_cross c tail e h 
 
 -- ---- rows
 
-loose_lower : (x b : ℕ) → is_loose x ≡ true → is_loose b ≡ false → nat_eq x (lower b) ≡ false
-loose_lower x b p q = grind (arith, nat_tests)
+-- what begins so is no `?>`
+abbrev pub IsOpen : ℕ → List ℕ → Type 0
+IsOpen b bs = (nat_eq b 63 ≡ false) ⊎ (begins_by 62 bs ≡ false)
+
+closing_other : (x : ℕ) (w : List ℕ) (b : ℕ) (t : List ℕ) (tail : Tail) (rest : List ℕ) → is_closing (x ∷ w) ≡ true → nat_eq b 63 ≡ false → led lower (x ∷ w) (is_tail [] tail) (b ∷ t) rest ≡ false
+closing_other x w b t tail rest h e =
+    let is = and_parts (nat_eq x 63) (begins_by 62 w) h in
+    let first = is.0 in
+    let other : nat_eq x (lower b) ≡ false = grind (arith, nat_tests) in
+    rw other refl
+
+closing_second : (x : ℕ) (w : List ℕ) (b : ℕ) (t : List ℕ) (tail : Tail) (rest : List ℕ) → is_closing (x ∷ w) ≡ true → begins_by 62 t ≡ false → led lower (x ∷ w) (is_tail [] tail) (b ∷ t) rest ≡ false
+closing_second x [] b t tail rest h e = absurd (let is = (and_parts (nat_eq x 63) false h).1 in cc)
+closing_second x (y ∷ w) b [] tail rest h e = and_false (nat_eq x (lower b))
+closing_second x (y ∷ w) b (z ∷ t) tail rest h e =
+    let is = (and_parts (nat_eq x 63) (nat_eq y 62) h).1 in
+    let other : nat_eq y (lower z) ≡ false = grind (arith, nat_tests) in
+    rw other (and_false (nat_eq x (lower b)))
+
+row_closing : (x : ℕ) (w : List ℕ) (b : ℕ) (t : List ℕ) (tail : Tail) (rest : List ℕ) → is_closing (x ∷ w) ≡ true → IsOpen b t → led lower (x ∷ w) (is_tail [] tail) (b ∷ t) rest ≡ false
+row_closing x w b t tail rest h (inl e) = closing_other x w b t tail rest h e
+row_closing x w b t tail rest h (inr e) = closing_second x w b t tail rest h e
 
 first_cross : (c : ℕ) (tail : Tail) → is_break c ≡ true → (is_blank_tail tail || stops_tail tail) ≡ true → (b : ℕ) (a more rest : List ℕ) → is_space b ≡ false → is_tail [] tail (b ∷ a ++ c ∷ more) rest ≡ false
 first_cross c (SomeOf Spaces s) e h b a more rest apart = rw apart refl
@@ -124,45 +145,53 @@ first_cross c BracedName e h b a more rest apart = absurd cc
 first_cross c EndLine e h b a more rest apart = absurd cc
 first_cross c NowdocRest e h b a more rest apart = absurd cc
 
--- A token that is near, no white space and none with `?`.
+-- A token that is near, no white space and no `?>`.
 pub record IsTight (b : ℕ) (bs : List ℕ) : Type 0 where
   pub near : is_near b bs ≡ true
-  pub tight : is_loose b ≡ false
+  pub open_ : IsOpen b bs
   pub solid : is_space b ≡ false
 
-loose_by : (f s q : Bool) → (not f && true) ≡ true → (s || q) ≡ false → ((f || q) ≡ false) × (s ≡ false)
-loose_by true s q h e = absurd cc
-loose_by false true q h e = absurd cc
-loose_by false false true h e = absurd cc
-loose_by false false false h e = (refl, refl)
-
-not_far : (f w : Bool) → (not f && w) ≡ true → (not f && true) ≡ true
-not_far true w h = absurd cc
-not_far false w h = refl
+open_by : (s q m : Bool) → (s || q && m) ≡ false → ((q ≡ false) ⊎ (m ≡ false)) × (s ≡ false)
+open_by true q m e = absurd cc
+open_by false true true e = absurd cc
+open_by false true false e = (inr refl, refl)
+open_by false false m e = (inl refl, refl)
 
 pub tight_is : (b : ℕ) (bs : List ℕ) → is_tight b bs ≡ true → IsTight b bs
 tight_is b bs h =
-    let (near, other) = and_parts (is_near b bs) (not (is_space b || nat_eq b 63)) h in
-    let (tight, solid) = loose_by (is_far b) (is_space b) (nat_eq b 63) (not_far (is_far b) _ near) (not_it (is_space b || nat_eq b 63) other) in
-    record { near = near; tight = tight; solid = solid }
+    let (near, other) = and_parts (is_near b bs) (not (is_space b || nat_eq b 63 && begins_by 62 bs)) h in
+    let (off, solid) = open_by (is_space b) (nat_eq b 63) (begins_by 62 bs) (not_it (is_space b || nat_eq b 63 && begins_by 62 bs) other) in
+    record { near = near; open_ = off; solid = solid }
 
-row_cross : (c : ℕ) (kind : Kind) (w : List ℕ) (tail : Tail) → is_break c ≡ true → stops_row c (rule kind w tail) ≡ true → (b : ℕ) (a more rest : List ℕ) → is_loose b ≡ false → is_space b ≡ false → GoesOn b (a ++ c ∷ more) rest → led lower w (is_tail [] tail) (b ∷ a ++ c ∷ more) rest ≡ false
-row_cross c kind [] tail e h b a more rest tight solid goes = first_cross c tail e h b a more rest solid
-row_cross c kind (x ∷ w) tail e h b a more rest tight solid goes = by_loose (is_loose x) refl (is_lettered (x ∷ w)) refl h
+-- the first bytes of a text, which are all that is asked of it
+pub record Starts (b : ℕ) (bs : List ℕ) (rest : List ℕ) : Type 0 where
+  pub far : is_far b ≡ false
+  pub solid : is_space b ≡ false
+  pub off : IsOpen b bs
+  pub goes : GoesOn b bs rest
+
+row_cross : (c : ℕ) (kind : Kind) (w : List ℕ) (tail : Tail) → is_break c ≡ true → stops_row c (rule kind w tail) ≡ true → (b : ℕ) (a more rest : List ℕ) → Starts b (a ++ c ∷ more) rest → led lower w (is_tail [] tail) (b ∷ a ++ c ∷ more) rest ≡ false
+row_cross c kind [] tail e h b a more rest is = first_cross c tail e h b a more rest is.solid
+row_cross c kind (x ∷ w) tail e h b a more rest is = by_far (is_far x) refl (is_lettered (x ∷ w)) refl (is_closing (x ∷ w)) refl h
   where
-    by_loose : (t : Bool) → is_loose x ≡ t → (l : Bool) → is_lettered (x ∷ w) ≡ l → (t || (l || not (has c w) && stops_tail tail)) ≡ true → led lower (x ∷ w) (is_tail [] tail) (b ∷ a ++ c ∷ more) rest ≡ false
-    by_loose true p l q k = rw (loose_lower x b p tight) refl
-    by_loose false p true q k = row_lettered [] tail x w b (a ++ c ∷ more) rest q goes
-    by_loose false p false q k =
+    by_far : (t : Bool) → is_far x ≡ t → (l : Bool) → is_lettered (x ∷ w) ≡ l → (o : Bool) → is_closing (x ∷ w) ≡ o → (t || (l || (o || not (has c w) && stops_tail tail))) ≡ true → led lower (x ∷ w) (is_tail [] tail) (b ∷ a ++ c ∷ more) rest ≡ false
+    by_far true p l q o r k = rw (far_lower x b p is.far) refl
+    by_far false p true q o r k = row_lettered [] tail x w b (a ++ c ∷ more) rest q is.goes
+    by_far false p false q true r k = row_closing x w b (a ++ c ∷ more) tail rest r is.off
+    by_far false p false q false r k =
         let (none, stops) = and_parts (not (has c w)) (stops_tail tail) k in
         rw (led_cross c tail e stops w (not_it (has c w) none) a more rest) (and_false (nat_eq x (lower b)))
 
-rows_cross : (c : ℕ) (rows : List Row) → is_break c ≡ true → stops_rows rows c ≡ true → (b : ℕ) (a more rest : List ℕ) → is_loose b ≡ false → is_space b ≡ false → GoesOn b (a ++ c ∷ more) rest → kind_by [] rows (b ∷ a ++ c ∷ more) rest ≡ None
-rows_cross c [] e h b a more rest tight solid goes = refl
-rows_cross c (rule kind w tail ∷ rows) e h b a more rest tight solid goes =
+rows_cross : (c : ℕ) (rows : List Row) → is_break c ≡ true → stops_rows rows c ≡ true → (b : ℕ) (a more rest : List ℕ) → Starts b (a ++ c ∷ more) rest → kind_by [] rows (b ∷ a ++ c ∷ more) rest ≡ None
+rows_cross c [] e h b a more rest is = refl
+rows_cross c (rule kind w tail ∷ rows) e h b a more rest is =
     let (first, others) = and_parts (stops_row c (rule kind w tail)) (stops_rows rows c) h in
-    rw (row_cross c kind w tail e first b a more rest tight solid goes) (rows_cross c rows e others b a more rest tight solid goes)
+    rw (row_cross c kind w tail e first b a more rest is) (rows_cross c rows e others b a more rest is)
 
 -- No tight token of 7.4 has a break behind its first byte.
-pub code_cross : (c : ℕ) → is_break c ≡ true → (b : ℕ) (a more rest : List ℕ) → is_loose b ≡ false → is_space b ≡ false → GoesOn b (a ++ c ∷ more) rest → kind_by [] (code_rows V74) (b ∷ a ++ c ∷ more) rest ≡ None
-code_cross c e b a more rest tight solid goes = rows_cross c (code_rows V74) e (code_stops c e) b a more rest tight solid goes
+pub code_cross : (c : ℕ) → is_break c ≡ true → (b : ℕ) (a more rest : List ℕ) → Starts b (a ++ c ∷ more) rest → kind_by [] (code_rows V74) (b ∷ a ++ c ∷ more) rest ≡ None
+code_cross c e b a more rest is = rows_cross c (code_rows V74) e (code_stops c e) b a more rest is
+
+pub same_start : (b : ℕ) (a : List ℕ) (c : ℕ) (u w : List ℕ) → IsOpen b (a ++ c ∷ u) → IsOpen b (a ++ c ∷ w)
+same_start b [] c u w h = h
+same_start b (x ∷ a) c u w h = h

@@ -12,7 +12,7 @@ use Rattle.php_relexing.specs.Tiles.{is_far, begins_words, leaves_words, is_near
 use Rattle.php_relexing.specs.Alike.{is_break, Alike, ended, broken, same, is_tight, NearTokensStay}
 use Rattle.php_relexing.proofs.Near.{GoesOn, rows_blind}
 use Rattle.php_relexing.proofs.Bools.{not_it}
-use Rattle.php_relexing.proofs.Crossing.{IsTight, tight_is, code_cross}
+use Rattle.php_relexing.proofs.Crossing.{IsTight, tight_is, code_cross, same_start}
 
 words_or : (b z : ℕ) (t : Bool) → begins_words b ≡ t → (not t || leaves_words b z) ≡ true → (begins_words b ≡ false) ⊎ (leaves_words b z ≡ true)
 words_or b z true p q = inr q
@@ -72,7 +72,7 @@ crossed b s c w e tight k rest is =
     let front : take (length s + suc k) (s ++ c ∷ w) ≡ s ++ c ∷ take k w = take-append-add s (c ∷ w) (suc k) in
     let goes = goes_on b (s ++ c ∷ w) (length s + suc k) tight.near in
     let there : GoesOn b (s ++ c ∷ take k w) rest = subst (λ (t : List ℕ). GoesOn b t rest) front (subst (λ (u : List ℕ). GoesOn b (take (length s + suc k) (s ++ c ∷ w)) u) (sym is) goes) in
-    subst (λ (t : List ℕ). kind_of V74 code (b ∷ t) rest ≡ None) (sym front) (code_cross c e b s (take k w) rest tight.tight tight.solid there)
+    subst (λ (t : List ℕ). kind_of V74 code (b ∷ t) rest ≡ None) (sym front) (code_cross c e b s (take k w) rest (record { far = near_far b (s ++ c ∷ w) tight.near; solid = tight.solid; off = same_start b s c w (take k w) tight.open_; goes = there }))
 
 none_past : (b : ℕ) (s : List ℕ) (c : ℕ) (w : List ℕ) → is_break c ≡ true → IsTight b (s ++ c ∷ w) → (j : ℕ) → length s < j → kind_of V74 code (b ∷ take j (s ++ c ∷ w)) (drop j (s ++ c ∷ w)) ≡ None
 none_past b s c w e tight j lt =

@@ -2,7 +2,7 @@
 use Rattle.std.specs.Prelude.{◌≡◌, ℕ, suc, Bool, true, false, not, ◌&&◌, ◌||◌, nat_eq, List, [], ◌∷◌, ◌++◌, length}
 use Rattle.php_tree.specs.declared.version.Version.TheVariants.{V74}
 use Rattle.php_spellings.specs.declared.table.Kind.{Kind}
-use Rattle.php_spellings.specs.Bytes.{is_space}
+use Rattle.php_spellings.specs.Bytes.{is_space, begins_by}
 use Rattle.php_lexer.specs.Modes.{code, IsLongest}
 use Rattle.php_relexing.specs.Tiles.{is_near}
 
@@ -25,9 +25,9 @@ pub data Alike : List ℕ → List ℕ → Type 0 where
   broken : {r s : List ℕ} (c : ℕ) → is_break c ≡ true → Alike r (c ∷ s)
   same : {r s : List ℕ} (b : ℕ) → Alike r s → Alike (b ∷ r) (b ∷ s)
 
--- whether a token that begins so is near, and neither white space nor one of those with `?`
+-- whether a token that begins so is near, and neither white space nor `?>`
 abbrev pub is_tight : ℕ → List ℕ → Bool
-is_tight b bs = is_near b bs && not (is_space b || nat_eq b 63)
+is_tight b bs = is_near b bs && not (is_space b || nat_eq b 63 && begins_by 62 bs)
 
 -- A near token of 7.4 stays where the bytes behind it go on alike.
 abbrev pub NearTokensStay : Type 0
