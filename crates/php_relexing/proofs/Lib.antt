@@ -23,3 +23,5 @@ pub mod Names
 pub mod Comments
 pub mod Closing
 pub mod Closed
+pub mod Picked
+pub mod Labels

@@ -2,5 +2,6 @@ pub mod Tiles
 pub mod Spelled
 pub mod Alike
 pub mod Newer
+pub mod Labels
 pub mod Closed
 pub mod Comments

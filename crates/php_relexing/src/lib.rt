@@ -7,6 +7,7 @@ ghost use Rattle.php_relexing.specs.Alike.{NearTokensStay};
 ghost use Rattle.php_relexing.specs.Comments.{SlashCommentsStay, HashCommentsStay, SpacedCommentsStay};
 ghost use Rattle.php_relexing.specs.Newer.{SameInNewerCode, SameInNewerTexts, NamesAreTokens};
 ghost use Rattle.php_relexing.specs.Closed.{QuotedTextsStay, BinaryTextsStay, BlockCommentsStay, CastsStay};
+ghost use Rattle.php_relexing.specs.Labels.{LabelsJoin, WordsAreLabels, LabelsBeginNoName, WhiteSpaceStays};
 
 /// A token that begins with a bracket may come in behind any tokens that look no further than the
 /// byte behind them: all others stay the longest of their places.
@@ -76,6 +77,26 @@ pub fn casts_stay()
     ensures { CastsStay }
 {}
 
+/// Labels with `\` between them, maybe with one in front, are a name.
+pub fn labels_join()
+    ensures { LabelsJoin }
+{}
+
+/// A word is a label.
+pub fn words_are_labels()
+    ensures { WordsAreLabels }
+{}
+
+/// A label begins no name with `\` where none goes on behind it.
+pub fn labels_begin_no_name()
+    ensures { LabelsBeginNoName }
+{}
+
+/// White space stays where none follows, in both versions.
+pub fn white_space_stays()
+    ensures { WhiteSpaceStays }
+{}
+
 #[cfg(test)]
 mod tests {
     use super::*;
@@ -95,5 +116,9 @@ mod tests {
         binary_texts_stay();
         block_comments_stay();
         casts_stay();
+        labels_join();
+        words_are_labels();
+        labels_begin_no_name();
+        white_space_stays();
     }
 }
