@@ -25,3 +25,5 @@ pub mod Closing
 pub mod Closed
 pub mod Picked
 pub mod Labels
+pub mod Operators
+pub mod Angles

@@ -8,6 +8,7 @@ ghost use Rattle.php_relexing.specs.Comments.{SlashCommentsStay, HashCommentsSta
 ghost use Rattle.php_relexing.specs.Newer.{SameInNewerCode, SameInNewerTexts, NamesAreTokens};
 ghost use Rattle.php_relexing.specs.Closed.{QuotedTextsStay, BinaryTextsStay, BlockCommentsStay, CastsStay};
 ghost use Rattle.php_relexing.specs.Labels.{LabelsJoin, WordsAreLabels, LabelsBeginNoName, WhiteSpaceStays};
+ghost use Rattle.php_relexing.specs.Angles.{SlashesStay, AnglesStay, ClosingTagsStay};
 
 /// A token that begins with a bracket may come in behind any tokens that look no further than the
 /// byte behind them: all others stay the longest of their places.
@@ -97,6 +98,22 @@ pub fn white_space_stays()
     ensures { WhiteSpaceStays }
 {}
 
+/// `/` and `/=` stay where no comment and no `=` follows `/`, in both versions.
+pub fn slashes_stay()
+    ensures { SlashesStay }
+{}
+
+/// An operator with `<` in front stays where no longer one and no heredoc begins with it, in both
+/// versions.
+pub fn angles_stay()
+    ensures { AnglesStay }
+{}
+
+/// `?>` with its line end stays where no further line end follows, in both versions.
+pub fn closing_tags_stay()
+    ensures { ClosingTagsStay }
+{}
+
 #[cfg(test)]
 mod tests {
     use super::*;
@@ -120,5 +137,8 @@ mod tests {
         words_are_labels();
         labels_begin_no_name();
         white_space_stays();
+        slashes_stay();
+        angles_stay();
+        closing_tags_stay();
     }
 }
