@@ -27,3 +27,6 @@ pub mod Picked
 pub mod Labels
 pub mod Operators
 pub mod Angles
+pub mod PieceRuns
+pub mod HeredocFronts
+pub mod Pieces
