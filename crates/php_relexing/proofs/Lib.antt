@@ -30,3 +30,5 @@ pub mod Angles
 pub mod PieceRuns
 pub mod HeredocFronts
 pub mod Pieces
+pub mod PieceLaws
+pub mod PieceEnds

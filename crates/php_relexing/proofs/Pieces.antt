@@ -76,18 +76,29 @@ pub piece_of : (v : Version) (mark : Mark) (label : List ℕ) (fresh : Bool) (a 
 piece_of v mark label fresh [] r h = absurd (let e = piece_meets v mark label fresh [] r h in cc)
 piece_of v mark label fresh (b ∷ x) r h = piece_by v mark label fresh b x r (or_none _ (piece_meets v mark label fresh (b ∷ x) r h)) h
 
-pub piece_is : (w : Version) (mark : Mark) (label : List ℕ) (fresh : Bool) (b : ℕ) (x s : List ℕ) → IsPiece mark label (from_line fresh) (b ∷ x) s → IsLongest w (quoted mark label fresh) (b ∷ x ++ s) Piece (suc (length x))
-piece_is w mark label fresh b x s is =
+piece_is_by : (w : Version) (mark : Mark) (label : List ℕ) (fresh : Bool) (b : ℕ) (x s : List ℕ) → IsPiece mark label (from_line fresh) (b ∷ x) s → IsLongest w (quoted mark label fresh) (b ∷ x ++ s) Piece (suc (length x))
+piece_is_by w mark label fresh b x s is =
     let (here, more) = and_parts (goes (Body mark) label (from_line fresh) b (x ++ s)) (is_run (Body mark) label (moved (Body mark) (from_line fresh) b) x s) is.run in
     let size : piece_len mark label (from_line fresh) (b ∷ x ++ s) ≡ suc (length x) = run_over mark label (from_line fresh) (b ∷ x) s is.run ∙ rw is.stops (omega arith) in
     longest_of w (quoted mark label fresh) (b ∷ x ++ s) Piece (suc (length x)) (piece_scan w mark label fresh b (x ++ s) here ∙ ap (found Piece) size)
 
+pub piece_is : (w : Version) (mark : Mark) (label : List ℕ) (fresh : Bool) (a s : List ℕ) → is_empty a ≡ false → IsPiece mark label (from_line fresh) a s → IsLongest w (quoted mark label fresh) (a ++ s) Piece (length a)
+piece_is w mark label fresh [] s e is = absurd cc
+piece_is w mark label fresh (b ∷ x) s e is = piece_is_by w mark label fresh b x s is
+
+pub piece_some : (v : Version) (mark : Mark) (label : List ℕ) (fresh : Bool) (a r : List ℕ) → IsLongest v (quoted mark label fresh) (a ++ r) Piece (length a) → is_empty a ≡ false
+piece_some v mark label fresh [] r h = absurd (let e = piece_meets v mark label fresh [] r h in cc)
+piece_some v mark label fresh (b ∷ x) r h = refl
+
 -- ---- over other bytes
 
-abbrev pub SameEnds : List ℕ → List ℕ → List ℕ → List ℕ → Type 0
-SameEnds label u v y = ends_heredoc label (y ++ u) ≡ ends_heredoc label (y ++ v)
+-- In a heredoc a line ends it as well before the other bytes.
+abbrev pub SameEnds : Mark → List ℕ → List ℕ → List ℕ → List ℕ → Type 0
+SameEnds Double label u v y = Unit {0}
+SameEnds Back label u v y = Unit {0}
+SameEnds Here label u v y = ends_heredoc label (y ++ u) ≡ ends_heredoc label (y ++ v)
 
-inner_same : (mark : Mark) (label : List ℕ) (s : State) (b c : ℕ) (x u v : List ℕ) → SameEnds label u v (b ∷ c ∷ x) → in_piece mark label s b (c ∷ x ++ u) ≡ in_piece mark label s b (c ∷ x ++ v)
+inner_same : (mark : Mark) (label : List ℕ) (s : State) (b c : ℕ) (x u v : List ℕ) → SameEnds mark label u v (b ∷ c ∷ x) → in_piece mark label s b (c ∷ x ++ u) ≡ in_piece mark label s b (c ∷ x ++ v)
 inner_same Double label First b c x u v e = refl
 inner_same Double label Plain b c x u v e = refl
 inner_same Double label Escaped b c x u v e = refl
@@ -104,7 +115,7 @@ LastFits mark label s [] u v = Unit {0}
 LastFits mark label s (b ∷ []) u v = in_piece mark label s b u ≡ true → in_piece mark label s b v ≡ true
 LastFits mark label s (b ∷ c ∷ x) u v = LastFits mark label (moved (Body mark) s b) (c ∷ x) u v
 
-pub over : (mark : Mark) (label : List ℕ) (s : State) (x u v : List ℕ) → Ends (SameEnds label u v) x → LastFits mark label s x u v → is_run (Body mark) label s x u ≡ true → is_run (Body mark) label s x v ≡ true
+pub over : (mark : Mark) (label : List ℕ) (s : State) (x u v : List ℕ) → Ends (SameEnds mark label u v) x → LastFits mark label s x u v → is_run (Body mark) label s x u ≡ true → is_run (Body mark) label s x v ≡ true
 over mark label s [] u v ends fits h = refl
 over mark label s (b ∷ []) u v ends fits h =
     let (here, more) = and_parts (in_piece mark label s b u) true h in

@@ -36,6 +36,11 @@ is_labelled Here label = is_label label
 abbrev pub fronts : List ℕ → List ℕ → Bool
 fronts r s = begins_by 36 r && begins_by 36 s || (begins_by 123 r || begins_by 36 r) && begins_by 123 s
 
+abbrev pub is_heredoc : Mark → Bool
+is_heredoc Double = false
+is_heredoc Back = false
+is_heredoc Here = true
+
 -- A piece stays before a part that begins as that in the source, and before `{$` in place of another part where it
 -- doesn't end in a bare `$`.
 abbrev pub PiecesStayBeforeParts : Type 0
@@ -48,3 +53,27 @@ PiecesStayBeforeParts =
     (begins_by 123 s && ends_dollar false a) ≡ false →
     IsLongest v (quoted mark label fresh) (a ++ r) Piece (length a) →
     IsLongest w (quoted mark label fresh) (a ++ s) Piece (length a)
+
+-- A piece that ends in a bare `$` is one before `{$` with a backslash before the `$`.
+abbrev pub EscapedPiecesStay : Type 0
+EscapedPiecesStay =
+    (v w : Version) (mark : Mark) (label : List ℕ) (fresh : Bool) (a r s : List ℕ) →
+    is_labelled mark label ≡ true →
+    part_begins s ≡ true →
+    ends_dollar false a ≡ true →
+    IsLongest v (quoted mark label fresh) (a ++ r) Piece (length a) →
+    IsLongest w (quoted mark label fresh) (escape_last a ++ s) Piece (length (escape_last a))
+
+-- the byte that closes a quoted text other than a heredoc
+abbrev pub closing : Mark → ℕ
+closing Double = 34
+closing Back = 96
+closing Here = 10
+
+-- A piece stays before the closing byte of its text.
+abbrev pub PiecesStayBeforeEnds : Type 0
+PiecesStayBeforeEnds =
+    (v w : Version) (mark : Mark) (label : List ℕ) (fresh : Bool) (a r s : List ℕ) →
+    is_heredoc mark ≡ false →
+    IsLongest v (quoted mark label fresh) (a ++ closing mark ∷ r) Piece (length a) →
+    IsLongest w (quoted mark label fresh) (a ++ closing mark ∷ s) Piece (length a)

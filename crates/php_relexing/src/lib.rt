@@ -9,6 +9,7 @@ ghost use Rattle.php_relexing.specs.Newer.{SameInNewerCode, SameInNewerTexts, Na
 ghost use Rattle.php_relexing.specs.Closed.{QuotedTextsStay, BinaryTextsStay, BlockCommentsStay, CastsStay};
 ghost use Rattle.php_relexing.specs.Labels.{LabelsJoin, WordsAreLabels, LabelsBeginNoName, WhiteSpaceStays};
 ghost use Rattle.php_relexing.specs.Angles.{SlashesStay, AnglesStay, ClosingTagsStay};
+ghost use Rattle.php_relexing.specs.Pieces.{PiecesStayBeforeParts, EscapedPiecesStay, PiecesStayBeforeEnds};
 
 /// A token that begins with a bracket may come in behind any tokens that look no further than the
 /// byte behind them: all others stay the longest of their places.
@@ -114,6 +115,22 @@ pub fn closing_tags_stay()
     ensures { ClosingTagsStay }
 {}
 
+/// A piece of a quoted text stays before a part that begins as that in the source, and before `{$`
+/// where it doesn't end in a bare `$`.
+pub fn pieces_stay_before_parts()
+    ensures { PiecesStayBeforeParts }
+{}
+
+/// A piece that ends in a bare `$` is one before a part with a backslash before the `$`.
+pub fn escaped_pieces_stay()
+    ensures { EscapedPiecesStay }
+{}
+
+/// A piece stays before the closing byte of its text.
+pub fn pieces_stay_before_ends()
+    ensures { PiecesStayBeforeEnds }
+{}
+
 #[cfg(test)]
 mod tests {
     use super::*;
@@ -140,5 +157,8 @@ mod tests {
         slashes_stay();
         angles_stay();
         closing_tags_stay();
+        pieces_stay_before_parts();
+        escaped_pieces_stay();
+        pieces_stay_before_ends();
     }
 }
