@@ -32,3 +32,4 @@ pub mod HeredocFronts
 pub mod Pieces
 pub mod PieceLaws
 pub mod PieceEnds
+pub mod Parts

@@ -20,7 +20,7 @@ abbrev all_marks : List ℕ → Bool
 all_marks [] = true
 all_marks (x ∷ w) = is_mark x && all_marks w
 
-mark_same : (x b : ℕ) → is_mark x ≡ true → nat_eq x (lower b) ≡ true → b ≡ x
+pub mark_same : (x b : ℕ) → is_mark x ≡ true → nat_eq x (lower b) ≡ true → b ≡ x
 mark_same x b h e = by_case (nat_le 65 b && nat_le b 90) refl (eqb-true x (lower b) e)
   where
     by_case : (t : Bool) → (nat_le 65 b && nat_le b 90) ≡ t → x ≡ cond t (b + 32) b → b ≡ x
@@ -42,7 +42,7 @@ spelled (x ∷ w) p (b ∷ a) r h e =
 
 -- ---- one of the rows
 
-or_case : (x y : Bool) → (x || y) ≡ true → (x ≡ true) ⊎ (y ≡ true)
+pub or_case : (x y : Bool) → (x || y) ≡ true → (x ≡ true) ⊎ (y ≡ true)
 or_case true y h = inl refl
 or_case false y h = inr h
 

@@ -71,7 +71,7 @@ last_by [] bs t e h = refl
 last_by (a ∷ label) bs false e h = rw e refl
 last_by (a ∷ label) bs true e h = rw (e, h) refl
 
-no_end_line : (label bs : List ℕ) → ends_heredoc label bs ≡ false → end_line_len label bs ≡ None
+pub no_end_line : (label bs : List ℕ) → ends_heredoc label bs ≡ false → end_line_len label bs ≡ None
 no_end_line label bs h = end_line_is label bs ∙ rw (last_by label (skip_blanks bs) (starts label (skip_blanks bs)) refl h) refl
 
 -- what no byte of a piece is

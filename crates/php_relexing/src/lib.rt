@@ -10,6 +10,7 @@ ghost use Rattle.php_relexing.specs.Closed.{QuotedTextsStay, BinaryTextsStay, Bl
 ghost use Rattle.php_relexing.specs.Labels.{LabelsJoin, WordsAreLabels, LabelsBeginNoName, WhiteSpaceStays};
 ghost use Rattle.php_relexing.specs.Angles.{SlashesStay, AnglesStay, ClosingTagsStay};
 ghost use Rattle.php_relexing.specs.Pieces.{PiecesStayBeforeParts, EscapedPiecesStay, PiecesStayBeforeEnds};
+ghost use Rattle.php_relexing.specs.Parts.{TextVariablesStay, BracesOpen, SimplePartsStay};
 
 /// A token that begins with a bracket may come in behind any tokens that look no further than the
 /// byte behind them: all others stay the longest of their places.
@@ -131,6 +132,21 @@ pub fn pieces_stay_before_ends()
     ensures { PiecesStayBeforeEnds }
 {}
 
+/// A variable of a quoted text stays where its label doesn't go on.
+pub fn text_variables_stay()
+    ensures { TextVariablesStay }
+{}
+
+/// `{` before `$` opens code in a quoted text, and closing bytes close the text.
+pub fn braces_open()
+    ensures { BracesOpen }
+{}
+
+/// The tokens of simple offsets and simple properties stay.
+pub fn simple_parts_stay()
+    ensures { SimplePartsStay }
+{}
+
 #[cfg(test)]
 mod tests {
     use super::*;
@@ -160,5 +176,8 @@ mod tests {
         pieces_stay_before_parts();
         escaped_pieces_stay();
         pieces_stay_before_ends();
+        text_variables_stay();
+        braces_open();
+        simple_parts_stay();
     }
 }
