@@ -33,3 +33,5 @@ pub mod Pieces
 pub mod PieceLaws
 pub mod PieceEnds
 pub mod Parts
+pub mod Openings
+pub mod Quotes

@@ -10,7 +10,8 @@ ghost use Rattle.php_relexing.specs.Closed.{QuotedTextsStay, BinaryTextsStay, Bl
 ghost use Rattle.php_relexing.specs.Labels.{LabelsJoin, WordsAreLabels, LabelsBeginNoName, WhiteSpaceStays};
 ghost use Rattle.php_relexing.specs.Angles.{SlashesStay, AnglesStay, ClosingTagsStay};
 ghost use Rattle.php_relexing.specs.Pieces.{PiecesStayBeforeParts, EscapedPiecesStay, PiecesStayBeforeEnds};
-ghost use Rattle.php_relexing.specs.Parts.{TextVariablesStay, BracesOpen, SimplePartsStay};
+ghost use Rattle.php_relexing.specs.Parts.{TextVariablesStay, BracesOpen, SimplePartsStay, QuotesOpen};
+ghost use Rattle.php_relexing.specs.Words.{OpeningsAreUncast};
 
 /// A token that begins with a bracket may come in behind any tokens that look no further than the
 /// byte behind them: all others stay the longest of their places.
@@ -147,6 +148,16 @@ pub fn simple_parts_stay()
     ensures { SimplePartsStay }
 {}
 
+/// `"` opens a quoted text before a part, and before a piece that the text goes on behind.
+pub fn quotes_open()
+    ensures { QuotesOpen }
+{}
+
+/// `(` is a token of its own exactly where no cast goes on behind it.
+pub fn openings_are_uncast()
+    ensures { OpeningsAreUncast }
+{}
+
 #[cfg(test)]
 mod tests {
     use super::*;
@@ -179,5 +190,7 @@ mod tests {
         text_variables_stay();
         braces_open();
         simple_parts_stay();
+        quotes_open();
+        openings_are_uncast();
     }
 }
