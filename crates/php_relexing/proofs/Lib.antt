@@ -35,3 +35,5 @@ pub mod PieceEnds
 pub mod Parts
 pub mod Openings
 pub mod Quotes
+pub mod Words
+pub mod Passes

@@ -84,13 +84,13 @@ pub label_short : (t s : List ℕ) → has_shape shape.Name FirstLabel t ≡ tru
 label_short [] s h = absurd cc
 label_short (b ∷ t) s h = short_by b t s (is_label_byte b) refl (label_short t s) h
 
-abbrev is_small : ℕ → Bool
+abbrev pub is_small : ℕ → Bool
 is_small a = nat_le 97 a && nat_le a 122
 
-small_label : (a b : ℕ) → is_small a ≡ true → nat_eq a (lower b) ≡ true → (is_label_byte b ≡ true) × (nat_eq b 92 ≡ false)
+pub small_label : (a b : ℕ) → is_small a ≡ true → nat_eq a (lower b) ≡ true → (is_label_byte b ≡ true) × (nat_eq b 92 ≡ false)
 small_label a b h e = (grind (arith, nat_tests), grind (arith, nat_tests))
 
-abbrev all_small : List ℕ → Bool
+abbrev pub all_small : List ℕ → Bool
 all_small [] = true
 all_small (a ∷ w) = is_small a && all_small w
 

@@ -11,7 +11,8 @@ ghost use Rattle.php_relexing.specs.Labels.{LabelsJoin, WordsAreLabels, LabelsBe
 ghost use Rattle.php_relexing.specs.Angles.{SlashesStay, AnglesStay, ClosingTagsStay};
 ghost use Rattle.php_relexing.specs.Pieces.{PiecesStayBeforeParts, EscapedPiecesStay, PiecesStayBeforeEnds};
 ghost use Rattle.php_relexing.specs.Parts.{TextVariablesStay, BracesOpen, SimplePartsStay, QuotesOpen};
-ghost use Rattle.php_relexing.specs.Words.{OpeningsAreUncast};
+ghost use Rattle.php_relexing.specs.Words.{WordsStay, OpeningsAreUncast};
+ghost use Rattle.php_relexing.specs.Passes.{PassesJoin, TurnsAgree};
 
 /// A token that begins with a bracket may come in behind any tokens that look no further than the
 /// byte behind them: all others stay the longest of their places.
@@ -158,6 +159,21 @@ pub fn openings_are_uncast()
     ensures { OpeningsAreUncast }
 {}
 
+/// Tiles that lead from one stack of modes to another join to the steps of all bytes.
+pub fn passes_join()
+    ensures { PassesJoin }
+{}
+
+/// A token does the same to the stack in 8.3 where no `?->` and a label follow.
+pub fn turns_agree()
+    ensures { TurnsAgree }
+{}
+
+/// A word that doesn't begin with `b` stays where neither its label nor `yield` goes on.
+pub fn words_stay()
+    ensures { WordsStay }
+{}
+
 #[cfg(test)]
 mod tests {
     use super::*;
@@ -192,5 +208,8 @@ mod tests {
         simple_parts_stay();
         quotes_open();
         openings_are_uncast();
+        passes_join();
+        turns_agree();
+        words_stay();
     }
 }
