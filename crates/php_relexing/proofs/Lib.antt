@@ -37,3 +37,4 @@ pub mod Openings
 pub mod Quotes
 pub mod Words
 pub mod Passes
+pub mod WrittenTokens

@@ -38,7 +38,7 @@ label_run label (b ∷ a) s h e =
     let (here, more) = and_parts (is_label_byte b) (all_label a) h in
     rw (here, label_run label a s more e) (omega arith)
 
-plain_run : (text label rest : List ℕ) → is_run Labels label Plain text rest ≡ true → all_label text ≡ true
+pub plain_run : (text label rest : List ℕ) → is_run Labels label Plain text rest ≡ true → all_label text ≡ true
 plain_run [] label rest h = refl
 plain_run (b ∷ text) label rest h =
     let (here, more) = and_parts (is_label_byte b) (is_run Labels label Plain text rest) h in

@@ -13,6 +13,7 @@ ghost use Rattle.php_relexing.specs.Pieces.{PiecesStayBeforeParts, EscapedPieces
 ghost use Rattle.php_relexing.specs.Parts.{TextVariablesStay, BracesOpen, SimplePartsStay, QuotesOpen};
 ghost use Rattle.php_relexing.specs.Words.{WordsStay, OpeningsAreUncast};
 ghost use Rattle.php_relexing.specs.Passes.{PassesJoin, TurnsAgree};
+ghost use Rattle.php_relexing.specs.Written.{MarksAreTokens, NullIsWritten, VariablesAreTokens, NamedIsCode};
 
 /// A token that begins with a bracket may come in behind any tokens that look no further than the
 /// byte behind them: all others stay the longest of their places.
@@ -174,6 +175,26 @@ pub fn words_stay()
     ensures { WordsStay }
 {}
 
+/// Brackets, braces, `$` before `{` and `(float)` are tokens of code whatever follows them.
+pub fn marks_are_tokens()
+    ensures { MarksAreTokens }
+{}
+
+/// `(null)` is three tokens.
+pub fn null_is_written()
+    ensures { NullIsWritten }
+{}
+
+/// A label with `$` in front is a variable where the label doesn't go on.
+pub fn variables_are_tokens()
+    ensures { VariablesAreTokens }
+{}
+
+/// Directly behind `${` a name is a label, and any other token is one of code.
+pub fn named_is_code()
+    ensures { NamedIsCode }
+{}
+
 #[cfg(test)]
 mod tests {
     use super::*;
@@ -211,5 +232,9 @@ mod tests {
         passes_join();
         turns_agree();
         words_stay();
+        marks_are_tokens();
+        null_is_written();
+        variables_are_tokens();
+        named_is_code();
     }
 }
