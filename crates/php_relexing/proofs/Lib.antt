@@ -38,3 +38,5 @@ pub mod Quotes
 pub mod Words
 pub mod Passes
 pub mod WrittenTokens
+pub mod Inline
+pub mod TagTexts

@@ -23,11 +23,11 @@ abbrev is_feed : ℕ → Bool
 is_feed c = nat_eq c 10
 
 module _ (v : Version) (p h q : ℕ) (is_p : lower p ≡ 112) (is_h : lower h ≡ 104) (is_q : lower q ≡ 112) where
-  return_scan : (rest : List ℕ) → begins is_feed rest ≡ false → scan v html (tagged p h q (13 ∷ rest)) ≡ Some (Tag, 6)
+  pub return_scan : (rest : List ℕ) → begins is_feed rest ≡ false → scan v html (tagged p h q (13 ∷ rest)) ≡ Some (Tag, 6)
   return_scan [] e = rw (is_p, is_h, is_q) refl
   return_scan (c ∷ rest) e = let other = other_head 10 c refl e in rw (is_p, is_h, is_q, other) refl
 
-  short_scan : (b : ℕ) (rest : List ℕ) → is_space b ≡ true → (nat_eq b 13 && begins is_feed rest) ≡ false → scan v html (tagged p h q (b ∷ rest)) ≡ Some (Tag, 6)
+  pub short_scan : (b : ℕ) (rest : List ℕ) → is_space b ≡ true → (nat_eq b 13 && begins is_feed rest) ≡ false → scan v html (tagged p h q (b ∷ rest)) ≡ Some (Tag, 6)
   short_scan b rest space = each (λ x. (nat_eq x 13 && begins is_feed rest) ≡ false → scan v html (tagged p h q (x ∷ rest)) ≡ Some (Tag, 6)) spaces (
     λ e. rw (is_p, is_h, is_q) refl,
     (
@@ -39,7 +39,7 @@ module _ (v : Version) (p h q : ℕ) (is_p : lower p ≡ 112) (is_h : lower h �
     ),
   ) b (among_spaces b space)
 
-  long_scan : (rest : List ℕ) → scan v html (tagged p h q (13 ∷ 10 ∷ rest)) ≡ Some (Tag, 7)
+  pub long_scan : (rest : List ℕ) → scan v html (tagged p h q (13 ∷ 10 ∷ rest)) ≡ Some (Tag, 7)
   long_scan rest = rw (is_p, is_h, is_q) refl
 
   short : (b : ℕ) (a s : List ℕ) (ts : List Lexeme) → is_space b ≡ true → (nat_eq b 13 && begins is_feed (a ++ s)) ≡ false → all_space a ≡ true → begins is_space s ≡ false → Lexed v plain (tagged p h q (b ∷ a)) s ts → Lexed v start [] (tagged p h q (b ∷ a ++ s)) ts

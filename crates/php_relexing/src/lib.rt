@@ -14,6 +14,7 @@ ghost use Rattle.php_relexing.specs.Parts.{TextVariablesStay, BracesOpen, Simple
 ghost use Rattle.php_relexing.specs.Words.{WordsStay, OpeningsAreUncast};
 ghost use Rattle.php_relexing.specs.Passes.{PassesJoin, TurnsAgree};
 ghost use Rattle.php_relexing.specs.Written.{MarksAreTokens, NullIsWritten, VariablesAreTokens, NamedIsCode};
+ghost use Rattle.php_relexing.specs.Inline.{HtmlStays};
 
 /// A token that begins with a bracket may come in behind any tokens that look no further than the
 /// byte behind them: all others stay the longest of their places.
@@ -195,6 +196,11 @@ pub fn named_is_code()
     ensures { NamedIsCode }
 {}
 
+/// Inline HTML stays before an opening tag, and `<?=` stays.
+pub fn html_stays()
+    ensures { HtmlStays }
+{}
+
 #[cfg(test)]
 mod tests {
     use super::*;
@@ -236,5 +242,6 @@ mod tests {
         null_is_written();
         variables_are_tokens();
         named_is_code();
+        html_stays();
     }
 }
