@@ -13,7 +13,7 @@ use Rattle.php_relexing.proofs.Picked.{meets}
 
 -- ---- texts without letters
 
-abbrev is_mark : ℕ → Bool
+abbrev pub is_mark : ℕ → Bool
 is_mark x = not (nat_le 97 x && nat_le x 122)
 
 abbrev all_marks : List ℕ → Bool

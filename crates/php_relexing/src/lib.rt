@@ -14,7 +14,7 @@ ghost use Rattle.php_relexing.specs.Parts.{TextVariablesStay, BracesOpen, Simple
 ghost use Rattle.php_relexing.specs.Words.{WordsStay, OpeningsAreUncast};
 ghost use Rattle.php_relexing.specs.Passes.{PassesJoin, TurnsAgree};
 ghost use Rattle.php_relexing.specs.Written.{MarksAreTokens, NullIsWritten, VariablesAreTokens, NamedIsCode};
-ghost use Rattle.php_relexing.specs.Inline.{HtmlStays};
+ghost use Rattle.php_relexing.specs.Inline.{TagsStay, HtmlStays};
 
 /// A token that begins with a bracket may come in behind any tokens that look no further than the
 /// byte behind them: all others stay the longest of their places.
@@ -201,6 +201,11 @@ pub fn html_stays()
     ensures { HtmlStays }
 {}
 
+/// An opening tag stays where no line end goes on behind it.
+pub fn tags_stay()
+    ensures { TagsStay }
+{}
+
 #[cfg(test)]
 mod tests {
     use super::*;
@@ -243,5 +248,6 @@ mod tests {
         variables_are_tokens();
         named_is_code();
         html_stays();
+        tags_stay();
     }
 }
