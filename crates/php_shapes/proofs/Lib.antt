@@ -7,6 +7,7 @@ mod ReadClassUses
 mod ReadClasses
 mod ReadClosures
 mod ReadDeclarations
+mod ReadEnds
 mod ReadExpressionStatements
 mod ReadFirst
 mod ReadFirstTokens

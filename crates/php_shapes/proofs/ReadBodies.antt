@@ -21,7 +21,8 @@ use Rattle.php_shapes.specs.Places.{Statement, may_stand}
 use Rattle.php_shapes.specs.Shapes.{Fits, no_more, once_more, IsNode}
 use Rattle.php_shapes.specs.Statements.{statement, statements}
 use Rattle.php_shapes.proofs.ReadFirst.{Begins, begins_statement, nullable, rule_begins, starts}
-use Rattle.php_shapes.proofs.ReadMatch.{before_none, begins_there, Below, closes_statement, EndsStatement, false_true, Last, leaves_before, place_is}
+use Rattle.php_shapes.proofs.ReadEnds.{Below, closes_statement, EndsStatement}
+use Rattle.php_shapes.proofs.ReadMatch.{before_none, begins_there, false_true, Last, leaves_before, place_is}
 use Rattle.php_shapes.proofs.ReadNearest.{last_closed}
 
 -- ---- items one after another

@@ -30,7 +30,8 @@ use Rattle.php_shapes.specs.Shapes.{Fits, is_both, no_more, once_more, IsNode}
 use Rattle.php_shapes.specs.Statements.{declared_variable, statements}
 use Rattle.php_shapes.proofs.ReadClasses.{accepted, both, for_all}
 use Rattle.php_shapes.proofs.ReadFirst.{first, nullable, starts}
-use Rattle.php_shapes.proofs.ReadMatch.{Below, both_is, closes_case, closes_item, closes_type, either_is, false_true, first_class, fits_alone, leaves_before, matched, matches, not_true, stops, where_is, where_it, word_is}
+use Rattle.php_shapes.proofs.ReadEnds.{Below, closes_case, closes_item, closes_type, stops}
+use Rattle.php_shapes.proofs.ReadMatch.{both_is, either_is, false_true, first_class, fits_alone, leaves_before, matched, matches, not_true, where_is, where_it, word_is}
 use Rattle.php_shapes.proofs.ReadNearest.{shaped}
 use Rattle.php_shapes.proofs.ReadStatements.{begins_with, begun, first_in, grows_by}
 

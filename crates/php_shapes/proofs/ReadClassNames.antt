@@ -32,7 +32,8 @@ use Rattle.php_shapes.specs.Atoms.{variable}
 use Rattle.php_shapes.specs.Shapes.{Fits, is_both, is_first, is_second, IsNode}
 use Rattle.php_shapes.proofs.ReadClasses.{accepted, both, could, for_all, pinned, whenever}
 use Rattle.php_shapes.proofs.ReadFirst.{nullable, starts}
-use Rattle.php_shapes.proofs.ReadMatch.{behind_level, Below, both_is, closes_expression, false_true, fits_alone, leaves_before, left_le, matched, matches, place_is, right_le, Stopped, where_is, where_it, word_is}
+use Rattle.php_shapes.proofs.ReadEnds.{behind_level, Below, closes_expression, Stopped}
+use Rattle.php_shapes.proofs.ReadMatch.{both_is, false_true, fits_alone, leaves_before, left_le, matched, matches, place_is, right_le, where_is, where_it, word_is}
 use Rattle.php_shapes.proofs.ReadBodies.{node_counts, walks_on}
 use Rattle.php_shapes.proofs.ReadNames.{name_skips, only_words, static_member_walks, words_are}
 use Rattle.php_shapes.proofs.ReadNearest.{shaped}

@@ -25,7 +25,8 @@ use Rattle.php_shapes.specs.Places.{Operand, may_stand}
 use Rattle.php_shapes.specs.Shapes.{Fits, is_both, is_first, is_second, IsNode}
 use Rattle.php_shapes.proofs.ReadClasses.{accepted, for_all}
 use Rattle.php_shapes.proofs.ReadFirst.{rule_begins, starts}
-use Rattle.php_shapes.proofs.ReadMatch.{begins_there, Below, both_is, false_true, fits_alone, FitsAll, left_le, matched, matches, nodes_count, nothing_is, place_is, right_le, where_is, where_it, word_is}
+use Rattle.php_shapes.proofs.ReadEnds.{Below}
+use Rattle.php_shapes.proofs.ReadMatch.{begins_there, both_is, false_true, fits_alone, FitsAll, left_le, matched, matches, nodes_count, nothing_is, place_is, right_le, where_is, where_it, word_is}
 use Rattle.php_shapes.proofs.ReadOperands.{Before, before_class, class_before, ends_its_chain, first_is, grow_head, last_operand, only_behind, only_class}
 use Rattle.php_shapes.proofs.ReadPostfixes.{split_word}
 use Rattle.php_shapes.proofs.ReadAssigns.{second_is}

@@ -27,7 +27,8 @@ use Rattle.php_shapes.specs.Shapes.{Fits, is_first, is_second}
 use Rattle.php_shapes.specs.Statements.{declared_variable}
 use Rattle.php_shapes.proofs.ReadClasses.{could, for_all, pinned, whenever}
 use Rattle.php_shapes.proofs.ReadFirst.{nullable, starts}
-use Rattle.php_shapes.proofs.ReadMatch.{Below, both_is, false_true, fits_alone, Last, matched, matches, nothing_is, where_is, where_it, word_is}
+use Rattle.php_shapes.proofs.ReadEnds.{Below}
+use Rattle.php_shapes.proofs.ReadMatch.{both_is, false_true, fits_alone, Last, matched, matches, nothing_is, where_is, where_it, word_is}
 use Rattle.php_shapes.proofs.ReadNearest.{follows, follows_statement, last_of, shaped}
 use Rattle.php_shapes.proofs.ReadStatements.{StatementGrows, told, begun, begins_with, first_in, grows_by}
 

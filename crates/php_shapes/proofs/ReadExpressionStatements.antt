@@ -30,7 +30,8 @@ use Rattle.php_shapes.specs.Places.{Operand, may_stand}
 use Rattle.php_shapes.specs.Shapes.{Fits, IsNode}
 use Rattle.php_shapes.proofs.ReadClasses.{could, for_all, pinned, whenever}
 use Rattle.php_shapes.proofs.ReadFirst.{begins_expression}
-use Rattle.php_shapes.proofs.ReadMatch.{before_none, Below, both_is, closes_expression, Ends, false_true, leaves_before, matches, place_is, word_is}
+use Rattle.php_shapes.proofs.ReadEnds.{Below, closes_expression, Ends}
+use Rattle.php_shapes.proofs.ReadMatch.{before_none, both_is, false_true, leaves_before, matches, place_is, word_is}
 use Rattle.php_shapes.proofs.ReadStops.{ends_here}
 use Rattle.php_shapes.proofs.ReadNearest.{follows, follows_statement, last_of, shaped}
 use Rattle.php_shapes.proofs.ReadBodies.{node_counts}

@@ -19,7 +19,8 @@ use Rattle.php_shapes.specs.Notation.{Rule, word, ◌~◌}
 use Rattle.php_shapes.specs.Shapes.{Fits, is_first, is_second}
 use Rattle.php_shapes.proofs.ReadClasses.{for_all}
 use Rattle.php_shapes.proofs.ReadFirst.{nullable, starts}
-use Rattle.php_shapes.proofs.ReadMatch.{before_none, Below, both_is, false_true, fits_alone, matched, matches, not_true, where_is, where_it}
+use Rattle.php_shapes.proofs.ReadEnds.{Below}
+use Rattle.php_shapes.proofs.ReadMatch.{before_none, both_is, false_true, fits_alone, matched, matches, not_true, where_is, where_it}
 use Rattle.php_shapes.proofs.ReadBodies.{group_alone, walks_on}
 use Rattle.php_shapes.proofs.ReadStatements.{begins_with, begun, first_in}
 use Rattle.php_shapes.proofs.ReadImports.{grouped_kept_walks, grouped_renamed_walks, renames_grouped}

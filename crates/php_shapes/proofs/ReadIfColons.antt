@@ -25,7 +25,8 @@ use Rattle.php_shapes.specs.Notation.{Rule, word, ◌~◌, many, maybe}
 use Rattle.php_shapes.specs.Shapes.{Fits, is_both, is_first, is_second, no_more, once_more, IsNode}
 use Rattle.php_shapes.specs.Statements.{condition, statements}
 use Rattle.php_shapes.proofs.ReadClasses.{could, for_all, pinned, whenever}
-use Rattle.php_shapes.proofs.ReadMatch.{before_none, Below, both_is, false_true, FitsAll, fits_alone, Last, leaves_before, left_le, matched, matches, nothing_is, right_le, word_is}
+use Rattle.php_shapes.proofs.ReadEnds.{Below}
+use Rattle.php_shapes.proofs.ReadMatch.{before_none, both_is, false_true, FitsAll, fits_alone, Last, leaves_before, left_le, matched, matches, nothing_is, right_le, word_is}
 use Rattle.php_shapes.proofs.ReadNearest.{elses_nearest, follows_statement, last_near, nearest_right, shaped}
 use Rattle.php_shapes.proofs.ReadBodies.{has_token, statements_read, walks_on}
 use Rattle.php_shapes.proofs.ReadIfs.{if_chosen, regroup}

@@ -26,7 +26,8 @@ use Rattle.php_shapes.specs.Shapes.{Fits, is_nothing, is_word, is_kind, is_place
 use Rattle.php_shapes.specs.Statements.{condition, statement}
 use Rattle.php_shapes.proofs.ReadClasses.{accepted, both, could, for_all, pinned, whenever}
 use Rattle.php_shapes.proofs.ReadFirst.{begins_statement, there}
-use Rattle.php_shapes.proofs.ReadMatch.{before_none, Below, both_is, closes_statement, EndsStatement, false_true, fits_alone, Last, leaves_before, left_le, matched, matches, nothing_is, right_le, word_is}
+use Rattle.php_shapes.proofs.ReadEnds.{Below, closes_statement, EndsStatement}
+use Rattle.php_shapes.proofs.ReadMatch.{before_none, both_is, false_true, fits_alone, Last, leaves_before, left_le, matched, matches, nothing_is, right_le, word_is}
 use Rattle.php_shapes.proofs.ReadPast.{group_past}
 use Rattle.php_shapes.proofs.ReadNearest.{elses_nearest, follows, follows_statement, last_behind, last_near, last_of, nearest_right, right_false, shaped}
 use Rattle.php_shapes.proofs.ReadBodies.{group_alone, has_token, statement_begins, walks_on}

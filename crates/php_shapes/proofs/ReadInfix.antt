@@ -26,87 +26,14 @@ use Rattle.php_shapes.specs.Operators.{binary}
 use Rattle.php_shapes.specs.Places.{Operand, Left, is_expression, is_prefix, may_stand}
 use Rattle.php_shapes.specs.Shapes.{Fits, is_first, is_second, IsNode}
 use Rattle.php_shapes.proofs.ReadClasses.{both, could, for_all, pinned, whenever}
-use Rattle.php_shapes.proofs.ReadMatch.{behind_level, behind_limit, Below, both_is, false_true, nodes_count, place_is, word_is}
+use Rattle.php_shapes.proofs.ReadEnds.{behind_level, behind_limit, Below}
+use Rattle.php_shapes.proofs.ReadMatch.{both_is, false_true, nodes_count, place_is, word_is}
 use Rattle.php_shapes.proofs.ReadOperands.{Before, ends_its_chain, FitsLevel, Grown, last_operand, only_behind}
 use Rattle.php_shapes.proofs.ReadStops.{le_trans3, le_true, level_of_node, looser, straight}
 
 pub not_list : (j : NodeKind) → is_expression j ≡ true → is_list j ≡ false
-not_list k.Block e = refl
-not_list k.Empty e = refl
-not_list k.ExprStmt e = refl
-not_list k.Echo e = refl
-not_list k.Html e = refl
-not_list k.Return e = refl
-not_list k.If e = refl
-not_list k.IfAlt e = refl
-not_list k.While e = refl
-not_list k.DoWhile e = refl
-not_list k.For e = refl
-not_list k.Foreach e = refl
-not_list k.Switch e = refl
-not_list k.Case e = refl
-not_list k.Break e = refl
-not_list k.Continue e = refl
-not_list k.Global e = refl
-not_list k.Statics e = refl
-not_list k.Unset e = refl
-not_list k.Throw e = refl
-not_list k.Try e = refl
-not_list k.Function e = refl
-not_list k.Param e = refl
-not_list k.TypeName e = refl
-not_list k.Class e = refl
-not_list k.Interface e = refl
-not_list k.Trait e = refl
-not_list k.Property e = refl
-not_list k.ClassConst e = refl
-not_list k.Method e = refl
-not_list k.TraitUse e = refl
-not_list k.Const e = refl
-not_list k.Namespace e = refl
-not_list k.Use e = refl
-not_list k.Declare e = refl
-not_list k.Goto e = refl
-not_list k.LabelStmt e = refl
-not_list k.Variable e = refl
-not_list k.Number e = refl
-not_list k.Float e = refl
-not_list k.Text e = refl
-not_list k.Quoted e = refl
-not_list k.Constant e = refl
-not_list k.ClassConstant e = refl
-not_list k.Array e = refl
-not_list k.Item e = refl
 not_list k.List e = absurd (false_true e)
-not_list k.Paren e = refl
-not_list k.Offset e = refl
-not_list k.BraceOffset e = refl
-not_list k.Prop e = refl
-not_list k.StaticProp e = refl
-not_list k.Call e = refl
-not_list k.MethodCall e = refl
-not_list k.StaticCall e = refl
-not_list k.Args e = refl
-not_list k.New e = refl
-not_list k.Isset e = refl
-not_list k.EmptyTest e = refl
-not_list k.Exit e = refl
-not_list k.Closure e = refl
-not_list k.Arrow e = refl
-not_list k.Include e = refl
-not_list k.EvalTest e = refl
-not_list k.Binary e = refl
-not_list k.Prefix e = refl
-not_list k.Postfix e = refl
-not_list k.Cast e = refl
-not_list k.Ternary e = refl
-not_list k.ShortTernary e = refl
-not_list k.Assign e = refl
-not_list k.AssignRef e = refl
-not_list k.CompoundAssign e = refl
-not_list k.InstanceOf e = refl
-not_list k.Print e = refl
-not_list k.Yield e = refl
+not_list other e = refl
 
 pub tail_is : (v : Version) (m : ℕ) (i : NodeKind) (b : Forest) (ts : List Token) (f : Form) → IsNode v i b → operand_tail v m (i, b) ts ≡ Some f → read_tail v m (i, b) ts ≡ Some f
 tail_is v m i b ts f x e = rw (straight v i b x, e) refl

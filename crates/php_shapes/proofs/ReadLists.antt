@@ -25,7 +25,8 @@ use Rattle.php_shapes.specs.Places.{Operand, may_stand}
 use Rattle.php_shapes.specs.Shapes.{Fits, is_both, is_first, is_second, IsNode}
 use Rattle.php_shapes.proofs.ReadClasses.{both, for_all}
 use Rattle.php_shapes.proofs.ReadFirst.{Begins, rule_begins, starts}
-use Rattle.php_shapes.proofs.ReadMatch.{Below, both_is, closes_item, false_true, fits_alone, is_open_for_arrow, leaves_before, left_le, matched, matches, nodes_count, nothing_is, place_is, right_le, where_is, where_it, word_is}
+use Rattle.php_shapes.proofs.ReadEnds.{Below, closes_item, is_open_for_arrow}
+use Rattle.php_shapes.proofs.ReadMatch.{both_is, false_true, fits_alone, leaves_before, left_le, matched, matches, nodes_count, nothing_is, place_is, right_le, where_is, where_it, word_is}
 use Rattle.php_shapes.proofs.ReadOperands.{first_is, only_class}
 use Rattle.php_shapes.proofs.ReadPostfixes.{split_word}
 use Rattle.php_terminals.specs.Ahead.{past_group}
@@ -37,7 +38,7 @@ use Rattle.php_shapes.specs.Notation.{brackets}
 use Rattle.php_shapes.specs.Nearest.{elses_are_nearest}
 use Rattle.php_shapes.specs.Places.{TargetOrList, is_expression}
 use Rattle.php_shapes.specs.Shapes.{is_inside, no_more, once_more}
-use Rattle.php_shapes.proofs.ReadMatch.{closes_target}
+use Rattle.php_shapes.proofs.ReadEnds.{closes_target}
 use Rattle.php_shapes.proofs.ReadVariables.{before_arrow, group_alone, is_no_mark, starts_with, walk_join}
 use Rattle.php_shapes.proofs.ReadClosures.{between_words, closes_bracket}
 use Rattle.php_shapes.proofs.ReadLeading.{list_parts, list_past, list_word}

@@ -32,7 +32,8 @@ use Rattle.php_shapes.specs.Places.{ClassBase}
 use Rattle.php_shapes.specs.Shapes.{Fits, is_nothing, is_word, is_both, is_first, is_second, is_inside, no_more, once_more, is_node}
 use Rattle.php_shapes.proofs.ReadClasses.{accepted, both, could, for_all}
 use Rattle.php_shapes.proofs.ReadFirst.{Begins, nullable, rule_begins, starts}
-use Rattle.php_shapes.proofs.ReadMatch.{before_none, Below, begins_there, both_is, false_true, fits_alone, leaves_before, left_le, matched, matches, not_true, right_le, where_is, where_it, word_is}
+use Rattle.php_shapes.proofs.ReadEnds.{Below}
+use Rattle.php_shapes.proofs.ReadMatch.{before_none, begins_there, both_is, false_true, fits_alone, leaves_before, left_le, matched, matches, not_true, right_le, where_is, where_it, word_is}
 use Rattle.php_shapes.proofs.ReadMembers.{behind_variables}
 use Rattle.php_shapes.proofs.ReadOperands.{Before, before_class, class_before as class_of_before, first_is, Grown, grow_head, only_class, second_starts}
 use Rattle.php_shapes.proofs.ReadPostfixes.{call_ahead, call_paren, calls_grow, class_base, member_ahead, no_paren, not_called, postfix_grows, split_word, tested}
@@ -156,142 +157,16 @@ constant_form t.DoubleColon us e = absurd (false_true e)
 constant_form c us e = refl
 
 no_name : (c : Terminal) → ends_constant c ≡ true → is_name_part c ≡ false
-no_name t.InlineHtml e = refl
-no_name t.Variable e = refl
-no_name t.Int e = refl
-no_name t.Float e = refl
-no_name t.Text e = refl
-no_name t.QuoteOpen e = refl
-no_name t.Piece e = refl
-no_name t.CurlyOpen e = refl
-no_name t.DollarBrace e = refl
-no_name t.VarName e = refl
-no_name t.QuotedEnd e = refl
-no_name t.Cast e = refl
-no_name t.OldCast e = refl
-no_name t.AttributeOpen e = refl
 no_name t.QualifiedName e = absurd (false_true e)
 no_name t.FullName e = absurd (false_true e)
 no_name t.RelativeName e = absurd (false_true e)
-no_name t.Semi e = refl
-no_name t.End e = refl
 no_name t.Label e = absurd (false_true e)
 no_name t.Match e = absurd (false_true e)
 no_name t.Readonly e = absurd (false_true e)
 no_name t.MixedOrNever e = absurd (false_true e)
-no_name t.Array e = refl
-no_name t.As e = refl
-no_name t.Break e = refl
-no_name t.Callable e = refl
-no_name t.Case e = refl
-no_name t.Catch e = refl
-no_name t.Class e = refl
-no_name t.Clone e = refl
-no_name t.Const e = refl
-no_name t.Continue e = refl
-no_name t.Declare e = refl
-no_name t.Default e = refl
-no_name t.Do e = refl
-no_name t.Echo e = refl
-no_name t.Else e = refl
-no_name t.ElseIf e = refl
-no_name t.Empty e = refl
-no_name t.EndDeclare e = refl
-no_name t.EndFor e = refl
-no_name t.EndForeach e = refl
-no_name t.EndIf e = refl
-no_name t.EndSwitch e = refl
-no_name t.EndWhile e = refl
-no_name t.Eval e = refl
-no_name t.Exit e = refl
-no_name t.Extends e = refl
-no_name t.Finally e = refl
-no_name t.Fn e = refl
-no_name t.For e = refl
-no_name t.Foreach e = refl
-no_name t.Function e = refl
-no_name t.Global e = refl
-no_name t.Goto e = refl
-no_name t.If e = refl
-no_name t.Implements e = refl
-no_name t.Include e = refl
-no_name t.InstanceOf e = refl
-no_name t.Interface e = refl
-no_name t.Isset e = refl
-no_name t.List e = refl
 no_name t.Namespace e = absurd (false_true e)
-no_name t.New e = refl
-no_name t.And e = refl
-no_name t.Or e = refl
-no_name t.Xor e = refl
-no_name t.Print e = refl
-no_name t.ClassModifier e = refl
-no_name t.Visibility e = refl
-no_name t.Return e = refl
-no_name t.Static e = refl
-no_name t.Switch e = refl
-no_name t.Throw e = refl
-no_name t.Trait e = refl
-no_name t.Try e = refl
-no_name t.Unset e = refl
-no_name t.Use e = refl
-no_name t.While e = refl
-no_name t.Yield e = refl
-no_name t.YieldFrom e = refl
-no_name t.OtherKeyword e = refl
-no_name t.OpenParen e = refl
-no_name t.CloseParen e = refl
-no_name t.OpenBracket e = refl
-no_name t.CloseBracket e = refl
-no_name t.OpenBrace e = refl
-no_name t.CloseBrace e = refl
-no_name t.Comma e = refl
-no_name t.Colon e = refl
-no_name t.DoubleColon e = refl
-no_name t.Arrow e = refl
-no_name t.DoubleArrow e = refl
 no_name t.Backslash e = absurd (false_true e)
-no_name t.Dollar e = refl
-no_name t.Ellipsis e = refl
-no_name t.Question e = refl
-no_name t.Assign e = refl
-no_name t.CompoundAssign e = refl
-no_name t.Power e = refl
-no_name t.Plus e = refl
-no_name t.Minus e = refl
-no_name t.Factor e = refl
-no_name t.Shift e = refl
-no_name t.Dot e = refl
-no_name t.Order e = refl
-no_name t.Equality e = refl
-no_name t.Ampersand e = refl
-no_name t.Caret e = refl
-no_name t.Bar e = refl
-no_name t.BooleanAnd e = refl
-no_name t.BooleanOr e = refl
-no_name t.Coalesce e = refl
-no_name t.Step e = refl
-no_name t.Not e = refl
-no_name t.Tight e = refl
-no_name t.OtherOp e = refl
-no_name t.AnyLabel e = refl
-no_name t.FreeLabel e = refl
-no_name t.FunctionLabel e = refl
-no_name t.ClassLabel e = refl
-no_name t.NameToken e = refl
-no_name t.CalledName e = refl
-no_name t.NamespaceToken e = refl
-no_name t.ImportedName e = refl
-no_name t.ImportedClass e = refl
-no_name t.GroupedName e = refl
-no_name t.GroupedClass e = refl
-no_name t.AttributeName e = refl
-no_name t.AnyWord e = refl
-no_name t.ConstantWord e = refl
-no_name t.Modifier e = refl
-no_name t.BinaryOperator e = refl
-no_name t.SignOrTight e = refl
-no_name t.Never e = refl
+no_name other e = refl
 
 constant_test : (v : Version) → matches v 60 false (name v ∷ []) (Part g.Name ∷ []) (before_class v k.Constant) ≡ true
 unfolding for_all

@@ -21,7 +21,8 @@ use Rattle.php_shapes.specs.Shapes.{Fits}
 use Rattle.php_shapes.specs.Statements.{statements}
 use Rattle.php_shapes.proofs.ReadClasses.{could, for_all, whenever}
 use Rattle.php_shapes.proofs.ReadFirst.{nullable, starts}
-use Rattle.php_shapes.proofs.ReadMatch.{Below, false_true, matches, not_true, where_is, where_it}
+use Rattle.php_shapes.proofs.ReadEnds.{Below}
+use Rattle.php_shapes.proofs.ReadMatch.{false_true, matches, not_true, where_is, where_it}
 use Rattle.php_shapes.proofs.ReadNearest.{follows_statement}
 use Rattle.php_shapes.proofs.ReadStatements.{StatementGrows, first_in}
 use Rattle.php_shapes.proofs.ReadDeclarations.{after_word, chosen_grows, form_by}

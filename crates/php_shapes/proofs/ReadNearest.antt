@@ -11,7 +11,8 @@ use Rattle.php_shapes.specs.Forms.{form}
 use Rattle.php_shapes.specs.Nearest.{arrows_are_nearest, elses_are_nearest, ends_in_if, goes_on_if, is_open_if}
 use Rattle.php_shapes.specs.Shapes.{Fits, IsNode, is_node}
 use Rattle.php_shapes.proofs.ReadClasses.{both, or_is}
-use Rattle.php_shapes.proofs.ReadMatch.{closes_statement, EndsStatement, false_true, Last}
+use Rattle.php_shapes.proofs.ReadEnds.{closes_statement, EndsStatement}
+use Rattle.php_shapes.proofs.ReadMatch.{false_true, Last}
 
 -- what may follow a statement
 abbrev pub follows_statement : Terminal → Bool

@@ -27,7 +27,8 @@ use Rattle.php_shapes.specs.Places.{Place, may_stand}
 use Rattle.php_shapes.specs.Shapes.{Fits, is_both, is_first, is_second, IsNode, is_node}
 use Rattle.php_shapes.proofs.ReadClasses.{accepted, both, could, for_all}
 use Rattle.php_shapes.proofs.ReadFirst.{nullable, starts}
-use Rattle.php_shapes.proofs.ReadMatch.{Behind, Below, both_is, false_true, fits_alone, FitsAll, leaves_before, matched, matches, nodes_count, nothing_is, place_is, where_is, where_it, word_is}
+use Rattle.php_shapes.proofs.ReadEnds.{Behind, Below}
+use Rattle.php_shapes.proofs.ReadMatch.{both_is, false_true, fits_alone, FitsAll, leaves_before, matched, matches, nodes_count, nothing_is, place_is, where_is, where_it, word_is}
 use Rattle.php_shapes.proofs.ReadOperands.{Before, before_class, ends_its_chain, first_is, only_behind, only_class}
 use Rattle.php_shapes.proofs.ReadPostfixes.{split_word}
 use Rattle.php_terminals.specs.Ahead.{behind_name}
@@ -40,7 +41,8 @@ use Rattle.php_shapes.specs.Atoms.{inheritance, members, new, new_arguments}
 use Rattle.php_shapes.specs.Names.{name}
 use Rattle.php_shapes.specs.Operators.{instance_of}
 use Rattle.php_shapes.specs.Places.{begins_with_class_name, ClassName, is_class_name, is_expression, Left}
-use Rattle.php_shapes.proofs.ReadMatch.{behind_level, behind_limit, first_class, Stopped}
+use Rattle.php_shapes.proofs.ReadEnds.{behind_level, behind_limit, Stopped}
+use Rattle.php_shapes.proofs.ReadMatch.{first_class}
 use Rattle.php_shapes.proofs.ReadOperands.{FitsLevel, Grown}
 use Rattle.php_shapes.proofs.ReadVariables.{group_alone, starts_with}
 use Rattle.php_shapes.proofs.ReadNames.{begins_with_name, name_first, name_skips, only_words, words_are}

@@ -28,7 +28,8 @@ use Rattle.php_shapes.specs.Places.{Operand, may_stand, is_expression, is_prefix
 use Rattle.php_shapes.specs.Shapes.{Fits, IsNode}
 use Rattle.php_shapes.proofs.ReadClasses.{everywhere, for_all, same_is}
 use Rattle.php_shapes.proofs.ReadFirst.{Begins, nullable, rule_begins, starts}
-use Rattle.php_shapes.proofs.ReadMatch.{Behind, behind_level, Below, begins_there, both_is, closes_expression, false_true, fits_alone, goes_behind, matched, matches, nodes_count, place_is, where_is, where_it, word_is}
+use Rattle.php_shapes.proofs.ReadEnds.{Behind, behind_level, Below, closes_expression, goes_behind}
+use Rattle.php_shapes.proofs.ReadMatch.{begins_there, both_is, false_true, fits_alone, matched, matches, nodes_count, place_is, where_is, where_it, word_is}
 use Rattle.php_shapes.proofs.ReadStops.{last_ends, looser}
 
 -- An expression or a list form stands before a token of a class.

@@ -23,7 +23,8 @@ use Rattle.php_shapes.specs.Nearest.{is_to}
 use Rattle.php_shapes.specs.Shapes.{IsNode}
 use Rattle.php_shapes.proofs.ReadClasses.{accepted, could, for_all}
 use Rattle.php_shapes.proofs.ReadFirst.{Begins}
-use Rattle.php_shapes.proofs.ReadMatch.{Behind, begins_there, closes_expression, closes_item, false_true, where_is, where_it}
+use Rattle.php_shapes.proofs.ReadEnds.{Behind, closes_expression, closes_item}
+use Rattle.php_shapes.proofs.ReadMatch.{begins_there, false_true, where_is, where_it}
 use Rattle.php_terminals.specs.Ahead.{past_group}
 use Rattle.php_terminals.specs.Indents.{is_misindented}
 use Rattle.php_terminals.specs.Marks.{begins_place, ends_item, goes_on, is_assign}
@@ -34,7 +35,7 @@ use Rattle.php_grammar.specs.Tables.{form, tail}
 use Rattle.php_grammar.specs.Tails.{binary_tail, chosen_tail, entry_end, entry_tail, left_edge, operand_tail, operator_by, operator_tail, place_tail, postfix_by, postfix_tail, read_tail, refused_unless, target_tail, ternary_tail, assign_tail}
 use Rattle.php_shapes.specs.Places.{OffsetBase, is_expression}
 use Rattle.php_shapes.proofs.ReadFirst.{at_place, begins, may_be_empty, node_begins}
-use Rattle.php_shapes.proofs.ReadMatch.{closes_target}
+use Rattle.php_shapes.proofs.ReadEnds.{closes_target}
 use Rattle.php_shapes.proofs.ReadPostfixes.{base_expression, callee_offset, class_offset, member_offset, target_offset}
 use Rattle.php_shapes.proofs.ReadInfix.{not_list}
 use Rattle.php_shapes.proofs.ReadLeading.{bases_lead, bracketed_past, expressions_lead, inner_lead, is_bracketed}
@@ -63,160 +64,13 @@ never_word V74 = refl
 never_word V83 = refl
 
 not_empty_base : (j : NodeKind) → is_offset_base j ≡ true → may_be_empty j ≡ false
-not_empty_base k.Block h = refl
-not_empty_base k.Empty h = refl
-not_empty_base k.ExprStmt h = refl
-not_empty_base k.Echo h = refl
-not_empty_base k.Html h = refl
-not_empty_base k.Return h = refl
-not_empty_base k.If h = refl
-not_empty_base k.IfAlt h = refl
-not_empty_base k.While h = refl
-not_empty_base k.DoWhile h = refl
-not_empty_base k.For h = refl
-not_empty_base k.Foreach h = refl
-not_empty_base k.Switch h = refl
-not_empty_base k.Case h = refl
-not_empty_base k.Break h = refl
-not_empty_base k.Continue h = refl
-not_empty_base k.Global h = refl
-not_empty_base k.Statics h = refl
-not_empty_base k.Unset h = refl
-not_empty_base k.Throw h = refl
-not_empty_base k.Try h = refl
-not_empty_base k.Function h = refl
-not_empty_base k.Param h = refl
-not_empty_base k.TypeName h = refl
-not_empty_base k.Class h = refl
-not_empty_base k.Interface h = refl
-not_empty_base k.Trait h = refl
-not_empty_base k.Property h = refl
-not_empty_base k.ClassConst h = refl
-not_empty_base k.Method h = refl
-not_empty_base k.TraitUse h = refl
-not_empty_base k.Const h = refl
-not_empty_base k.Namespace h = refl
-not_empty_base k.Use h = refl
-not_empty_base k.Declare h = refl
-not_empty_base k.Goto h = refl
-not_empty_base k.LabelStmt h = refl
-not_empty_base k.Variable h = refl
-not_empty_base k.Number h = refl
-not_empty_base k.Float h = refl
-not_empty_base k.Text h = refl
-not_empty_base k.Quoted h = refl
-not_empty_base k.Constant h = refl
-not_empty_base k.ClassConstant h = refl
-not_empty_base k.Array h = refl
-not_empty_base k.Item h = refl
-not_empty_base k.List h = refl
-not_empty_base k.Paren h = refl
-not_empty_base k.Offset h = refl
-not_empty_base k.BraceOffset h = refl
-not_empty_base k.Prop h = refl
-not_empty_base k.StaticProp h = refl
-not_empty_base k.Call h = refl
-not_empty_base k.MethodCall h = refl
-not_empty_base k.StaticCall h = refl
 not_empty_base k.Args h = absurd (false_true h)
-not_empty_base k.New h = refl
-not_empty_base k.Isset h = refl
-not_empty_base k.EmptyTest h = refl
-not_empty_base k.Exit h = refl
-not_empty_base k.Closure h = refl
-not_empty_base k.Arrow h = refl
-not_empty_base k.Include h = refl
-not_empty_base k.EvalTest h = refl
-not_empty_base k.Binary h = refl
-not_empty_base k.Prefix h = refl
-not_empty_base k.Postfix h = refl
-not_empty_base k.Cast h = refl
-not_empty_base k.Ternary h = refl
-not_empty_base k.ShortTernary h = refl
-not_empty_base k.Assign h = refl
-not_empty_base k.AssignRef h = refl
-not_empty_base k.CompoundAssign h = refl
-not_empty_base k.InstanceOf h = refl
-not_empty_base k.Print h = refl
-not_empty_base k.Yield h = refl
+not_empty_base other h = refl
 
 target_plain : (j : NodeKind) → is_target j ≡ true → is_bracketed j ≡ false
-target_plain k.Block h = refl
-target_plain k.Empty h = refl
-target_plain k.ExprStmt h = refl
-target_plain k.Echo h = refl
-target_plain k.Html h = refl
-target_plain k.Return h = refl
-target_plain k.If h = refl
-target_plain k.IfAlt h = refl
-target_plain k.While h = refl
-target_plain k.DoWhile h = refl
-target_plain k.For h = refl
-target_plain k.Foreach h = refl
-target_plain k.Switch h = refl
-target_plain k.Case h = refl
-target_plain k.Break h = refl
-target_plain k.Continue h = refl
-target_plain k.Global h = refl
-target_plain k.Statics h = refl
-target_plain k.Unset h = refl
-target_plain k.Throw h = refl
-target_plain k.Try h = refl
-target_plain k.Function h = refl
-target_plain k.Param h = refl
-target_plain k.TypeName h = refl
-target_plain k.Class h = refl
-target_plain k.Interface h = refl
-target_plain k.Trait h = refl
-target_plain k.Property h = refl
-target_plain k.ClassConst h = refl
-target_plain k.Method h = refl
-target_plain k.TraitUse h = refl
-target_plain k.Const h = refl
-target_plain k.Namespace h = refl
-target_plain k.Use h = refl
-target_plain k.Declare h = refl
-target_plain k.Goto h = refl
-target_plain k.LabelStmt h = refl
-target_plain k.Variable h = refl
-target_plain k.Number h = refl
-target_plain k.Float h = refl
-target_plain k.Text h = refl
-target_plain k.Quoted h = refl
-target_plain k.Constant h = refl
-target_plain k.ClassConstant h = refl
 target_plain k.Array h = absurd (false_true h)
-target_plain k.Item h = refl
 target_plain k.List h = absurd (false_true h)
-target_plain k.Paren h = refl
-target_plain k.Offset h = refl
-target_plain k.BraceOffset h = refl
-target_plain k.Prop h = refl
-target_plain k.StaticProp h = refl
-target_plain k.Call h = refl
-target_plain k.MethodCall h = refl
-target_plain k.StaticCall h = refl
-target_plain k.Args h = refl
-target_plain k.New h = refl
-target_plain k.Isset h = refl
-target_plain k.EmptyTest h = refl
-target_plain k.Exit h = refl
-target_plain k.Closure h = refl
-target_plain k.Arrow h = refl
-target_plain k.Include h = refl
-target_plain k.EvalTest h = refl
-target_plain k.Binary h = refl
-target_plain k.Prefix h = refl
-target_plain k.Postfix h = refl
-target_plain k.Cast h = refl
-target_plain k.Ternary h = refl
-target_plain k.ShortTernary h = refl
-target_plain k.Assign h = refl
-target_plain k.AssignRef h = refl
-target_plain k.CompoundAssign h = refl
-target_plain k.InstanceOf h = refl
-target_plain k.Print h = refl
-target_plain k.Yield h = refl
+target_plain other h = refl
 
 goes_no_assign : (c : Terminal) → goes_on c ≡ true → is_assign c ≡ false
 goes_no_assign t.Assign h = absurd (false_true h)

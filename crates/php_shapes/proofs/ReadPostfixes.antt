@@ -29,7 +29,8 @@ use Rattle.php_shapes.specs.Postfixes.{brace_offset, called, member, offset, pro
 use Rattle.php_shapes.specs.Places.{Place, OffsetBase, MemberBase, ClassBase, Callee, is_expression, may_stand}
 use Rattle.php_shapes.specs.Shapes.{Fits, IsNode}
 use Rattle.php_shapes.proofs.ReadClasses.{accepted, could, for_all}
-use Rattle.php_shapes.proofs.ReadMatch.{Below, both_is, false_true, fits_alone, goes_behind, leaves_before, matched, matches, nodes_count, place_is, where_is, where_it, word_is}
+use Rattle.php_shapes.proofs.ReadEnds.{Below, goes_behind}
+use Rattle.php_shapes.proofs.ReadMatch.{both_is, false_true, fits_alone, leaves_before, matched, matches, nodes_count, place_is, where_is, where_it, word_is}
 use Rattle.php_shapes.proofs.ReadOperands.{Before, before_class, class_before, first_is, Grown, only_class}
 use Rattle.php_shapes.proofs.ReadMembers.{behind_members}
 use Rattle.php_shapes.proofs.ReadInfix.{first_tail, tail_is}
@@ -38,53 +39,11 @@ use Rattle.php_shapes.proofs.ReadFirst.{nullable}
 -- ---- bases
 
 pub base_expression : (i : NodeKind) → is_offset_base i ≡ true → is_expression i ≡ true
-base_expression k.Block e = absurd (false_true e)
-base_expression k.Empty e = absurd (false_true e)
-base_expression k.ExprStmt e = absurd (false_true e)
-base_expression k.Echo e = absurd (false_true e)
-base_expression k.Html e = absurd (false_true e)
-base_expression k.Return e = absurd (false_true e)
-base_expression k.If e = absurd (false_true e)
-base_expression k.IfAlt e = absurd (false_true e)
-base_expression k.While e = absurd (false_true e)
-base_expression k.DoWhile e = absurd (false_true e)
-base_expression k.For e = absurd (false_true e)
-base_expression k.Foreach e = absurd (false_true e)
-base_expression k.Switch e = absurd (false_true e)
-base_expression k.Case e = absurd (false_true e)
-base_expression k.Break e = absurd (false_true e)
-base_expression k.Continue e = absurd (false_true e)
-base_expression k.Global e = absurd (false_true e)
-base_expression k.Statics e = absurd (false_true e)
-base_expression k.Unset e = absurd (false_true e)
-base_expression k.Throw e = absurd (false_true e)
-base_expression k.Try e = absurd (false_true e)
-base_expression k.Function e = absurd (false_true e)
-base_expression k.Param e = absurd (false_true e)
-base_expression k.TypeName e = absurd (false_true e)
-base_expression k.Class e = absurd (false_true e)
-base_expression k.Interface e = absurd (false_true e)
-base_expression k.Trait e = absurd (false_true e)
-base_expression k.Property e = absurd (false_true e)
-base_expression k.ClassConst e = absurd (false_true e)
-base_expression k.Method e = absurd (false_true e)
-base_expression k.TraitUse e = absurd (false_true e)
-base_expression k.Const e = absurd (false_true e)
-base_expression k.Namespace e = absurd (false_true e)
-base_expression k.Use e = absurd (false_true e)
-base_expression k.Declare e = absurd (false_true e)
-base_expression k.Goto e = absurd (false_true e)
-base_expression k.LabelStmt e = absurd (false_true e)
 base_expression k.Variable e = refl
-base_expression k.Number e = absurd (false_true e)
-base_expression k.Float e = absurd (false_true e)
 base_expression k.Text e = refl
-base_expression k.Quoted e = absurd (false_true e)
 base_expression k.Constant e = refl
 base_expression k.ClassConstant e = refl
 base_expression k.Array e = refl
-base_expression k.Item e = absurd (false_true e)
-base_expression k.List e = absurd (false_true e)
 base_expression k.Paren e = refl
 base_expression k.Offset e = refl
 base_expression k.BraceOffset e = refl
@@ -93,76 +52,14 @@ base_expression k.StaticProp e = refl
 base_expression k.Call e = refl
 base_expression k.MethodCall e = refl
 base_expression k.StaticCall e = refl
-base_expression k.Args e = absurd (false_true e)
-base_expression k.New e = absurd (false_true e)
-base_expression k.Isset e = absurd (false_true e)
-base_expression k.EmptyTest e = absurd (false_true e)
-base_expression k.Exit e = absurd (false_true e)
-base_expression k.Closure e = absurd (false_true e)
-base_expression k.Arrow e = absurd (false_true e)
-base_expression k.Include e = absurd (false_true e)
-base_expression k.EvalTest e = absurd (false_true e)
-base_expression k.Binary e = absurd (false_true e)
-base_expression k.Prefix e = absurd (false_true e)
-base_expression k.Postfix e = absurd (false_true e)
-base_expression k.Cast e = absurd (false_true e)
-base_expression k.Ternary e = absurd (false_true e)
-base_expression k.ShortTernary e = absurd (false_true e)
-base_expression k.Assign e = absurd (false_true e)
-base_expression k.AssignRef e = absurd (false_true e)
-base_expression k.CompoundAssign e = absurd (false_true e)
-base_expression k.InstanceOf e = absurd (false_true e)
-base_expression k.Print e = absurd (false_true e)
-base_expression k.Yield e = absurd (false_true e)
+base_expression other e = absurd (false_true e)
 
 pub base_level : (v : Version) (i : NodeKind) (b : Forest) → is_offset_base i ≡ true → level v (i, b) ≡ 0
-base_level v k.Block b e = absurd (false_true e)
-base_level v k.Empty b e = absurd (false_true e)
-base_level v k.ExprStmt b e = absurd (false_true e)
-base_level v k.Echo b e = absurd (false_true e)
-base_level v k.Html b e = absurd (false_true e)
-base_level v k.Return b e = absurd (false_true e)
-base_level v k.If b e = absurd (false_true e)
-base_level v k.IfAlt b e = absurd (false_true e)
-base_level v k.While b e = absurd (false_true e)
-base_level v k.DoWhile b e = absurd (false_true e)
-base_level v k.For b e = absurd (false_true e)
-base_level v k.Foreach b e = absurd (false_true e)
-base_level v k.Switch b e = absurd (false_true e)
-base_level v k.Case b e = absurd (false_true e)
-base_level v k.Break b e = absurd (false_true e)
-base_level v k.Continue b e = absurd (false_true e)
-base_level v k.Global b e = absurd (false_true e)
-base_level v k.Statics b e = absurd (false_true e)
-base_level v k.Unset b e = absurd (false_true e)
-base_level v k.Throw b e = absurd (false_true e)
-base_level v k.Try b e = absurd (false_true e)
-base_level v k.Function b e = absurd (false_true e)
-base_level v k.Param b e = absurd (false_true e)
-base_level v k.TypeName b e = absurd (false_true e)
-base_level v k.Class b e = absurd (false_true e)
-base_level v k.Interface b e = absurd (false_true e)
-base_level v k.Trait b e = absurd (false_true e)
-base_level v k.Property b e = absurd (false_true e)
-base_level v k.ClassConst b e = absurd (false_true e)
-base_level v k.Method b e = absurd (false_true e)
-base_level v k.TraitUse b e = absurd (false_true e)
-base_level v k.Const b e = absurd (false_true e)
-base_level v k.Namespace b e = absurd (false_true e)
-base_level v k.Use b e = absurd (false_true e)
-base_level v k.Declare b e = absurd (false_true e)
-base_level v k.Goto b e = absurd (false_true e)
-base_level v k.LabelStmt b e = absurd (false_true e)
 base_level v k.Variable b e = refl
-base_level v k.Number b e = absurd (false_true e)
-base_level v k.Float b e = absurd (false_true e)
 base_level v k.Text b e = refl
-base_level v k.Quoted b e = absurd (false_true e)
 base_level v k.Constant b e = refl
 base_level v k.ClassConstant b e = refl
 base_level v k.Array b e = refl
-base_level v k.Item b e = absurd (false_true e)
-base_level v k.List b e = absurd (false_true e)
 base_level v k.Paren b e = refl
 base_level v k.Offset b e = refl
 base_level v k.BraceOffset b e = refl
@@ -171,27 +68,7 @@ base_level v k.StaticProp b e = refl
 base_level v k.Call b e = refl
 base_level v k.MethodCall b e = refl
 base_level v k.StaticCall b e = refl
-base_level v k.Args b e = absurd (false_true e)
-base_level v k.New b e = absurd (false_true e)
-base_level v k.Isset b e = absurd (false_true e)
-base_level v k.EmptyTest b e = absurd (false_true e)
-base_level v k.Exit b e = absurd (false_true e)
-base_level v k.Closure b e = absurd (false_true e)
-base_level v k.Arrow b e = absurd (false_true e)
-base_level v k.Include b e = absurd (false_true e)
-base_level v k.EvalTest b e = absurd (false_true e)
-base_level v k.Binary b e = absurd (false_true e)
-base_level v k.Prefix b e = absurd (false_true e)
-base_level v k.Postfix b e = absurd (false_true e)
-base_level v k.Cast b e = absurd (false_true e)
-base_level v k.Ternary b e = absurd (false_true e)
-base_level v k.ShortTernary b e = absurd (false_true e)
-base_level v k.Assign b e = absurd (false_true e)
-base_level v k.AssignRef b e = absurd (false_true e)
-base_level v k.CompoundAssign b e = absurd (false_true e)
-base_level v k.InstanceOf b e = absurd (false_true e)
-base_level v k.Print b e = absurd (false_true e)
-base_level v k.Yield b e = absurd (false_true e)
+base_level v other b e = absurd (false_true e)
 
 pub member_offset : (a : Role) → is_member_base_role a ≡ true → is_offset_base_role a ≡ true
 member_offset r.Variable e = refl

@@ -23,7 +23,8 @@ use Rattle.php_shapes.specs.Operators.{cast, prefix}
 use Rattle.php_shapes.specs.Places.{Operand, Target, may_stand}
 use Rattle.php_shapes.specs.Shapes.{Fits, is_both, is_first, is_second, IsNode}
 use Rattle.php_shapes.proofs.ReadClasses.{accepted, could, for_all, same_is}
-use Rattle.php_shapes.proofs.ReadMatch.{Behind, behind_limit, Below, both_is, false_true, nodes_count, place_is, where_is, where_it, word_is}
+use Rattle.php_shapes.proofs.ReadEnds.{Behind, behind_limit, Below}
+use Rattle.php_shapes.proofs.ReadMatch.{both_is, false_true, nodes_count, place_is, where_is, where_it, word_is}
 use Rattle.php_shapes.proofs.ReadOperands.{Before, ends_its_chain, only_behind, only_first, prefixed}
 use Rattle.php_shapes.proofs.ReadStops.{arrow_of_last, edge_of_last, le_trans3, looser}
 

@@ -22,7 +22,8 @@ use Rattle.php_shapes.specs.Notation.{Rule, word, ◌~◌, many, maybe, expr}
 use Rattle.php_shapes.specs.Shapes.{Fits, is_both, is_first, is_second}
 use Rattle.php_shapes.proofs.ReadClasses.{for_all}
 use Rattle.php_shapes.proofs.ReadFirst.{Begins, rule_begins, starts}
-use Rattle.php_shapes.proofs.ReadMatch.{Below, false_true, fits_alone, left_le, matched, matches, right_le, where_is, where_it, word_is}
+use Rattle.php_shapes.proofs.ReadEnds.{Below}
+use Rattle.php_shapes.proofs.ReadMatch.{false_true, fits_alone, left_le, matched, matches, right_le, where_is, where_it, word_is}
 use Rattle.php_shapes.proofs.ReadOperands.{first_is, only_class, second_starts}
 use Rattle.php_shapes.proofs.ReadAssigns.{second_is}
 use Rattle.php_terminals.specs.Classify.{is_any_label}

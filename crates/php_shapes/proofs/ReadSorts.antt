@@ -11,7 +11,8 @@ use Rattle.php_forms.specs.Grammar.{Grows}
 use Rattle.php_grammar.specs.Tables.{php}
 use Rattle.php_shapes.specs.Places.{is_member, is_statement}
 use Rattle.php_shapes.specs.Shapes.{IsNode}
-use Rattle.php_shapes.proofs.ReadMatch.{Below, EndsStatement, false_true}
+use Rattle.php_shapes.proofs.ReadEnds.{Below, EndsStatement}
+use Rattle.php_shapes.proofs.ReadMatch.{false_true}
 use Rattle.php_shapes.proofs.ReadStatements.{block_grows, break_grows, continue_grows, declare_grows, do_grows, echo_grows, empty_grows, for_grows, foreach_grows, global_grows, goto_grows, html_grows, return_grows, switch_grows, throw_grows, try_grows, unset_grows, while_grows}
 use Rattle.php_shapes.proofs.ReadIfs.{if_grows}
 use Rattle.php_shapes.proofs.ReadIfColons.{if_colons_grows}

@@ -23,7 +23,8 @@ use Rattle.php_shapes.specs.Notation.{Rule}
 use Rattle.php_shapes.specs.Shapes.{Fits, IsNode}
 use Rattle.php_shapes.proofs.ReadClasses.{for_all, same_is}
 use Rattle.php_shapes.proofs.ReadFirst.{Begins, nullable, rule_begins, starts}
-use Rattle.php_shapes.proofs.ReadMatch.{begins_there, Below, EndsStatement, fits_alone, Last, matched, matches, where_is, where_it}
+use Rattle.php_shapes.proofs.ReadEnds.{Below, EndsStatement}
+use Rattle.php_shapes.proofs.ReadMatch.{begins_there, fits_alone, Last, matched, matches, where_is, where_it}
 use Rattle.php_shapes.proofs.ReadNearest.{follows, follows_statement, last_of, shaped}
 
 -- A statement of a kind is read as it was, wherever it ends.

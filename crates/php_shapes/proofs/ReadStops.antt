@@ -18,7 +18,8 @@ use Rattle.php_grammar.specs.Tails.{binary_tail, left_edge, operand_tail, operat
 use Rattle.php_shapes.specs.Nearest.{ends_in_yield, is_open_yield, is_to}
 use Rattle.php_shapes.specs.Shapes.{IsNode, is_node}
 use Rattle.php_shapes.proofs.ReadClasses.{for_all}
-use Rattle.php_shapes.proofs.ReadMatch.{behind_level, behind_limit, Behind, closes_expression, Ends, false_true, is_open_for_arrow, where_is, where_it}
+use Rattle.php_shapes.proofs.ReadEnds.{behind_level, behind_limit, Behind, closes_expression, Ends, is_open_for_arrow}
+use Rattle.php_shapes.proofs.ReadMatch.{false_true, where_is, where_it}
 
 pub straight : (v : Version) (j : NodeKind) (c : Forest) → IsNode v j c → is_misindented (j, c) ≡ false
 straight v j c (is_node x near e) = e

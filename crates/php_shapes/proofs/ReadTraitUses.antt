@@ -25,7 +25,8 @@ use Rattle.php_shapes.specs.Names.{names}
 use Rattle.php_shapes.specs.Notation.{Rule, word, ◌~◌, ◌|||◌, tokens, braces}
 use Rattle.php_shapes.specs.Shapes.{Fits, is_first, is_second, is_tokens, is_balanced}
 use Rattle.php_shapes.proofs.ReadClasses.{both, could, for_all, pinned, whenever}
-use Rattle.php_shapes.proofs.ReadMatch.{Below, both_is, false_true, fits_alone, left_le, matched, matches, not_true, where_is, where_it, word_is}
+use Rattle.php_shapes.proofs.ReadEnds.{Below}
+use Rattle.php_shapes.proofs.ReadMatch.{both_is, false_true, fits_alone, left_le, matched, matches, not_true, where_is, where_it, word_is}
 use Rattle.php_shapes.proofs.ReadFirst.{starts}
 use Rattle.php_shapes.proofs.ReadNearest.{shaped}
 use Rattle.php_shapes.proofs.ReadBodies.{group_alone, walks_on}

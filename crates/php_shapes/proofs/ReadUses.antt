@@ -23,7 +23,8 @@ use Rattle.php_shapes.specs.Notation.{Rule, word, ◌~◌, ◌|||◌, many, comm
 use Rattle.php_shapes.specs.Shapes.{Fits, is_both}
 use Rattle.php_shapes.proofs.ReadClasses.{could, for_all, pinned, whenever}
 use Rattle.php_shapes.proofs.ReadFirst.{first}
-use Rattle.php_shapes.proofs.ReadMatch.{Below, both_is, either_is, false_true, first_class, fits_alone, matched, matches, not_true, right_le, where_is, where_it, word_is}
+use Rattle.php_shapes.proofs.ReadEnds.{Below}
+use Rattle.php_shapes.proofs.ReadMatch.{both_is, either_is, false_true, first_class, fits_alone, matched, matches, not_true, right_le, where_is, where_it, word_is}
 use Rattle.php_shapes.proofs.ReadBodies.{group_alone, walks_on}
 use Rattle.php_shapes.proofs.ReadDeclarations.{after_word}
 use Rattle.php_shapes.proofs.ReadImports.{imported_name_walks, NameEnds}

@@ -30,7 +30,8 @@ use Rattle.php_shapes.specs.Places.{Operand, may_stand}
 use Rattle.php_shapes.specs.Shapes.{Fits, is_both, is_first, is_second, IsNode, is_node}
 use Rattle.php_shapes.proofs.ReadClasses.{both, for_all}
 use Rattle.php_shapes.proofs.ReadFirst.{Begins, nullable, rule_begins, starts}
-use Rattle.php_shapes.proofs.ReadMatch.{before_none, begins_there, Below, closes_args, closes_expression, closes_item, false_true, fits_alone, is_open_for_arrow, leaves_before, matched, matches, nodes_count, nothing_is, place_is, where_is, where_it}
+use Rattle.php_shapes.proofs.ReadEnds.{Below, closes_args, closes_expression, closes_item, is_open_for_arrow}
+use Rattle.php_shapes.proofs.ReadMatch.{before_none, begins_there, false_true, fits_alone, leaves_before, matched, matches, nodes_count, nothing_is, place_is, where_is, where_it}
 use Rattle.php_shapes.proofs.ReadOperands.{first_is, only_class, second_starts}
 use Rattle.php_shapes.proofs.ReadPostfixes.{split_word}
 use Rattle.php_shapes.proofs.ReadAssigns.{second_is}

@@ -24,7 +24,8 @@ use Rattle.php_shapes.specs.Notation.{Rule, word, ◌~◌, ◌|||◌, many, mayb
 use Rattle.php_shapes.specs.Shapes.{Fits, is_first, is_second, no_more, once_more}
 use Rattle.php_shapes.proofs.ReadClasses.{could, for_all, pinned, whenever}
 use Rattle.php_shapes.proofs.ReadFirst.{first, nullable, starts}
-use Rattle.php_shapes.proofs.ReadMatch.{Below, both_is, either_is, false_true, first_class, fits_alone, leaves_before, left_le, nothing_is, not_true, right_le, where_is, where_it, word_is}
+use Rattle.php_shapes.proofs.ReadEnds.{Below}
+use Rattle.php_shapes.proofs.ReadMatch.{both_is, either_is, false_true, first_class, fits_alone, leaves_before, left_le, nothing_is, not_true, right_le, where_is, where_it, word_is}
 use Rattle.php_shapes.proofs.ReadBodies.{group_alone, has_token, walks_on}
 use Rattle.php_shapes.proofs.ReadDeclarations.{after_word}
 use Rattle.php_shapes.proofs.ReadNearest.{shaped}

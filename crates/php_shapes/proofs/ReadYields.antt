@@ -23,14 +23,15 @@ use Rattle.php_shapes.specs.Notation.{word, place, ◌~◌, maybe}
 use Rattle.php_shapes.specs.Places.{Operand, may_stand}
 use Rattle.php_shapes.specs.Shapes.{Fits, is_first, is_second, IsNode}
 use Rattle.php_shapes.proofs.ReadClasses.{both, everywhere, for_all}
-use Rattle.php_shapes.proofs.ReadMatch.{Behind, Below, both_is, closes_expression, false_true, is_open_for_arrow, nodes_count, nothing_is, place_is, word_is}
+use Rattle.php_shapes.proofs.ReadEnds.{Behind, Below, closes_expression, is_open_for_arrow}
+use Rattle.php_shapes.proofs.ReadMatch.{both_is, false_true, nodes_count, nothing_is, place_is, word_is}
 use Rattle.php_shapes.proofs.ReadOperands.{Before, ends_its_chain, first_is, last_operand, only_behind, only_class}
 use Rattle.php_shapes.proofs.ReadStops.{last_ends, looser}
 use Rattle.php_forms.specs.Atoms.{yield_to}
 use Rattle.php_grammar.specs.Edges.{edge}
 use Rattle.php_shapes.specs.Nearest.{elses_are_nearest, is_yield}
 use Rattle.php_shapes.specs.Operators.{yield}
-use Rattle.php_shapes.proofs.ReadMatch.{behind_level, behind_limit}
+use Rattle.php_shapes.proofs.ReadEnds.{behind_level, behind_limit}
 use Rattle.php_shapes.proofs.ReadOperands.{only_first, prefixed}
 use Rattle.php_shapes.proofs.ReadPrefixes.{alone_class, word_test}
 use Rattle.php_shapes.proofs.ReadVariables.{before_arrow, group_alone}
