@@ -16,7 +16,7 @@ each_end P f (b ∷ y) = (f (b ∷ y), each_end P f y)
 
 -- ---- blanks
 
-skip_by : (b : ℕ) (bs : List ℕ) (t : Bool) → is_blank_byte b ≡ t → skip_blanks (b ∷ bs) ≡ cond t (skip_blanks bs) (b ∷ bs)
+pub skip_by : (b : ℕ) (bs : List ℕ) (t : Bool) → is_blank_byte b ≡ t → skip_blanks (b ∷ bs) ≡ cond t (skip_blanks bs) (b ∷ bs)
 skip_by b bs true e = let one : 1 + blanks_len bs ≡ suc (blanks_len bs) = omega arith in rw (e, one) refl
 skip_by b bs false e = rw e refl
 

@@ -40,3 +40,4 @@ pub mod Passes
 pub mod WrittenTokens
 pub mod Inline
 pub mod TagTexts
+pub mod HeredocEnds

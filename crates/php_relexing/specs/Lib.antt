@@ -2,6 +2,7 @@ pub mod Tiles
 pub mod Spelled
 pub mod Alike
 pub mod Newer
+pub mod HeredocEnds
 pub mod Inline
 pub mod Written
 pub mod Passes

@@ -15,6 +15,7 @@ ghost use Rattle.php_relexing.specs.Words.{WordsStay, OpeningsAreUncast};
 ghost use Rattle.php_relexing.specs.Passes.{PassesJoin, TurnsAgree};
 ghost use Rattle.php_relexing.specs.Written.{MarksAreTokens, NullIsWritten, VariablesAreTokens, NamedIsCode};
 ghost use Rattle.php_relexing.specs.Inline.{TagsStay, HtmlStays};
+ghost use Rattle.php_relexing.specs.HeredocEnds.{HeredocEndsStay, PiecesStayBeforeLabels};
 
 /// A token that begins with a bracket may come in behind any tokens that look no further than the
 /// byte behind them: all others stay the longest of their places.
@@ -206,6 +207,16 @@ pub fn tags_stay()
     ensures { TagsStay }
 {}
 
+/// The closing label of a heredoc stays where no byte of a label follows.
+pub fn heredoc_ends_stay()
+    ensures { HeredocEndsStay }
+{}
+
+/// A piece up to a line end stays where the next line ends the heredoc.
+pub fn pieces_stay_before_labels()
+    ensures { PiecesStayBeforeLabels }
+{}
+
 #[cfg(test)]
 mod tests {
     use super::*;
@@ -249,5 +260,7 @@ mod tests {
         named_is_code();
         html_stays();
         tags_stay();
+        heredoc_ends_stay();
+        pieces_stay_before_labels();
     }
 }
