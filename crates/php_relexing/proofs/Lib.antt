@@ -41,3 +41,4 @@ pub mod WrittenTokens
 pub mod Inline
 pub mod TagTexts
 pub mod HeredocEnds
+pub mod HeredocStarts

@@ -15,7 +15,7 @@ ghost use Rattle.php_relexing.specs.Words.{WordsStay, OpeningsAreUncast};
 ghost use Rattle.php_relexing.specs.Passes.{PassesJoin, TurnsAgree};
 ghost use Rattle.php_relexing.specs.Written.{MarksAreTokens, NullIsWritten, VariablesAreTokens, NamedIsCode};
 ghost use Rattle.php_relexing.specs.Inline.{TagsStay, HtmlStays};
-ghost use Rattle.php_relexing.specs.HeredocEnds.{HeredocEndsStay, PiecesStayBeforeLabels};
+ghost use Rattle.php_relexing.specs.HeredocEnds.{HeredocEndsStay, PiecesStayBeforeLabels, HeredocStartsStay};
 
 /// A token that begins with a bracket may come in behind any tokens that look no further than the
 /// byte behind them: all others stay the longest of their places.
@@ -217,6 +217,11 @@ pub fn pieces_stay_before_labels()
     ensures { PiecesStayBeforeLabels }
 {}
 
+/// The first line of a heredoc stays where its line end doesn't go on.
+pub fn heredoc_starts_stay()
+    ensures { HeredocStartsStay }
+{}
+
 #[cfg(test)]
 mod tests {
     use super::*;
@@ -262,5 +267,6 @@ mod tests {
         tags_stay();
         heredoc_ends_stay();
         pieces_stay_before_labels();
+        heredoc_starts_stay();
     }
 }
