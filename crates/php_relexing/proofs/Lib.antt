@@ -42,3 +42,4 @@ pub mod Inline
 pub mod TagTexts
 pub mod HeredocEnds
 pub mod HeredocStarts
+pub mod Offsets

@@ -103,7 +103,7 @@ filled (b ∷ a) more c = refl
 pub some_cross : (r : Run) (label : List ℕ) (c : ℕ) → ((s : State) (bs : List ℕ) → goes r label s c bs ≡ false) → (s : State) (a more rest : List ℕ) → some_run r label s (a ++ c ∷ more) rest ≡ false
 some_cross r label c h s a more rest = rw (run_cross r label c h s a more rest) (and_false (not (is_empty (a ++ c ∷ more))))
 
-tail_cross : (label : List ℕ) (c : ℕ) (tail : Tail) → is_bracket c ≡ true → stops_tail tail ≡ true → (a more rest : List ℕ) → is_tail label tail (a ++ c ∷ more) rest ≡ false
+pub tail_cross : (label : List ℕ) (c : ℕ) (tail : Tail) → is_bracket c ≡ true → stops_tail tail ≡ true → (a more rest : List ℕ) → is_tail label tail (a ++ c ∷ more) rest ≡ false
 tail_cross label c (SomeOf Spaces s) e h a more rest = some_cross Spaces label c (λ t bs. bracket_space c e) s a more rest
 tail_cross label c (SomeOf Labels s) e h a more rest = some_cross Labels label c (label_goes c label e) s a more rest
 tail_cross label c (SomeOf Line s) e h a more rest = absurd cc
@@ -127,7 +127,7 @@ tail_cross label c NowdocRest e h a more rest = absurd cc
 bracket_lower : (x c : ℕ) → is_bracket c ≡ true → nat_eq x c ≡ false → nat_eq x (lower c) ≡ false
 bracket_lower x c e h = grind (arith, nat_tests)
 
-led_cross : (label : List ℕ) (c : ℕ) (tail : Tail) → is_bracket c ≡ true → stops_tail tail ≡ true → (w : List ℕ) → has c w ≡ false → (a more rest : List ℕ) → led lower w (is_tail label tail) (a ++ c ∷ more) rest ≡ false
+pub led_cross : (label : List ℕ) (c : ℕ) (tail : Tail) → is_bracket c ≡ true → stops_tail tail ≡ true → (w : List ℕ) → has c w ≡ false → (a more rest : List ℕ) → led lower w (is_tail label tail) (a ++ c ∷ more) rest ≡ false
 led_cross label c tail e h [] n a more rest = tail_cross label c tail e h a more rest
 led_cross label c tail e h (x ∷ w) n [] more rest = rw (bracket_lower x c e (or_left (nat_eq x c) (has c w) n)) refl
 led_cross label c tail e h (x ∷ w) n (b ∷ a) more rest = rw (led_cross label c tail e h w (or_right (nat_eq x c) (has c w) n) a more rest) (and_false (nat_eq x (lower b)))
@@ -217,7 +217,7 @@ word_owned b [] rest (inr leaves) = by_b (nat_eq (lower b) 98) refl
 word_blind : (b : ℕ) (t u v : List ℕ) → GoesOn b t u → GoesOn b t v → is_any_word (b ∷ t) u ≡ is_any_word (b ∷ t) v
 word_blind b t u v g k = rw (some_blind [] First (b ∷ t) u v, word_owned b t u g, word_owned b t v k) refl
 
-tail_blind : (label : List ℕ) (tail : Tail) → stops_tail tail ≡ true → is_word_tail tail ≡ false → (text u v : List ℕ) → is_tail label tail text u ≡ is_tail label tail text v
+pub tail_blind : (label : List ℕ) (tail : Tail) → stops_tail tail ≡ true → is_word_tail tail ≡ false → (text u v : List ℕ) → is_tail label tail text u ≡ is_tail label tail text v
 tail_blind label (SomeOf Spaces s) h k text u v = ap (λ (x : Bool). not (is_empty text) && x) (run_blind Spaces label (λ t b p q. refl) s text u v)
 tail_blind label (SomeOf Labels s) h k text u v = some_blind label s text u v
 tail_blind label (SomeOf Line s) h k text u v = absurd cc
@@ -238,7 +238,7 @@ tail_blind label BracedName h k text u v = absurd cc
 tail_blind label EndLine h k text u v = absurd cc
 tail_blind label NowdocRest h k text u v = absurd cc
 
-led_blind : (label : List ℕ) (tail : Tail) → stops_tail tail ≡ true → is_word_tail tail ≡ false → (w text u v : List ℕ) → led lower w (is_tail label tail) text u ≡ led lower w (is_tail label tail) text v
+pub led_blind : (label : List ℕ) (tail : Tail) → stops_tail tail ≡ true → is_word_tail tail ≡ false → (w text u v : List ℕ) → led lower w (is_tail label tail) text u ≡ led lower w (is_tail label tail) text v
 led_blind label tail h k [] text u v = tail_blind label tail h k text u v
 led_blind label tail h k (x ∷ w) [] u v = refl
 led_blind label tail h k (x ∷ w) (b ∷ bs) u v = ap (λ (y : Bool). nat_eq x (lower b) && y) (led_blind label tail h k w bs u v)

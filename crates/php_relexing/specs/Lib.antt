@@ -2,6 +2,7 @@ pub mod Tiles
 pub mod Spelled
 pub mod Alike
 pub mod Newer
+pub mod Offsets
 pub mod HeredocEnds
 pub mod Inline
 pub mod Written

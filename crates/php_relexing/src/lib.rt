@@ -16,6 +16,7 @@ ghost use Rattle.php_relexing.specs.Passes.{PassesJoin, TurnsAgree};
 ghost use Rattle.php_relexing.specs.Written.{MarksAreTokens, NullIsWritten, VariablesAreTokens, NamedIsCode};
 ghost use Rattle.php_relexing.specs.Inline.{TagsStay, HtmlStays};
 ghost use Rattle.php_relexing.specs.HeredocEnds.{HeredocEndsStay, PiecesStayBeforeLabels, HeredocStartsStay};
+ghost use Rattle.php_relexing.specs.Offsets.{OffsetsStay};
 
 /// A token that begins with a bracket may come in behind any tokens that look no further than the
 /// byte behind them: all others stay the longest of their places.
@@ -222,6 +223,11 @@ pub fn heredoc_starts_stay()
     ensures { HeredocStartsStay }
 {}
 
+/// What stands before `]` in a simple offset stays before `]`.
+pub fn offsets_stay()
+    ensures { OffsetsStay }
+{}
+
 #[cfg(test)]
 mod tests {
     use super::*;
@@ -268,5 +274,6 @@ mod tests {
         heredoc_ends_stay();
         pieces_stay_before_labels();
         heredoc_starts_stay();
+        offsets_stay();
     }
 }
