@@ -8,7 +8,7 @@ use Rattle.std.proofs.lemmas.Slice.Eq.{bytes_eq-Decides}
 use Rattle.php_spellings.specs.Bytes.{is_letter, lower, is_space}
 use Rattle.echo_form.specs.Spelling as form
 use Rattle.php_relexing.proofs.Spaces.{all_space}
-use Rattle.php_relexing.proofs.Labelled.{all_label}
+use Rattle.php_relexing.specs.Labels.{all_label}
 
 -- ---- white space
 

@@ -16,12 +16,8 @@ use Rattle.php_lexer.specs.Modes.{code, IsLongest}
 use Rattle.php_lexer.specs.Scan.{scan, run_len, shape_len, behind, tail_len, longer}
 use Rattle.php_lexer.proofs.Longest.{scanned_longest}
 use Rattle.php_lexer.proofs.Dispatch.{plain_scan, older_scan, newer_scan}
+use Rattle.php_relexing.specs.Labels.{all_label}
 use Rattle.php_relexing.proofs.Stops.{is_stop, label_stops, name_stops}
-
--- each byte is one of a label
-abbrev pub all_label : List ℕ → Bool
-all_label [] = true
-all_label (b ∷ bs) = is_label_byte b && all_label bs
 
 run_is : (a s : List ℕ) → all_label a ≡ true → begins is_stop s ≡ true → run_len Labels [] Plain (a ++ s) ≡ length a
 run_is [] s all h = label_stops s h
