@@ -43,3 +43,4 @@ pub mod TagTexts
 pub mod HeredocEnds
 pub mod HeredocStarts
 pub mod Offsets
+pub mod AlikeJoins

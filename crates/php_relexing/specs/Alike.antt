@@ -4,7 +4,7 @@ use Rattle.php_tree.specs.declared.version.Version.TheVariants.{V74}
 use Rattle.php_spellings.specs.declared.table.Kind.{Kind}
 use Rattle.php_spellings.specs.Bytes.{is_space, begins_by}
 use Rattle.php_lexer.specs.Modes.{code, IsLongest}
-use Rattle.php_relexing.specs.Tiles.{is_near}
+use Rattle.php_relexing.specs.Tiles.{is_far, begins_words, is_near}
 
 -- white space, brackets, braces, quotes, and marks that stand in no token of 7.4 but in front
 abbrev pub breaks : List ℕ
@@ -38,3 +38,11 @@ NearTokensStay =
     is_tight b (a ++ s) ≡ true →
     IsLongest V74 code (b ∷ a ++ r) kind (suc (length a)) →
     IsLongest V74 code (b ∷ a ++ s) kind (suc (length a))
+
+-- Bytes go on alike behind a common front, and as themselves; a token of two bytes or more is tight whatever follows, and
+-- so is one whose first byte begins no word of the tables.
+pub record AlikeJoins : Type 0 where
+  pub front : (u r s : List ℕ) → Alike r s → Alike (u ++ r) (u ++ s)
+  pub itself : (s : List ℕ) → Alike s s
+  pub longer : (b z : ℕ) (a r s : List ℕ) → is_tight b (z ∷ a ++ r) ≡ is_tight b (z ∷ a ++ s)
+  pub plain : (b : ℕ) (bs : List ℕ) → is_far b ≡ false → begins_words b ≡ false → is_space b ≡ false → nat_eq b 63 ≡ false → is_tight b bs ≡ true

@@ -3,7 +3,7 @@
 
 ghost use Rattle.php_relexing.specs.Tiles.{BracketComesIn};
 ghost use Rattle.php_relexing.specs.Spelled.{TilesAreTokens};
-ghost use Rattle.php_relexing.specs.Alike.{NearTokensStay};
+ghost use Rattle.php_relexing.specs.Alike.{NearTokensStay, AlikeJoins};
 ghost use Rattle.php_relexing.specs.Comments.{SlashCommentsStay, HashCommentsStay, SpacedCommentsStay};
 ghost use Rattle.php_relexing.specs.Newer.{SameInNewerCode, SameInNewerTexts, NamesAreTokens};
 ghost use Rattle.php_relexing.specs.Closed.{QuotedTextsStay, BinaryTextsStay, BlockCommentsStay, CastsStay};
@@ -228,6 +228,11 @@ pub fn offsets_stay()
     ensures { OffsetsStay }
 {}
 
+/// Bytes go on alike behind a common front, and as themselves.
+pub fn alike_joins()
+    ensures { AlikeJoins }
+{}
+
 #[cfg(test)]
 mod tests {
     use super::*;
@@ -275,5 +280,6 @@ mod tests {
         pieces_stay_before_labels();
         heredoc_starts_stay();
         offsets_stay();
+        alike_joins();
     }
 }
