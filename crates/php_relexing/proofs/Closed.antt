@@ -78,7 +78,7 @@ word_over m =
     rw (first, second) refl
 
 -- a text in double quotes with `b` in front, or the token that opens one
-abbrev double_to : Option ℕ → Option (Kind × ℕ)
+abbrev pub double_to : Option ℕ → Option (Kind × ℕ)
 double_to None = found Quote 2
 double_to (Some m) = found Text (2 + m)
 
@@ -100,7 +100,7 @@ b_no_name b bs h = let letter = b_letter b h in (rw letter refl, rw letter refl)
 bs_scan : (v : Version) (b : ℕ) (bs : List ℕ) → lower b ≡ 98 → scan v code (b ∷ 39 ∷ bs) ≡ scanned_to Text 1 (until_len Simple First bs) None
 bs_scan v b bs h = b_common v b 39 bs h (b_no_name b bs h).0 ∙ b_simple b bs h
 
-bd_scan : (v : Version) (b : ℕ) (bs : List ℕ) → lower b ≡ 98 → scan v code (b ∷ 34 ∷ bs) ≡ double_to (until_len Closed First bs)
+pub bd_scan : (v : Version) (b : ℕ) (bs : List ℕ) → lower b ≡ 98 → scan v code (b ∷ 34 ∷ bs) ≡ double_to (until_len Closed First bs)
 bd_scan v b bs h = b_common v b 34 bs h (b_no_name b bs h).1 ∙ b_double b bs h
 
 -- ---- what stays

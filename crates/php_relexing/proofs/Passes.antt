@@ -54,7 +54,7 @@ or_false true y h = refl
 or_false false y h = sym h
 
 part_agrees : (mode : Mode) (rest : List ℕ) → begins_nullsafe rest ≡ false → part_turn V74 mode rest ≡ part_turn V83 mode rest
-part_agrees mode rest h = rw (h, sym (or_false (begins_arrow rest) false refl)) refl
+part_agrees m rest h = rw (h, sym (or_false (begins_arrow rest) false refl)) refl
 
 quoted_agrees : (mark : Mark) (label : List ℕ) (fresh : Bool) (kind : Kind) (text rest : List ℕ) → begins_nullsafe rest ≡ false → turn_of V74 (quoted mark label fresh) kind text rest ≡ turn_of V83 (quoted mark label fresh) kind text rest
 quoted_agrees mark label fresh Space text rest h = refl

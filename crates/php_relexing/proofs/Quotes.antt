@@ -1,5 +1,5 @@
 -- `"` opens a quoted text.
-use Rattle.std.proofs.Common.{◌≡◌, ℕ, ◌+◌, Bool, true, false, cond, not, ◌&&◌, nat_eq, List, [], ◌∷◌, ◌++◌, length, None, refl, ◌∙◌, arith}
+use Rattle.std.proofs.Common.{◌≡◌, ℕ, ◌+◌, Bool, true, false, cond, not, ◌&&◌, nat_eq, List, [], ◌∷◌, ◌++◌, length, None, refl, ap, ◌∙◌, arith}
 use Rattle.std.proofs.lemmas.Bool.{and_parts}
 use Rattle.php_tree.specs.declared.version.Version.{Version}
 use Rattle.php_tree.specs.declared.version.Version.TheVariants.{V74, V83}
@@ -14,7 +14,8 @@ use Rattle.php_lexer.specs.Tails.{begins_part, in_piece, moved, is_run}
 use Rattle.php_lexer.specs.Modes.{code, quoted, IsLongest}
 use Rattle.php_lexer.specs.Scan.{scan, until_len}
 use Rattle.php_relexing.specs.Pieces.{part_begins}
-use Rattle.php_relexing.specs.Parts.{QuotesOpen}
+use Rattle.php_relexing.specs.Parts.{QuotesOpen, BinaryQuotesOpen}
+use Rattle.php_relexing.proofs.Closed.{double_to, bd_scan}
 use Rattle.php_relexing.proofs.PieceRuns.{piece_len}
 use Rattle.php_relexing.proofs.Pieces.{state_behind, piece_of}
 use Rattle.php_relexing.proofs.PieceLaws.{is_escaped, not_escaped}
@@ -65,14 +66,20 @@ end_none : (s : State) (u : List ℕ) → begins_by 34 u ≡ false → piece_len
 end_none s [] h z = refl
 end_none s (c ∷ u) h z = stop_none s c u (not_escaped Double [] s c u z) h z
 
+-- a text that a piece begins, and that goes on, has no end as a text without parts
+piece_none : (v : Version) (a s : List ℕ) → begins_by 34 s ≡ false → IsLongest v (quoted Double [] false) (a ++ s) Piece (length a) → until_len Closed First (a ++ s) ≡ None
+piece_none v a s e h =
+    let is = piece_of v Double [] false a s h in
+    first_plain (a ++ s) ∙ piece_over Plain a s is.run (end_none (state_behind Double Plain a) s e is.stops)
+
 pub quotes_open : QuotesOpen
 quotes_open = record {
   part = λ v s h. longest_of v code (34 ∷ s) Quote 1 (quote_scan v s (no_text s h));
-  piece = pieces;
+  piece = λ v w a s e h. longest_of w code (34 ∷ a ++ s) Quote 1 (quote_scan w (a ++ s) (piece_none v a s e h));
 }
-  where
-    pieces : (v w : Version) (a s : List ℕ) → begins_by 34 s ≡ false → IsLongest v (quoted Double [] false) (a ++ s) Piece (length a) → IsLongest w code (34 ∷ a ++ s) Quote 1
-    pieces v w a s e h =
-        let is = piece_of v Double [] false a s h in
-        let none = piece_over Plain a s is.run (end_none (state_behind Double Plain a) s e is.stops) in
-        longest_of w code (34 ∷ a ++ s) Quote 1 (quote_scan w (a ++ s) (first_plain (a ++ s) ∙ none))
+
+pub binary_quotes_open : BinaryQuotesOpen
+binary_quotes_open = record {
+  part = λ v b s is h. longest_of v code (b ∷ 34 ∷ s) Quote 2 (bd_scan v b s is ∙ ap double_to (no_text s h));
+  piece = λ v w b a s is e h. longest_of w code (b ∷ 34 ∷ a ++ s) Quote 2 (bd_scan w b (a ++ s) is ∙ ap double_to (piece_none v a s e h));
+}

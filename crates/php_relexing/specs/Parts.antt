@@ -4,7 +4,7 @@ use Rattle.php_tree.specs.declared.version.Version.{Version}
 use Rattle.php_spellings.specs.declared.table.Kind.TheVariants.{Variable, Label, Op, Quote, Piece, CurlyOpen, QuotedEnd}
 use Rattle.php_spellings.specs.declared.table.Mark.{Mark}
 use Rattle.php_spellings.specs.declared.table.Mark.TheVariants.{Double, Back}
-use Rattle.php_spellings.specs.Bytes.{is_label_byte, begins, begins_by}
+use Rattle.php_spellings.specs.Bytes.{is_label_byte, lower, begins, begins_by}
 use Rattle.php_lexer.specs.Modes.{code, quoted, offset, property, IsLongest}
 use Rattle.php_relexing.specs.Pieces.{is_labelled, part_begins}
 
@@ -27,6 +27,11 @@ pub record BracesOpen : Type 0 where
 pub record QuotesOpen : Type 0 where
   pub part : (v : Version) (s : List ℕ) → part_begins s ≡ true → IsLongest v code (34 ∷ s) Quote 1
   pub piece : (v w : Version) (a s : List ℕ) → begins_by 34 s ≡ false → IsLongest v (quoted Double [] false) (a ++ s) Piece (length a) → IsLongest w code (34 ∷ a ++ s) Quote 1
+
+-- So does `b"`.
+pub record BinaryQuotesOpen : Type 0 where
+  pub part : (v : Version) (b : ℕ) (s : List ℕ) → lower b ≡ 98 → part_begins s ≡ true → IsLongest v code (b ∷ 34 ∷ s) Quote 2
+  pub piece : (v w : Version) (b : ℕ) (a s : List ℕ) → lower b ≡ 98 → begins_by 34 s ≡ false → IsLongest v (quoted Double [] false) (a ++ s) Piece (length a) → IsLongest w code (b ∷ 34 ∷ a ++ s) Quote 2
 
 -- The marks of a simple offset and of a simple property, and the label of a property where it doesn't go on.
 pub record SimplePartsStay : Type 0 where

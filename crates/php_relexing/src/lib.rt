@@ -10,7 +10,7 @@ ghost use Rattle.php_relexing.specs.Closed.{QuotedTextsStay, BinaryTextsStay, Bl
 ghost use Rattle.php_relexing.specs.Labels.{LabelsJoin, WordsAreLabels, LabelsBeginNoName, WhiteSpaceStays};
 ghost use Rattle.php_relexing.specs.Angles.{SlashesStay, AnglesStay, ClosingTagsStay};
 ghost use Rattle.php_relexing.specs.Pieces.{PiecesStayBeforeParts, EscapedPiecesStay, PiecesStayBeforeEnds};
-ghost use Rattle.php_relexing.specs.Parts.{TextVariablesStay, BracesOpen, SimplePartsStay, QuotesOpen};
+ghost use Rattle.php_relexing.specs.Parts.{TextVariablesStay, BracesOpen, SimplePartsStay, QuotesOpen, BinaryQuotesOpen};
 ghost use Rattle.php_relexing.specs.Words.{WordsStay, OpeningsAreUncast};
 ghost use Rattle.php_relexing.specs.Passes.{PassesJoin, TurnsAgree};
 ghost use Rattle.php_relexing.specs.Written.{MarksAreTokens, NullIsWritten, VariablesAreTokens, NamedIsCode};
@@ -233,6 +233,11 @@ pub fn alike_joins()
     ensures { AlikeJoins }
 {}
 
+/// `b"` opens a quoted text before a part, and before a piece that the text goes on behind.
+pub fn binary_quotes_open()
+    ensures { BinaryQuotesOpen }
+{}
+
 #[cfg(test)]
 mod tests {
     use super::*;
@@ -281,5 +286,6 @@ mod tests {
         heredoc_starts_stay();
         offsets_stay();
         alike_joins();
+        binary_quotes_open();
     }
 }
