@@ -44,3 +44,4 @@ pub mod HeredocEnds
 pub mod HeredocStarts
 pub mod Offsets
 pub mod AlikeJoins
+pub mod YieldFrom

@@ -76,13 +76,13 @@ no_yield b a s h e f = yield_by b a s (starts_word (codes "ield") (a ++ s)) refl
 
 -- ---- the scan
 
-turn_round : (a k : ℕ) → nat_eq a k ≡ false → nat_eq k a ≡ false
+pub turn_round : (a k : ℕ) → nat_eq a k ≡ false → nat_eq k a ≡ false
 turn_round a k e = grind (arith, nat_tests)
 
-letter_hash : (b : ℕ) → is_letter b ≡ true → nat_eq b 35 ≡ false
+pub letter_hash : (b : ℕ) → is_letter b ≡ true → nat_eq b 35 ≡ false
 letter_hash b h = grind (arith, nat_tests)
 
-rows_are : (b : ℕ) (bs : List ℕ) → nat_eq 98 (lower b) ≡ false → scan_by [] letter_rows (b ∷ bs) ≡ longer Keyword (cond (nat_eq 121 (lower b) && starts_word (codes "ield") bs) (add_to 5 (until_len From First (drop 4 bs))) None) (longer Word (add_to 0 (word_len (b ∷ bs))) None)
+pub rows_are : (b : ℕ) (bs : List ℕ) → nat_eq 98 (lower b) ≡ false → scan_by [] letter_rows (b ∷ bs) ≡ longer Keyword (cond (nat_eq 121 (lower b) && starts_word (codes "ield") bs) (add_to 5 (until_len From First (drop 4 bs))) None) (longer Word (add_to 0 (word_len (b ∷ bs))) None)
 rows_are b bs e = rw e refl
 
 word_row : (b : ℕ) (a s : List ℕ) → is_letter b ≡ true → nat_eq (lower b) 98 ≡ false → all_label a ≡ true → begins is_label_byte s ≡ false → longer Word (add_to 0 (word_len (b ∷ a ++ s))) None ≡ found Word (suc (length a))

@@ -2,7 +2,7 @@
 use Rattle.std.specs.Prelude.{◌≡◌, ℕ, suc, Bool, false, cond, ◌&&◌, nat_eq, List, [], ◌∷◌, ◌++◌, length, codes}
 use Rattle.php_tree.specs.declared.version.Version.{Version}
 use Rattle.php_tree.specs.declared.version.Version.TheVariants.{V74}
-use Rattle.php_spellings.specs.declared.table.Kind.TheVariants.{Word, Op}
+use Rattle.php_spellings.specs.declared.table.Kind.TheVariants.{Word, Keyword, Op}
 use Rattle.php_spellings.specs.Bytes.{is_blank_byte, is_space, is_letter, is_label_byte, lower, begins}
 use Rattle.php_lexer.specs.Tails.{word_alone, begins_type}
 use Rattle.php_lexer.specs.Modes.{code, IsLongest}
@@ -26,6 +26,14 @@ WordsStay =
     begins_from s ≡ false →
     IsLongest V74 code (b ∷ a ++ r) Word (suc (length a)) →
     IsLongest V74 code (b ∷ a ++ s) Word (suc (length a))
+
+-- The words `yield from` stay where no byte of a label follows.
+abbrev pub YieldFromStays : Type 0
+YieldFromStays =
+    (b : ℕ) (a r s : List ℕ) →
+    begins is_label_byte s ≡ false →
+    IsLongest V74 code (b ∷ a ++ r) Keyword (suc (length a)) →
+    IsLongest V74 code (b ∷ a ++ s) Keyword (suc (length a))
 
 -- blanks and `)`
 abbrev pub ends_cast : List ℕ → Bool

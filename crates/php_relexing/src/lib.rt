@@ -11,7 +11,7 @@ ghost use Rattle.php_relexing.specs.Labels.{LabelsJoin, WordsAreLabels, LabelsBe
 ghost use Rattle.php_relexing.specs.Angles.{SlashesStay, AnglesStay, ClosingTagsStay};
 ghost use Rattle.php_relexing.specs.Pieces.{PiecesStayBeforeParts, EscapedPiecesStay, PiecesStayBeforeEnds};
 ghost use Rattle.php_relexing.specs.Parts.{TextVariablesStay, BracesOpen, SimplePartsStay, QuotesOpen, BinaryQuotesOpen};
-ghost use Rattle.php_relexing.specs.Words.{WordsStay, OpeningsAreUncast};
+ghost use Rattle.php_relexing.specs.Words.{WordsStay, YieldFromStays, OpeningsAreUncast};
 ghost use Rattle.php_relexing.specs.Passes.{PassesJoin, TurnsAgree};
 ghost use Rattle.php_relexing.specs.Written.{MarksAreTokens, NullIsWritten, VariablesAreTokens, NamedIsCode};
 ghost use Rattle.php_relexing.specs.Inline.{TagsStay, HtmlStays};
@@ -238,6 +238,11 @@ pub fn binary_quotes_open()
     ensures { BinaryQuotesOpen }
 {}
 
+/// The words `yield from` stay where no byte of a label follows.
+pub fn yield_from_stays()
+    ensures { YieldFromStays }
+{}
+
 #[cfg(test)]
 mod tests {
     use super::*;
@@ -287,5 +292,6 @@ mod tests {
         offsets_stay();
         alike_joins();
         binary_quotes_open();
+        yield_from_stays();
     }
 }
