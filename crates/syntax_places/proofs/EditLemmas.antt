@@ -1,0 +1,98 @@
+-- Edits, and those of nodes that are changed alone.
+use Rattle.std.proofs.Common.{◌≡◌, ℕ, ◌+◌, ◌≤◌, Bool, true, false, if◌then◌else◌, List, [], ◌∷◌, ◌++◌, refl, ap, sym, ◌∙◌, subst, length, codes, append-nil, append_assoc, length-append, arith}
+use Rattle.std.proofs.Math.Bridge.{le_prop}
+use Rattle.std.proofs.Math.Nat.{le-add_right}
+use Rattle.std.specs.Str.{bytes_eq}
+use Rattle.span_edits.specs.declared.edit.Edit.{Edit}
+use Rattle.span_edits.specs.declared.span.Span.{Span}
+use Rattle.php_tree.specs.declared.token.Token.{Token}
+use Rattle.php_tree.specs.declared.token.TokenKind.TheVariants as token
+use Rattle.php_tree.specs.declared.kind.NodeKind.{NodeKind}
+use Rattle.php_tree.specs.Tree.{Forest, none, leaf, node, printed, token_bytes, leaves}
+use Rattle.php_tree.specs.Places.{behind, end_of}
+use Rattle.tracked_changes.specs.Pieces.{Piece, kept, changed, also, before}
+use Rattle.tracked_changes.specs.Draft.{Draft, no_more, new_leaf, new_node, pieces, token_pieces, unchanged_token, unchanged}
+use Rattle.tracked_changes.specs.Edits.{join, joined, replacement, edits_from}
+use Rattle.tracked_changes.specs.Tokens.{retexted}
+use Rattle.tracked_changes.specs.Leads.{holds_none, first_lead, without_lead}
+use Rattle.tracked_changes.specs.Parens.{in_parens}
+use Rattle.tracked_changes.specs.Laws.{BeginAnew}
+use Rattle.tracked_changes.proofs.Joining.{before-append, edits_compose}
+use Rattle.tracked_changes.proofs.Unchanged.{OnlyKept, kept_append, joined_kept, no_edits, unchanged_kept, before_token, before-unchanged}
+use Rattle.tracked_changes.proofs.Wrapping.{no_pieces, pieces-without_lead}
+use Rattle.syntax_rules.specs.BraceOffset.{bracket, bracketed}
+use Rattle.syntax_places.specs.NodeRules.{bracket_edit, text_start}
+
+-- ---- one edit
+
+abbrev pub edit_of : (start end : ℕ) → start ≤ end → List ℕ → Edit
+edit_of start end h text = record { span = record { start = start; end = end; ordered = h }; text = text }
+
+-- an edit is the replacement of as many bytes
+pub edit_is : (start end : ℕ) (h : start ≤ end) (text out : List ℕ) → end ≡ start + length out → edit_of start end h text ≡ replacement start out text
+edit_is start end h text out e =
+    subst (λ x. (l : start ≤ x) → edit_of start x l text ≡ replacement start out text) (sym e)
+    (λ l. ap (λ o. edit_of start (start + length out) o text) (le_prop l (le-add_right start (length out)))) h
+
+-- ---- pieces one behind another
+
+-- what stays has no edit
+pub kept_edits : (at : ℕ) (ps : List Piece) → OnlyKept ps → edits_from at (joined ps) ≡ []
+kept_edits at ps h = ap (edits_from at) (joined_kept ps h) ∙ no_edits at ps h
+
+-- pieces that stay begin anew, whatever does so behind them
+kept_anew : (ps qs : List Piece) → OnlyKept ps → BeginAnew qs → BeginAnew (ps ++ qs)
+kept_anew [] qs h g = g
+kept_anew (kept b ∷ ps) qs h g = tt
+kept_anew (changed o t ∷ ps) qs h g = absurd h
+kept_anew (also t ∷ ps) qs h g = absurd h
+
+-- pieces that stay, in front of others
+pub behind_kept : (at : ℕ) (ps qs : List Piece) → OnlyKept ps → BeginAnew qs → edits_from at (joined (ps ++ qs)) ≡ edits_from (at + length (before ps)) (joined qs)
+behind_kept at ps qs h g =
+    edits_compose at ps qs g ∙ ap (λ es. es ++ edits_from (at + length (before ps)) (joined qs)) (kept_edits at ps h)
+
+-- where a forest ends
+pub end_is : (at : ℕ) (f : Forest) → end_of at f ≡ at + length (printed f)
+end_is at none = omega arith
+end_is at (leaf t f) =
+    let h = end_is (behind at t) f in
+    let a = length-append (token_bytes t) (printed f) in
+    let b = length-append t.lead t.text in
+    omega arith
+end_is at (node k c f) =
+    let h = end_is at c in
+    let g = end_is (end_of at c) f in
+    let a = length-append (printed c) (printed f) in
+    omega arith
+
+-- ---- braces
+
+bracket_if : (at : ℕ) (t : Token) (b c : Bool) (text : List ℕ) → text ≡ t.text
+    → edits_from at (joined (token_pieces
+    (if b then record { kind = token.Op; lead = kept t.lead ∷ []; text = changed text (codes "[") ∷ [] }
+    else (if c then record { kind = token.Op; lead = kept t.lead ∷ []; text = changed text (codes "]") ∷ [] } else unchanged_token t))))
+    ≡ (if b then replacement (at + length t.lead) t.text (codes "[") ∷ []
+    else (if c then replacement (at + length t.lead) t.text (codes "]") ∷ [] else []))
+bracket_if at t true c text e = ap (λ x. replacement (at + length t.lead) x (codes "[") ∷ []) e
+bracket_if at t false true text e = ap (λ x. replacement (at + length t.lead) x (codes "]") ∷ []) e
+bracket_if at t false false text e = refl
+
+pub bracket_is : (at : ℕ) (t : Token) → bracket_edit at t ≡ (if bytes_eq t.text (codes "{") then replacement (at + length t.lead) t.text (codes "[") ∷ []
+    else (if bytes_eq t.text (codes "}") then replacement (at + length t.lead) t.text (codes "]") ∷ [] else []))
+bracket_is at t =
+    let e : t.text ++ [] ≡ t.text = append-nil t.text in
+    bracket_if at t (bytes_eq (t.text ++ []) (codes "{")) (bytes_eq (t.text ++ []) (codes "}")) (t.text ++ []) e
+    ∙ rw e refl
+
+-- each token of the node in turn
+begin_bracketed : (f : Forest) → BeginAnew (pieces (bracketed (unchanged f)))
+begin_bracketed none = tt
+begin_bracketed (leaf t f) = by_text (bytes_eq (t.text ++ []) (codes "{")) (bytes_eq (t.text ++ []) (codes "}"))
+  where
+    by_text : (b c : Bool) → BeginAnew (token_pieces (if b then retexted token.Op (codes "[") (unchanged_token t)
+        else (if c then retexted token.Op (codes "]") (unchanged_token t) else unchanged_token t)) ++ pieces (bracketed (unchanged f)))
+    by_text true c = tt
+    by_text false true = tt
+    by_text false false = tt
+begin_bracketed (node k c f) = kept_anew (pieces (unchanged c)) (pieces (bracketed (unchanged f))) (unchanged_kept c) (begin_bracketed f)

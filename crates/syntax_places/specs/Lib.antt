@@ -1,0 +1,9 @@
+pub mod Seen
+pub mod Parts
+pub mod NodeRules
+pub mod Comments
+pub mod DollarBraces
+pub mod Names
+pub mod ReservedName
+pub mod Places
+pub mod Rows
