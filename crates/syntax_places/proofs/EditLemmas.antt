@@ -41,11 +41,17 @@ pub kept_edits : (at : ℕ) (ps : List Piece) → OnlyKept ps → edits_from at 
 kept_edits at ps h = ap (edits_from at) (joined_kept ps h) ∙ no_edits at ps h
 
 -- pieces that stay begin anew, whatever does so behind them
-kept_anew : (ps qs : List Piece) → OnlyKept ps → BeginAnew qs → BeginAnew (ps ++ qs)
+pub kept_anew : (ps qs : List Piece) → OnlyKept ps → BeginAnew qs → BeginAnew (ps ++ qs)
 kept_anew [] qs h g = g
 kept_anew (kept b ∷ ps) qs h g = tt
 kept_anew (changed o t ∷ ps) qs h g = absurd h
 kept_anew (also t ∷ ps) qs h g = absurd h
+
+pub kept_begin : (ps : List Piece) → OnlyKept ps → BeginAnew ps
+kept_begin [] h = tt
+kept_begin (kept b ∷ ps) h = tt
+kept_begin (changed o t ∷ ps) h = absurd h
+kept_begin (also t ∷ ps) h = absurd h
 
 -- pieces that stay, in front of others
 pub behind_kept : (at : ℕ) (ps qs : List Piece) → OnlyKept ps → BeginAnew qs → edits_from at (joined (ps ++ qs)) ≡ edits_from (at + length (before ps)) (joined qs)
@@ -96,3 +102,58 @@ begin_bracketed (leaf t f) = by_text (bytes_eq (t.text ++ []) (codes "{")) (byte
     by_text false true = tt
     by_text false false = tt
 begin_bracketed (node k c f) = kept_anew (pieces (unchanged c)) (pieces (bracketed (unchanged f))) (unchanged_kept c) (begin_bracketed f)
+
+-- a bracket stands for as many bytes as its brace
+bracket_before : (t : Token) → before (token_pieces (bracket (unchanged_token t))) ≡ token_bytes t
+bracket_before t = by_text (bytes_eq (t.text ++ []) (codes "{")) (bytes_eq (t.text ++ []) (codes "}"))
+  where
+    plain : before (token_pieces (unchanged_token t)) ≡ token_bytes t
+    plain = before_token t
+
+    new : (x : List ℕ) → t.lead ++ ((t.text ++ []) ++ []) ≡ t.lead ++ t.text
+    new x = ap (λ y. t.lead ++ y) (append-nil (t.text ++ []) ∙ append-nil t.text)
+
+    by_text : (b c : Bool) → before (token_pieces (if b then retexted token.Op (codes "[") (unchanged_token t)
+        else (if c then retexted token.Op (codes "]") (unchanged_token t) else unchanged_token t))) ≡ token_bytes t
+    by_text true c = new []
+    by_text false true = new []
+    by_text false false = plain
+
+place_behind : (at : ℕ) (t : Token) (bytes : List ℕ) → bytes ≡ token_bytes t → at + length bytes ≡ behind at t
+place_behind at t bytes e = let a = length-append t.lead t.text in let b : length bytes ≡ length (token_bytes t) = ap length e in omega arith
+
+pub bracket_leaf : (at : ℕ) (t : Token) (f : Forest) → edits_from at (joined (pieces (bracketed (unchanged (leaf t f)))))
+    ≡ bracket_edit at t ++ edits_from (behind at t) (joined (pieces (bracketed (unchanged f))))
+bracket_leaf at t f =
+    edits_compose at (token_pieces (bracket (unchanged_token t))) (pieces (bracketed (unchanged f))) (begin_bracketed f)
+    ∙ ap (λ n. bracket_edit at t ++ edits_from n (joined (pieces (bracketed (unchanged f))))) (place_behind at t (before (token_pieces (bracket (unchanged_token t)))) (bracket_before t))
+
+pub bracket_node : (at : ℕ) (k : NodeKind) (c f : Forest) → edits_from at (joined (pieces (bracketed (unchanged (node k c f)))))
+    ≡ edits_from (end_of at c) (joined (pieces (bracketed (unchanged f))))
+bracket_node at k c f =
+    behind_kept at (pieces (unchanged c)) (pieces (bracketed (unchanged f))) (unchanged_kept c) (begin_bracketed f)
+    ∙ ap (λ n. edits_from n (joined (pieces (bracketed (unchanged f)))))
+    (ap (λ bs. at + length bs) (before-unchanged c) ∙ sym (end_is at c))
+
+-- the edits of what is left of an offset in braces
+abbrev pub left_edits : ℕ → Forest → List Edit
+left_edits at f = edits_from at (joined (pieces (bracketed (unchanged f))))
+
+pub leaf_step : (place to : ℕ) (es hs all : List Edit) (here f : Forest) (t : Token) → here ≡ leaf t f → es ++ left_edits place here ≡ all
+    → hs ≡ es ++ bracket_edit place t → to ≡ behind place t → hs ++ left_edits to f ≡ all
+leaf_step place to es hs all here f t e h g p =
+    ap (λ n. hs ++ left_edits n f) p
+    ∙ ap (λ xs. xs ++ left_edits (behind place t) f) g
+    ∙ append_assoc es (bracket_edit place t) (left_edits (behind place t) f)
+    ∙ ap (λ xs. es ++ xs) (sym (bracket_leaf place t f))
+    ∙ ap (λ x. es ++ left_edits place x) (sym e)
+    ∙ h
+
+pub node_step : (place to : ℕ) (es hs all : List Edit) (here c f : Forest) (k : NodeKind) → here ≡ node k c f → es ++ left_edits place here ≡ all
+    → hs ≡ es → to ≡ end_of place c → hs ++ left_edits to f ≡ all
+node_step place to es hs all here c f k e h g p =
+    ap (λ n. hs ++ left_edits n f) p
+    ∙ ap (λ xs. xs ++ left_edits (end_of place c) f) g
+    ∙ ap (λ xs. es ++ xs) (sym (bracket_node place k c f))
+    ∙ ap (λ x. es ++ left_edits place x) (sym e)
+    ∙ h

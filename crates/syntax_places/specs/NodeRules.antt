@@ -8,8 +8,9 @@ use Rattle.rule_tables.specs.Causes.{cause_number}
 use Rattle.std.specs.Borrow.{Bor}
 use Rattle.php_tree.specs.declared.node.Node.{Node}
 use Rattle.php_tree.specs.declared.token.Token.{Token}
+use Rattle.php_tree.specs.declared.token.TokenKind.TheVariants.{Cast}
 use Rattle.php_tree.specs.declared.kind.NodeKind.{NodeKind}
-use Rattle.php_tree.specs.Tree.{Forest, none, leaf, Tree, forest_of, leaves}
+use Rattle.php_tree.specs.Tree.{Forest, none, leaf, node, Tree, forest_of, leaves}
 use Rattle.php_tree.specs.Places.{end_of}
 use Rattle.tracked_changes.specs.Draft.{token_pieces, pieces, unchanged_token}
 use Rattle.tracked_changes.specs.Edits.{joined, edits_from, replacement}
@@ -20,8 +21,9 @@ use Rattle.syntax_rules.specs.NestedTernary.{nests}
 use Rattle.syntax_rules.specs.DotPrecedence.{is_regrouped}
 use Rattle.syntax_rules.specs.BraceOffset.{is_brace_offset, bracket, brace_offset}
 use Rattle.syntax_rules.specs.RealCast.{is_real_cast, real_cast}
-use Rattle.syntax_rules.specs.UnsetCast.{is_variable, is_edited, is_undecided, unset_cast}
+use Rattle.syntax_rules.specs.UnsetCast.{of_variable, is_edited, is_undecided, unset_cast}
 use Rattle.syntax_rules.specs.Written.{as_it_stands}
+use Rattle.syntax_places.specs.Parts.{first_leaf}
 use Rattle.syntax_places.specs.Seen.{Verdict, edited, undecided, Place}
 
 -- where a node stands, by the node around it
@@ -61,15 +63,23 @@ edits_at at change t = edits_from at (joined (pieces (change (as_it_stands t)).1
 abbrev pub bracket_edit : ℕ → Token → List Edit
 bracket_edit at t = edits_from at (joined (token_pieces (bracket (unchanged_token t))))
 
--- whether the parts of a node are one token of a plain variable
-abbrev pub is_plain : NodeKind → Forest → Bool
-is_plain k (leaf t none) = is_variable k t.kind
-is_plain k _ = false
+-- whether a node has one part, which is the token of a plain variable
+abbrev pub is_plain : Tree → Bool
+is_plain n = of_variable (leaf (record { kind = Cast; lead = []; text = []; start = 0 }) (node n.0 n.1 none))
 
--- what `(float)` is written for, where the text of a node's first token begins at a place
-abbrev pub float_verdict : ℕ → Forest → Option Verdict
-float_verdict start (leaf t f) = Some (edited (replacement start t.text (codes "(float)") ∷ []))
-float_verdict start _ = None
+-- what is written for the first token of a cast `(real)`, whose text begins at a place
+abbrev pub float_verdict : ℕ → Option Token → Option Verdict
+float_verdict start None = None
+float_verdict start (Some t) = Some (edited (replacement start t.text (codes "(float)") ∷ []))
+
+abbrev pub real_verdict : ℕ → Tree → Option Verdict
+real_verdict start t = if is_real_cast t then float_verdict start (first_leaf t.1) else None
+
+-- what is decided at a cast `(unset)`, whose bytes begin at a place
+abbrev pub unset_verdict : ℕ → List ℕ → Tree → Option Verdict
+unset_verdict start out t =
+    if is_undecided t then Some (undecided (cause_number Shape))
+    else (if is_edited t then Some (edited (replacement start out (codes "(null)") ∷ [])) else None)
 
 -- what is decided at a node whose trivia begin at a place, where it is a place of the rule
 abbrev pub verdict_by : Ruling → ℕ → Tree → Option Verdict
@@ -89,3 +99,12 @@ node_place at c verdict = record { start = text_start at (leaves c); end = end_o
 abbrev pub node_places : ℕ → Forest → Option Verdict → List Place
 node_places at c None = []
 node_places at c (Some verdict) = node_place at c verdict ∷ []
+
+-- the rules whose places are nodes
+abbrev pub is_of_nodes : RuleId → Bool
+is_of_nodes rule.NestedTernary = true
+is_of_nodes rule.DotPrecedence = true
+is_of_nodes rule.BraceOffset = true
+is_of_nodes rule.RealCast = true
+is_of_nodes rule.UnsetCast = true
+is_of_nodes _ = false

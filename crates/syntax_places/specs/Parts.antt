@@ -1,5 +1,5 @@
 -- The first part of a forest, and the others.
-use Rattle.std.specs.Prelude.{Option, Some, None}
+use Rattle.std.specs.Prelude.{ℕ, Bool, true, false, List, [], Option, Some, None}
 use Rattle.php_tree.specs.declared.token.Token.{Token}
 use Rattle.php_tree.specs.Tree.{Forest, none, leaf, node, Tree}
 
@@ -18,3 +18,13 @@ abbrev pub others : Forest → Forest
 others none = none
 others (leaf t f) = f
 others (node k c f) = f
+
+-- whether there is no part
+abbrev pub has_none : Forest → Bool
+has_none none = true
+has_none _ = false
+
+-- the text of a token, if there is one
+abbrev pub text_or_none : Option Token → List ℕ
+text_or_none None = []
+text_or_none (Some t) = t.text

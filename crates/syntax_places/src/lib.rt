@@ -1,12 +1,17 @@
 //! The places of the rules on syntax in a file, and what is decided at each.
 #![tactic(auto)]
 
+mod brace_offset;
+mod casts;
+mod dot_precedence;
 mod edits;
 mod ends;
 mod nested_ternary;
+mod nodes;
 mod parts;
 mod placed;
 mod rows;
+mod walk;
 
 pub use placed::Placed;
 pub use rows::rows_hold;

@@ -1,7 +1,7 @@
 // The first of some parts, and the others.
 ghost use Rattle.std.specs.Prelude.{◌≡◌, option_map, option_copied};
 ghost use Rattle.php_tree.specs.Tree.{forest_of};
-ghost use Rattle.syntax_places.specs.Parts.{first_leaf as first_leaf_of, first_node as first_node_of, others as others_of};
+ghost use Rattle.syntax_places.specs.Parts.{first_leaf as first_leaf_of, first_node as first_node_of, has_none as has_none_of, others as others_of};
 
 use php_tree::{Node, Part, Token};
 
@@ -34,5 +34,16 @@ pub fn others(parts: &[Part]) -> &[Part]
     match parts {
         [] => parts,
         [_, behind @ ..] => behind,
+    }
+}
+
+/// Whether there is no part.
+pub fn has_none(parts: &[Part]) -> bool
+    ensures { result ≡ has_none_of (forest_of parts.now) }
+{
+    match parts {
+        [] => true,
+        [Part::Leaf(_), ..] => false,
+        [Part::Child(_), ..] => false,
     }
 }
