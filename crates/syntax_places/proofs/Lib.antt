@@ -1,4 +1,3 @@
 pub mod EditLemmas
 pub mod PartLemmas
 pub mod NodeEdits
-pub mod WalkLemmas

@@ -1,6 +1,7 @@
 pub mod Seen
 pub mod Parts
 pub mod NodeRules
+pub mod Standings
 pub mod Comments
 pub mod DollarBraces
 pub mod Names

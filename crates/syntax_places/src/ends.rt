@@ -8,15 +8,21 @@ ghost use Rattle.syntax_places.specs.NodeRules.{text_start};
 use php_tree::{Node, Part, Token};
 use std::alloc::AllocError;
 
-/// The place behind some bytes that begin at a place. No file is so long that there is none.
-pub fn past_bytes(at: u32, bytes: &[u8]) -> Result<u32, AllocError>
-    ensures { IfOk result (λ place. place ≡ at + length bytes.now) }
+/// The place behind so many bytes that begin at a place. No file is so long that there is none.
+pub fn past(at: u32, count: usize) -> Result<u32, AllocError>
+    ensures { IfOk result (λ place. place ≡ at + count) }
 {
-    let count = bytes.len();
     if count > u32::MAX as usize {
         return Err(AllocError);
     }
     at.checked_add(count as u32).ok_or(AllocError)
+}
+
+/// The place behind some bytes that begin at a place.
+pub fn past_bytes(at: u32, bytes: &[u8]) -> Result<u32, AllocError>
+    ensures { IfOk result (λ place. place ≡ at + length bytes.now) }
+{
+    past(at, bytes.len())
 }
 
 /// The place behind a token whose trivia begin at a place.

@@ -6,11 +6,14 @@ mod casts;
 mod dot_precedence;
 mod edits;
 mod ends;
+mod found;
+mod hash_comment;
 mod nested_ternary;
 mod nodes;
 mod parts;
 mod placed;
 mod rows;
+mod tokens;
 mod walk;
 
 pub use placed::Placed;

@@ -1,5 +1,5 @@
 // What the rules whose place is a node decide there.
-ghost use Rattle.std.specs.Prelude.{◌≡◌, ◌≤◌, ◌++◌, Some, None, [], ◌∷◌, if◌then◌else◌, codes, map, IfOk, OnOk, option_map};
+ghost use Rattle.std.specs.Prelude.{◌≡◌, ◌++◌, Some, None, [], ◌∷◌, if◌then◌else◌, codes, map, IfOk, OnOk, option_map};
 ghost use Rattle.php_tree.specs.Tree.{forest_of, leaves};
 ghost use Rattle.php_tree.specs.Places.{end_of};
 ghost use Rattle.rule_tables.specs.declared.rule.RuleId.TheVariants as rule_id;
@@ -12,10 +12,11 @@ use crate::casts::{real, unset};
 use crate::dot_precedence::is_regrouped;
 use crate::edits::wrapped;
 use crate::ends;
+use crate::found::add;
 use crate::nested_ternary::is_nested;
 use crate::placed::Placed;
 use php_tree::Node;
-use rule_tables::{Decision, RuleId, Span};
+use rule_tables::{Decision, RuleId};
 use std::alloc::{AllocError, Global};
 
 // Parentheses round the bytes from a place to another one, where they are wanted.
@@ -191,17 +192,4 @@ pub fn add_node(
         Some(decision) => add(start, end, decision, out),
         None => Ok(()),
     }
-}
-
-// Puts a place behind others.
-fn add(start: u32, end: u32, decision: Decision, out: &mut Vec<Placed>) -> Result<(), AllocError>
-    requires { start ≤ end }
-    ensures { OnOk result (map seen out.new.items ≡ map seen out.old.items
-        ++ record { start = start; end = end; verdict = verdict_of decision } ∷ []) }
-{
-    out.push(Placed {
-        span: Span { start, end },
-        decision,
-    })?;
-    Ok(())
 }

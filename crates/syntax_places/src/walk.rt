@@ -1,8 +1,9 @@
 // A walk over the nodes of a file.
 ghost use Rattle.std.specs.Prelude.{◌≡◌, ◌++◌, true, map, IfOk, OnOk};
 ghost use Rattle.php_tree.specs.Tree.{forest_of};
+ghost use Rattle.php_tree.specs.Whole.{file};
 ghost use Rattle.php_tree.specs.Places.{end_of};
-ghost use Rattle.syntax_rules.specs.Around.{within};
+ghost use Rattle.syntax_rules.specs.Around.{at_top, within};
 ghost use Rattle.syntax_places.specs.Seen.{seen};
 ghost use Rattle.syntax_places.specs.NodeRules.{around_in, is_of_nodes};
 ghost use Rattle.syntax_places.specs.Places.{at_node, in_nodes};
@@ -10,7 +11,7 @@ ghost use Rattle.syntax_places.specs.Places.{at_node, in_nodes};
 use crate::ends::past_token;
 use crate::nodes::add_node;
 use crate::placed::Placed;
-use php_tree::{Node, Part};
+use php_tree::{FileTree, Node, Part};
 use rule_tables::RuleId;
 use std::alloc::{AllocError, Global};
 
@@ -41,4 +42,24 @@ pub fn walk(
     }
     add_node(alloc, rule, parent, is_first, node, at, place, out)?;
     Ok(place)
+}
+
+/// Puts the places of a rule in the nodes of a file behind others.
+pub fn walk_file(
+    alloc: Global,
+    rule: RuleId,
+    tree: &FileTree,
+    out: &mut Vec<Placed>,
+) -> Result<(), AllocError>
+    requires { is_of_nodes rule ≡ true }
+    ensures { OnOk result (map seen out.new.items ≡ map seen out.old.items
+        ++ in_nodes rule at_top true 0 (file tree.now).statements) }
+{
+    let mut place = 0;
+    let mut first = true;
+    for statement in tree.statements() {
+        place = walk(alloc, rule, None, first, statement, place, out)?;
+        first = false;
+    }
+    Ok(())
 }
