@@ -6,5 +6,6 @@ pub mod Comments
 pub mod DollarBraces
 pub mod Names
 pub mod ReservedName
+pub mod TokenStandings
 pub mod Places
 pub mod Rows

@@ -1,7 +1,7 @@
 -- Words that 8.3 refuses where 7.4 takes them as labels: `match`, `readonly`, `mixed`, `never` and, before a word, `enum`. (PHP
 -- manual, "List of Keywords" and "List of other reserved words"; RFCs "Match expression v2" and "Enumerations"; UPGRADING 8.0,
 -- 8.1 and 8.3.)
-use Rattle.std.specs.Prelude.{ℕ, Bool, true, false, not, ◌==◌, ◌&&◌, ◌||◌, if◌then◌else◌, List, [], ◌∷◌, ◌++◌, codes}
+use Rattle.std.specs.Prelude.{ℕ, Bool, true, false, not, ◌==◌, ◌&&◌, ◌||◌, if◌then◌else◌, List, [], ◌∷◌, ◌++◌, Option, Some, None, codes}
 use Rattle.rule_tables.specs.declared.cause.Cause.TheVariants.{Always}
 use Rattle.rule_tables.specs.Causes.{cause_number}
 use Rattle.php_tree.specs.declared.token.Token.{Token}
@@ -15,6 +15,7 @@ use Rattle.php_terminals.specs.declared.terminal.Terminal.{Terminal}
 use Rattle.php_terminals.specs.declared.terminal.Terminal.TheVariants as t
 use Rattle.php_terminals.specs.Classify.{terminal, is_word_token}
 use Rattle.php_terminals.specs.Words.{is_word}
+use Rattle.syntax_places.specs.Parts.{first_leaf, others}
 use Rattle.syntax_places.specs.Seen.{Place, undecided, token_place}
 
 -- ---- classes of tokens
@@ -106,21 +107,18 @@ past s x = record {
 abbrev pub past_node : Standing → Standing
 past_node s = record s { before = t.End }
 
+-- the class of a token, `End` where there is none
+abbrev pub class_of : Option Token → Terminal
+class_of None = t.End
+class_of (Some x) = terminal x
+
 -- the class of the next token, `End` where that is a node, or nothing
 abbrev pub next : Forest → Terminal
-next none = t.End
-next (leaf x f) = terminal x
-next (node j b f) = t.End
-
--- what stands behind a next token
-abbrev pub rest : Forest → Forest
-rest none = none
-rest (leaf x f) = f
-rest (node j b f) = none
+next f = class_of (first_leaf f)
 
 -- whether a label is a whole name, or no name: no `\` stands next to it, but for the one before a group's braces
 abbrev pub is_whole : Standing → Forest → Bool
-is_whole s f = not (is_root s.before) && (not (is_root (next f)) || is_brace (next (rest f)))
+is_whole s f = not (is_root s.before) && (not (is_root (next f)) || is_brace (next (others f)))
 
 -- whether a label of a use is the name that the use gives: no alias and no other part stands behind it
 abbrev pub is_given : Forest → Bool
@@ -208,10 +206,13 @@ takes_label t.DoubleColon = true
 takes_label t.Backslash = true
 takes_label _ = false
 
+-- whether a token is such a label, behind one of a class and before others
+abbrev pub is_enum : Terminal → Token → List Token → Bool
+is_enum before x xs = is_label x.kind && is_word (codes "enum") x.text && before_word xs && not (takes_label before)
+
 -- the labels `enum` that 8.1 reads as a keyword: white space and a word stand behind them (RFC "Enumerations")
 abbrev pub enums : Terminal → ℕ → List Token → List Place
 enums before at [] = []
 enums before at (x ∷ xs) =
-    (if is_label x.kind && is_word (codes "enum") x.text && before_word xs && not (takes_label before)
-    then refused at x ∷ [] else [])
+    (if is_enum before x xs then refused at x ∷ [] else [])
     ++ enums (terminal x) (behind at x) xs

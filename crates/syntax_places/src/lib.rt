@@ -12,6 +12,7 @@ mod nested_ternary;
 mod nodes;
 mod parts;
 mod placed;
+mod reserved_name;
 mod rows;
 mod tokens;
 mod walk;
