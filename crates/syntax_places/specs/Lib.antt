@@ -4,6 +4,7 @@ pub mod NodeRules
 pub mod Standings
 pub mod Comments
 pub mod DollarBraces
+pub mod DollarEdits
 pub mod Names
 pub mod ReservedName
 pub mod TokenStandings

@@ -99,12 +99,3 @@ node_place at c verdict = record { start = text_start at (leaves c); end = end_o
 abbrev pub node_places : ℕ → Forest → Option Verdict → List Place
 node_places at c None = []
 node_places at c (Some verdict) = node_place at c verdict ∷ []
-
--- the rules whose places are nodes
-abbrev pub is_of_nodes : RuleId → Bool
-is_of_nodes rule.NestedTernary = true
-is_of_nodes rule.DotPrecedence = true
-is_of_nodes rule.BraceOffset = true
-is_of_nodes rule.RealCast = true
-is_of_nodes rule.UnsetCast = true
-is_of_nodes _ = false

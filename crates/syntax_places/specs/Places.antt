@@ -48,3 +48,8 @@ is_on_syntax rule.SplitName = true
 is_on_syntax rule.DollarBrace = true
 is_on_syntax rule.ReservedName = true
 is_on_syntax _ = false
+
+-- the rules on syntax whose places are found: not yet those of names
+abbrev pub is_found : RuleId → Bool
+is_found rule.SplitName = false
+is_found r = is_on_syntax r

@@ -3,6 +3,7 @@
 
 mod brace_offset;
 mod casts;
+mod dollar_brace;
 mod dot_precedence;
 mod edits;
 mod ends;
@@ -12,10 +13,12 @@ mod nested_ternary;
 mod nodes;
 mod parts;
 mod placed;
+mod places;
 mod reserved_name;
 mod rows;
 mod tokens;
 mod walk;
 
 pub use placed::Placed;
+pub use places::places_in;
 pub use rows::rows_hold;

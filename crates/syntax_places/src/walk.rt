@@ -5,15 +5,58 @@ ghost use Rattle.php_tree.specs.Whole.{file};
 ghost use Rattle.php_tree.specs.Places.{end_of};
 ghost use Rattle.syntax_rules.specs.Around.{at_top, within};
 ghost use Rattle.syntax_places.specs.Seen.{seen};
-ghost use Rattle.syntax_places.specs.NodeRules.{around_in, is_of_nodes};
+ghost use Rattle.syntax_places.specs.NodeRules.{around_in};
 ghost use Rattle.syntax_places.specs.Places.{at_node, in_nodes};
 
+use crate::dollar_brace::add_dollar_braces;
 use crate::ends::past_token;
 use crate::nodes::add_node;
 use crate::placed::Placed;
+use crate::reserved_name::add_reserved;
 use php_tree::{FileTree, Node, Part};
 use rule_tables::RuleId;
 use std::alloc::{AllocError, Global};
+
+// Puts the places of a rule at a node itself, which stands between two places, behind others.
+fn visit(
+    alloc: Global,
+    rule: RuleId,
+    parent: Option<&Node>,
+    is_first: bool,
+    node: &Node,
+    at: u32,
+    end: u32,
+    out: &mut Vec<Placed>,
+) -> Result<(), AllocError>
+    requires { end ≡ end_of at (forest_of node.now.parts) }
+    ensures { OnOk result (map seen out.new.items ≡ map seen out.old.items
+        ++ at_node rule (around_in parent.entry is_first) at (node.now.kind, forest_of node.now.parts)) }
+{
+    match rule {
+        RuleId::NestedTernary => add_node(alloc, rule, parent, is_first, node, at, end, out),
+        RuleId::DotPrecedence => add_node(alloc, rule, parent, is_first, node, at, end, out),
+        RuleId::BraceOffset => add_node(alloc, rule, parent, is_first, node, at, end, out),
+        RuleId::RealCast => add_node(alloc, rule, parent, is_first, node, at, end, out),
+        RuleId::UnsetCast => add_node(alloc, rule, parent, is_first, node, at, end, out),
+        RuleId::HashComment => add_node(alloc, rule, parent, is_first, node, at, end, out),
+        RuleId::SplitName => add_node(alloc, rule, parent, is_first, node, at, end, out),
+        RuleId::DollarBrace => add_dollar_braces(alloc, node, at, out),
+        RuleId::ReservedName => add_reserved(node, at, out),
+        RuleId::LooseCompare => add_node(alloc, rule, parent, is_first, node, at, end, out),
+        RuleId::WordArithmetic => add_node(alloc, rule, parent, is_first, node, at, end, out),
+        RuleId::NextKey => add_node(alloc, rule, parent, is_first, node, at, end, out),
+        RuleId::OldConstructor => add_node(alloc, rule, parent, is_first, node, at, end, out),
+        RuleId::InheritedStatic => add_node(alloc, rule, parent, is_first, node, at, end, out),
+        RuleId::DynamicProperty => add_node(alloc, rule, parent, is_first, node, at, end, out),
+        RuleId::GetClass => add_node(alloc, rule, parent, is_first, node, at, end, out),
+        RuleId::StaticCall => add_node(alloc, rule, parent, is_first, node, at, end, out),
+        RuleId::BareConstant => add_node(alloc, rule, parent, is_first, node, at, end, out),
+        RuleId::RemovedCall => add_node(alloc, rule, parent, is_first, node, at, end, out),
+        RuleId::ImplodeOrder => add_node(alloc, rule, parent, is_first, node, at, end, out),
+        RuleId::SubstrFalse => add_node(alloc, rule, parent, is_first, node, at, end, out),
+        RuleId::StrposNeedle => add_node(alloc, rule, parent, is_first, node, at, end, out),
+    }
+}
 
 /// Puts the places of a rule in a node, which begins at a place, behind others, and answers where it ends.
 pub fn walk(
@@ -25,7 +68,6 @@ pub fn walk(
     at: u32,
     out: &mut Vec<Placed>,
 ) -> Result<u32, AllocError>
-    requires { is_of_nodes rule ≡ true }
     ensures end { IfOk result (λ place. place ≡ end_of at (forest_of node.now.parts)) }
     ensures places { OnOk result (map seen out.new.items ≡ map seen out.old.items
         ++ (in_nodes rule (within node.now.kind (forest_of node.now.parts)) true at (forest_of node.now.parts)
@@ -40,7 +82,7 @@ pub fn walk(
         }
         first = false;
     }
-    add_node(alloc, rule, parent, is_first, node, at, place, out)?;
+    visit(alloc, rule, parent, is_first, node, at, place, out)?;
     Ok(place)
 }
 
@@ -51,7 +93,6 @@ pub fn walk_file(
     tree: &FileTree,
     out: &mut Vec<Placed>,
 ) -> Result<(), AllocError>
-    requires { is_of_nodes rule ≡ true }
     ensures { OnOk result (map seen out.new.items ≡ map seen out.old.items
         ++ in_nodes rule at_top true 0 (file tree.now).statements) }
 {
