@@ -9,16 +9,16 @@ mod edits;
 mod ends;
 mod found;
 mod hash_comment;
+mod in_file;
 mod nested_ternary;
 mod nodes;
 mod parts;
 mod placed;
-mod places;
 mod reserved_name;
 mod rows;
 mod tokens;
 mod walk;
 
+pub use in_file::places;
 pub use placed::Placed;
-pub use places::places_in;
 pub use rows::rows_hold;

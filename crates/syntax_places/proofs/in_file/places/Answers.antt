@@ -4,7 +4,7 @@ use Rattle.std.specs.List.Sorted.{IsPermutation}
 use Rattle.php_tree.specs.Whole.{file}
 use Rattle.syntax_places.specs.Seen.{seen}
 use Rattle.syntax_places.specs.Places.{places}
-use Rattle.syntax_places.proofs.places.places_in.Goals as goal
+use Rattle.syntax_places.proofs.in_file.places.Goals as goal
 
 pub returns-clause-all : goal.returns-clause-all
 returns-clause-all c =

@@ -71,7 +71,7 @@ fn add_all(
 
 /// All places of a rule in a file with what is decided at each, in order of start, then end. The rule is one whose places
 /// are found. The only error is want of memory.
-pub fn places_in(alloc: Global, rule: RuleId, tree: &FileTree) -> Result<Vec<Placed>, AllocError>
+pub fn places(alloc: Global, rule: RuleId, tree: &FileTree) -> Result<Vec<Placed>, AllocError>
     requires { is_found rule ≡ true }
     ensures all { IfOk result (λ v. IsPermutation (places_of rule (file tree.now)) (map seen v.items)) }
     ensures ordered { IfOk result (λ v. IsNonDecreasingBy order_of v.items) }
