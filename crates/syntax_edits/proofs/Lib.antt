@@ -1,0 +1,12 @@
+pub mod Recording
+pub mod NextEdit
+pub mod Tokens
+pub mod Opening
+pub mod Around
+pub mod Names
+pub mod NamesWalk
+pub mod Styles
+pub mod WholeFile
+pub mod Unset
+pub mod TextsWalk
+pub mod Own

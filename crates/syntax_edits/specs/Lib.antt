@@ -1,0 +1,10 @@
+pub mod Writing
+pub mod Standings
+pub mod Written
+pub mod InContext
+pub mod NamesWalked
+pub mod Laws
+pub mod Texts
+pub mod Inside
+pub mod Splicing
+pub mod Heads

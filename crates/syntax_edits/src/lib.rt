@@ -1,0 +1,15 @@
+//! What makes the edits of a file by the rules on syntax, token by token, and the bytes of the rewritten file by them.
+#![tactic(auto)]
+
+mod casts;
+mod dot_precedence;
+mod hash_comment;
+mod laws;
+mod nested_ternary;
+mod recorder;
+mod splicing;
+mod split_name;
+mod writer;
+
+pub use laws::{edits_are_written, insides_are_written, names_are_walked, nodes_are_written};
+pub use splicing::{Upgrade, written};
