@@ -1,0 +1,52 @@
+-- The rewritten file has the shape of the 8.3 grammar.
+use Rattle.std.specs.Prelude.{◌≡◌, ℕ, ◌≤◌, Bool, true, false, not, ◌==◌, ◌&&◌, List, [], ◌∷◌}
+use Rattle.std.specs.Str.{bytes_eq, str_to_ascii_lowercase}
+use Rattle.std.specs.Prelude.{codes}
+use Rattle.php_tree.specs.declared.token.Token.{Token}
+use Rattle.php_tree.specs.declared.token.TokenKind.{TokenKind}
+use Rattle.php_tree.specs.declared.token.TokenKind.TheVariants as token
+use Rattle.php_tree.specs.declared.version.Version.TheVariants.{V74, V83}
+use Rattle.php_tree.specs.Tree.{Forest, none, leaf, node, File, depth}
+use Rattle.php_shapes.specs.Shapes.{Shape}
+use Rattle.syntax_rules.specs.Rewritten.{rewritten}
+use Rattle.syntax_rules.specs.UnsetCast.{is_undecided}
+use Rattle.rewritten_shapes.specs.RefusedWords.{has_refused}
+
+-- whether no byte is `\`, which is 92
+abbrev pub has_no_root : List ℕ → Bool
+has_no_root [] = true
+has_no_root (b ∷ bs) = not (b == 92) && has_no_root bs
+
+-- whether a text could be a label's: some bytes, no `\` among them, and not the word `namespace`, without ASCII case
+abbrev pub is_label_text : List ℕ → Bool
+is_label_text [] = false
+is_label_text (b ∷ bs) =
+    has_no_root (b ∷ bs) && not (bytes_eq (str_to_ascii_lowercase (b ∷ bs)) (codes "namespace"))
+
+abbrev pub is_spelled_by : TokenKind → List ℕ → Bool
+is_spelled_by token.Label text = is_label_text text
+is_spelled_by token.DollarBrace text = bytes_eq text (codes "${")
+is_spelled_by _ text = true
+
+-- Each label and each `${` has a text as the tokens of a source have it.
+abbrev pub AreSpelled : Forest → Type 0
+AreSpelled none = Unit {0}
+AreSpelled (leaf x f) = (is_spelled_by x.kind x.text ≡ true) × AreSpelled f
+AreSpelled (node k c f) = AreSpelled c × AreSpelled f
+
+-- No cast `(unset)` is undecided, and no node has a word that 8.3 refuses there.
+abbrev pub NoneReported : Forest → Type 0
+NoneReported none = Unit {0}
+NoneReported (leaf x f) = NoneReported f
+NoneReported (node k c f) = (is_undecided (k, c) ≡ false) × (has_refused k c ≡ false) × NoneReported c × NoneReported f
+
+-- A 7.4 file in which the rules report nothing that stops compiling has, once it is rewritten, the shape of 8.3.
+abbrev pub RewrittenHasShape : Type 0
+RewrittenHasShape =
+    (f : File) → Shape V74 f → AreSpelled f.statements → NoneReported f.statements → Shape V83 (rewritten f)
+
+-- The rewritten file is at most three times as deep: a node in parentheses is one level deeper, and the value of `${name[..]}` one
+-- level more.
+abbrev pub RewrittenIsShallow : Type 0
+RewrittenIsShallow =
+    (f : File) → AreSpelled f.statements → depth f.statements ≤ 500 → depth (rewritten f).statements ≤ 1500

@@ -1,0 +1,6 @@
+//! What the rewriting of a 7.4 file keeps of its shape: the rewritten file has the shape of the 8.3 grammar, and bounded depth.
+#![tactic(auto)]
+
+mod shallow;
+
+pub use shallow::rewritten_is_shallow;
