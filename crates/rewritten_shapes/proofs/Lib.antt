@@ -1,2 +1,6 @@
 pub mod Tabled
 pub mod Depths
+pub mod Bare
+pub mod Shown
+pub mod Calm
+pub mod Sides
