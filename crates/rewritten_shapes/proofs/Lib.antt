@@ -4,3 +4,9 @@ pub mod Bare
 pub mod Shown
 pub mod Calm
 pub mod Sides
+pub mod Like
+pub mod Flat
+pub mod Simple
+pub mod Kept
+pub mod Same
+pub mod OperatorWords

@@ -146,7 +146,7 @@ starts_calm no_more h = refl
 starts_calm (once_more {r} {f} {g} {h} x y d) e = ap begins_calm d ∙ begins_join g h (starts_calm x e) (λ z. starts_calm y e)
 starts_calm (is_tokens b) h = cc
 
-false_true : (a b : Bool) → (not a || b) ≡ true → (a ≡ true → ⊥) ⊎ (b ≡ true)
+pub false_true : (a b : Bool) → (not a || b) ≡ true → (a ≡ true → ⊥) ⊎ (b ≡ true)
 false_true true b h = inr h
 false_true false b h = inl (λ e. absurd cc)
 
@@ -154,7 +154,7 @@ stops_by : (f g h : Forest) (r s : Rule) → f ≡ g +++ h → Fits V74 s h → 
 stops_by f g h r s d y e (inl n) = ap (ends_calm true) d ∙ ends_join true g h ∙ ends_any (ends_calm true g) true h (λ z. n (empty_rule V74 y z)) ∙ e
 stops_by f g h r s d y e (inr n) = ap (ends_calm true) d ∙ ends_join true g h ∙ ap (λ (b : Bool). ends_calm b h) n ∙ e
 
-map_right : {A B C : Type 0} → (B → C) → A ⊎ B → A ⊎ C
+pub map_right : {A B C : Type 0} → (B → C) → A ⊎ B → A ⊎ C
 map_right f (inl a) = inl a
 map_right f (inr b) = inr (f b)
 
