@@ -231,15 +231,18 @@ yield_like k.Yield c b d e = cc
 yield_like _ c b d e = e
 
 -- a node whose parts are alike is alike
-pub settled_like : (k : NodeKind) (c b : Forest) → is_settled k ≡ true → Like c b → NodeLike k c k b
-settled_like k c b e l = record {
+pub parts_like : (k : NodeKind) (c b : Forest) → (is_open_yield k b ≡ true → is_open_yield k c ≡ true) → Below (level V83 (k, b)) (level V74 (k, c)) → Like c b → NodeLike k c k b
+parts_like k c b y e l = record {
   ifs = or_else (is_open_if k b) (ends_in_if false b) (is_open_if k c) (ends_in_if false c) (if_like k c b l) (l.ifs false false (λ z. z));
-  yields = or_else (is_open_yield k b) (ends_in_yield false b) (is_open_yield k c) (ends_in_yield false c) (yield_like k c b e) (l.yields false false (λ z. z));
-  edges = below_max (level V83 (k, b)) (level V74 (k, c)) (edge_from V83 0 b) (edge_from V74 0 c)
-      (subst (λ (n : ℕ). Below n (level V74 (k, c))) (sym (settled_level k c b e)) (below_same (level V74 (k, c))))
-      (l.edges 0 0 (below_same 0));
+  yields = or_else (is_open_yield k b) (ends_in_yield false b) (is_open_yield k c) (ends_in_yield false c) y (l.yields false false (λ z. z));
+  edges = below_max (level V83 (k, b)) (level V74 (k, c)) (edge_from V83 0 b) (edge_from V74 0 c) e (l.edges 0 0 (below_same 0));
   begins = both_map (is_class_name k) (begins_with_class_name c) (is_class_name k) (begins_with_class_name b) (λ z. z) l.begins;
 }
+
+pub settled_like : (k : NodeKind) (c b : Forest) → is_settled k ≡ true → Like c b → NodeLike k c k b
+settled_like k c b e l =
+    parts_like k c b (yield_like k c b e)
+    (subst (λ (n : ℕ). Below n (level V74 (k, c))) (sym (settled_level k c b e)) (below_same (level V74 (k, c)))) l
 
 -- ---- rules that are the same in both versions
 

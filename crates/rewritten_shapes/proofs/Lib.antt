@@ -10,3 +10,5 @@ pub mod Simple
 pub mod Kept
 pub mod Same
 pub mod OperatorWords
+pub mod Wrapped
+pub mod Operands

@@ -1,5 +1,5 @@
 -- Operators by their words: `.`, `+`, `-`, and the shifts.
-use Rattle.std.proofs.Common.{◌≡◌, ℕ, ◌+◌, Bool, true, false, not, cond, ◌&&◌, ◌||◌, ◌⊎◌, inl, inr, nat_eq, nat_lt, nat_le, codes, List, [], ◌∷◌, slice_index, length, refl, sym, ap, ◌∙◌, subst, arith}
+use Rattle.std.proofs.Common.{◌≡◌, ℕ, ◌+◌, ◌<◌, Bool, true, false, not, cond, ◌&&◌, ◌||◌, ◌⊎◌, inl, inr, nat_eq, nat_lt, nat_le, codes, List, [], ◌∷◌, slice_index, length, refl, sym, ap, ◌∙◌, subst, arith}
 use Rattle.std.specs.Char.{to_ascii_lowercase}
 use Rattle.std.specs.Str.{bytes_eq}
 use Rattle.std.proofs.lemmas.Bool.{eqb-true, ltb-true, eq-eqb}
@@ -40,25 +40,38 @@ found c other (r ∷ rs) text n e =
 
 -- ---- a word without letters
 
-lower_by : (b n : ℕ) (t u : Bool) → nat_lt b 65 ≡ t → nat_lt b 91 ≡ u → nat_lt n 97 ≡ true → n ≡ cond t b (cond u (b + 32) b) → n ≡ b
+-- whether a byte is no lower case letter
+abbrev is_low : ℕ → Bool
+is_low n = nat_lt n 97 || nat_lt 122 n
+
+lower_by : (b n : ℕ) (t u : Bool) → nat_lt b 65 ≡ t → nat_lt b 91 ≡ u → (n < 97) ⊎ (122 < n) → n ≡ cond t b (cond u (b + 32) b) → n ≡ b
 lower_by b n true u p q r e = e
-lower_by b n false true p q r e = absurd (let z : true ≡ false = grind (arith, nat_tests) in cc)
+lower_by b n false true p q (inl r) e = absurd (let z : true ≡ false = grind (arith, nat_tests) in cc)
+lower_by b n false true p q (inr r) e = absurd (let z : true ≡ false = grind (arith, nat_tests) in cc)
 lower_by b n false false p q r e = e
 
-same_byte : (n b : ℕ) → nat_lt n 97 ≡ true → nat_eq n (to_ascii_lowercase b) ≡ true → n ≡ b
-same_byte n b h e = lower_by b n (nat_lt b 65) (nat_lt b 91) refl refl h (eqb-true n (to_ascii_lowercase b) e)
+low_cases : (n : ℕ) → is_low n ≡ true → (n < 97) ⊎ (122 < n)
+low_cases n e = go (nat_lt n 97) (nat_lt 122 n) refl refl e
+  where
+    go : (a b : Bool) → nat_lt n 97 ≡ a → nat_lt 122 n ≡ b → (a || b) ≡ true → (n < 97) ⊎ (122 < n)
+    go true b p q e = inl (ltb-true n 97 p)
+    go false true p q e = inr (ltb-true 122 n q)
+    go false false p q e = absurd cc
+
+same_byte : (n b : ℕ) → is_low n ≡ true → nat_eq n (to_ascii_lowercase b) ≡ true → n ≡ b
+same_byte n b h e = lower_by b n (nat_lt b 65) (nat_lt b 91) refl refl (low_cases n h) (eqb-true n (to_ascii_lowercase b) e)
 
 abbrev all_low : List ℕ → Bool
 all_low [] = true
-all_low (b ∷ bs) = nat_lt b 97 && all_low bs
+all_low (b ∷ bs) = is_low b && all_low bs
 
 pub low_word : (w text : List ℕ) → all_low w ≡ true → is_word w text ≡ true → text ≡ w
 low_word [] [] h e = refl
 low_word [] (b ∷ bs) h e = absurd cc
 low_word (a ∷ w) [] h e = absurd cc
 low_word (a ∷ w) (b ∷ bs) h e =
-    let same : a ≡ b = same_byte a b (and_one (nat_lt a 97) (all_low w) h) (and_one (nat_eq a (to_ascii_lowercase b)) (is_word w bs) e) in
-    let rest : bs ≡ w = low_word w bs (and_two (nat_lt a 97) (all_low w) h) (and_two (nat_eq a (to_ascii_lowercase b)) (is_word w bs) e) in
+    let same : a ≡ b = same_byte a b (and_one (is_low a) (all_low w) h) (and_one (nat_eq a (to_ascii_lowercase b)) (is_word w bs) e) in
+    let rest : bs ≡ w = low_word w bs (and_two (is_low a) (all_low w) h) (and_two (nat_eq a (to_ascii_lowercase b)) (is_word w bs) e) in
     rw (same, rest) refl
   where
     and_one : (x y : Bool) → (x && y) ≡ true → x ≡ true
@@ -76,6 +89,10 @@ is_watched t.Dot = true
 is_watched t.Plus = true
 is_watched t.Minus = true
 is_watched t.Shift = true
+is_watched t.OpenBrace = true
+is_watched t.CloseBrace = true
+is_watched t.OpenBracket = true
+is_watched t.CloseBracket = true
 is_watched _ = false
 
 no_keyword : (text : List ℕ) (c : Terminal) → is_watched c ≡ true → same_class c (find_row t.OtherKeyword keywords text) ≡ true → ⊥
@@ -83,19 +100,27 @@ unfolding keywords
 no_keyword text t.Dot h e = absurd (let z : false ≡ true = found t.Dot t.OtherKeyword keywords text refl e in cc)
 no_keyword text t.Plus h e = absurd (let z : false ≡ true = found t.Plus t.OtherKeyword keywords text refl e in cc)
 no_keyword text t.Minus h e = absurd (let z : false ≡ true = found t.Minus t.OtherKeyword keywords text refl e in cc)
+no_keyword text t.OpenBrace h e = absurd (let z : false ≡ true = found t.OpenBrace t.OtherKeyword keywords text refl e in cc)
+no_keyword text t.CloseBrace h e = absurd (let z : false ≡ true = found t.CloseBrace t.OtherKeyword keywords text refl e in cc)
+no_keyword text t.OpenBracket h e = absurd (let z : false ≡ true = found t.OpenBracket t.OtherKeyword keywords text refl e in cc)
+no_keyword text t.CloseBracket h e = absurd (let z : false ≡ true = found t.CloseBracket t.OtherKeyword keywords text refl e in cc)
 no_keyword text t.Shift h e = absurd (let z : false ≡ true = found t.Shift t.OtherKeyword keywords text refl e in cc)
 no_keyword text _ h e = cc
 
 -- ---- what isn't one of them
 
 abbrev watched_code : ℕ → Bool
-watched_code n = nat_eq n 105 || (nat_eq n 101 || (nat_eq n 102 || nat_eq n 104))
+watched_code n = nat_eq n 105 || (nat_eq n 101 || (nat_eq n 102 || (nat_eq n 104 || (nat_eq n 85 || (nat_eq n 86 || (nat_eq n 87 || nat_eq n 88))))))
 
 code_watched : (x : Terminal) → is_watched x ≡ watched_code (code x)
 code_watched t.Dot = refl
 code_watched t.Plus = refl
 code_watched t.Minus = refl
 code_watched t.Shift = refl
+code_watched t.OpenBrace = refl
+code_watched t.CloseBrace = refl
+code_watched t.OpenBracket = refl
+code_watched t.CloseBracket = refl
 code_watched _ = refl
 
 other_not : (c own : Terminal) → is_watched c ≡ true → is_watched own ≡ false → same_class c own ≡ true → ⊥
@@ -214,3 +239,19 @@ dot_by _ = inl refl
 
 pub dot_level_is : (x : Token) → x.text ≡ codes "." → (binary_level V74 (terminal x) ≡ 0) ⊎ (binary_level V74 (terminal x) ≡ 7)
 dot_level_is x e = subst (λ (text : List ℕ). (binary_level V74 (terminal_by x.kind text) ≡ 0) ⊎ (binary_level V74 (terminal_by x.kind text) ≡ 7)) (sym e) (dot_by x.kind)
+
+pub open_brace_is : (x : Token) → same_class t.OpenBrace (terminal x) ≡ true → x.text ≡ codes "{"
+unfolding operators
+open_brace_is x e = low_word (codes "{") x.text refl (one_alone (codes "{") x.text (word_by x.kind t.OpenBrace x.text refl e))
+
+pub close_brace_is : (x : Token) → same_class t.CloseBrace (terminal x) ≡ true → x.text ≡ codes "}"
+unfolding operators
+close_brace_is x e = low_word (codes "}") x.text refl (one_alone (codes "}") x.text (word_by x.kind t.CloseBrace x.text refl e))
+
+pub open_bracket_is : (x : Token) → same_class t.OpenBracket (terminal x) ≡ true → x.text ≡ codes "["
+unfolding operators
+open_bracket_is x e = low_word (codes "[") x.text refl (one_alone (codes "[") x.text (word_by x.kind t.OpenBracket x.text refl e))
+
+pub close_bracket_is : (x : Token) → same_class t.CloseBracket (terminal x) ≡ true → x.text ≡ codes "]"
+unfolding operators
+close_bracket_is x e = low_word (codes "]") x.text refl (one_alone (codes "]") x.text (word_by x.kind t.CloseBracket x.text refl e))
