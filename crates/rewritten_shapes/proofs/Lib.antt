@@ -12,3 +12,4 @@ pub mod Same
 pub mod OperatorWords
 pub mod Wrapped
 pub mod Operands
+pub mod Binaries

@@ -178,20 +178,20 @@ own_or _ e = absurd cc
 -- ---- two operands
 
 -- parts with an operator between two operands
-record Two (c : Forest) (l : ℕ) (op : Terminal) (r : ℕ) : Type 0 where
-  j : NodeKind
-  d : Forest
-  x : Token
-  i : NodeKind
-  e : Forest
-  same : c ≡ node j d (leaf x (node i e none))
-  left : may_stand V74 (Left l) (j, d) ≡ true
-  left_node : IsNode V74 j d
-  takes : accepts V74 op x ≡ true
-  right : may_stand V74 (Operand r) (i, e) ≡ true
-  right_node : IsNode V74 i e
+pub record Two (c : Forest) (l : ℕ) (op : Terminal) (r : ℕ) : Type 0 where
+  pub j : NodeKind
+  pub d : Forest
+  pub x : Token
+  pub i : NodeKind
+  pub e : Forest
+  pub same : c ≡ node j d (leaf x (node i e none))
+  pub left : may_stand V74 (Left l) (j, d) ≡ true
+  pub left_node : IsNode V74 j d
+  pub takes : accepts V74 op x ≡ true
+  pub right : may_stand V74 (Operand r) (i, e) ≡ true
+  pub right_node : IsNode V74 i e
 
-two : (l r : ℕ) (op : Terminal) (c : Forest) → Fits V74 (place (Left l) ~ (word op ~ place (Operand r))) c → Two c l op r
+pub two : (l r : ℕ) (op : Terminal) (c : Forest) → Fits V74 (place (Left l) ~ (word op ~ place (Operand r))) c → Two c l op r
 two l r op c (is_both (is_place {k = j} {c = d} m n) (is_both (is_word {x} p) (is_place {k = i} {c = e} q o) w) v) = record {
   j = j; d = d; x = x; i = i; e = e; same = v ∙ ap (node j d) w; left = m; left_node = n; takes = p; right = q; right_node = o;
 }
@@ -206,55 +206,55 @@ pub record Level (op : Terminal) (old new : ℕ) : Type 0 where
   pub before : (own : Terminal) → same_class op own ≡ true → binary_level V74 own ≡ old
   pub after : (own : Terminal) → same_class op own ≡ true → binary_level V83 own ≡ new
 
-level_power : Level t.Power 2 2
+pub level_power : Level t.Power 2 2
 level_power = record { takes = λ x e. e; before = λ own e. ap (binary_level V74) (own_power own e); after = λ own e. ap (binary_level V83) (own_power own e) }
 
-level_factor : Level t.Factor 6 6
+pub level_factor : Level t.Factor 6 6
 level_factor = record { takes = λ x e. e; before = λ own e. ap (binary_level V74) (own_factor own e); after = λ own e. ap (binary_level V83) (own_factor own e) }
 
-level_plus : Level t.Plus 7 7
+pub level_plus : Level t.Plus 7 7
 level_plus = record { takes = λ x e. e; before = λ own e. ap (binary_level V74) (own_plus own e); after = λ own e. ap (binary_level V83) (own_plus own e) }
 
-level_minus : Level t.Minus 7 7
+pub level_minus : Level t.Minus 7 7
 level_minus = record { takes = λ x e. e; before = λ own e. ap (binary_level V74) (own_minus own e); after = λ own e. ap (binary_level V83) (own_minus own e) }
 
-level_shift : Level t.Shift 8 8
+pub level_shift : Level t.Shift 8 8
 level_shift = record { takes = λ x e. e; before = λ own e. ap (binary_level V74) (own_shift own e); after = λ own e. ap (binary_level V83) (own_shift own e) }
 
-level_dot : Level t.Dot 7 9
+pub level_dot : Level t.Dot 7 9
 level_dot = record { takes = λ x e. e; before = λ own e. ap (binary_level V74) (own_dot own e); after = λ own e. ap (binary_level V83) (own_dot own e) }
 
-level_order : Level t.Order 10 10
+pub level_order : Level t.Order 10 10
 level_order = record { takes = λ x e. e; before = λ own e. ap (binary_level V74) (own_order own e); after = λ own e. ap (binary_level V83) (own_order own e) }
 
-level_equality : Level t.Equality 11 11
+pub level_equality : Level t.Equality 11 11
 level_equality = record { takes = λ x e. e; before = λ own e. ap (binary_level V74) (own_equality own e); after = λ own e. ap (binary_level V83) (own_equality own e) }
 
-level_ampersand : Level t.Ampersand 12 12
+pub level_ampersand : Level t.Ampersand 12 12
 level_ampersand = record { takes = λ x e. e; before = λ own e. ap (binary_level V74) (own_ampersand own e); after = λ own e. ap (binary_level V83) (own_ampersand own e) }
 
-level_caret : Level t.Caret 13 13
+pub level_caret : Level t.Caret 13 13
 level_caret = record { takes = λ x e. e; before = λ own e. ap (binary_level V74) (own_caret own e); after = λ own e. ap (binary_level V83) (own_caret own e) }
 
-level_bar : Level t.Bar 14 14
+pub level_bar : Level t.Bar 14 14
 level_bar = record { takes = λ x e. e; before = λ own e. ap (binary_level V74) (own_bar own e); after = λ own e. ap (binary_level V83) (own_bar own e) }
 
-level_booleanand : Level t.BooleanAnd 15 15
+pub level_booleanand : Level t.BooleanAnd 15 15
 level_booleanand = record { takes = λ x e. e; before = λ own e. ap (binary_level V74) (own_booleanand own e); after = λ own e. ap (binary_level V83) (own_booleanand own e) }
 
-level_booleanor : Level t.BooleanOr 16 16
+pub level_booleanor : Level t.BooleanOr 16 16
 level_booleanor = record { takes = λ x e. e; before = λ own e. ap (binary_level V74) (own_booleanor own e); after = λ own e. ap (binary_level V83) (own_booleanor own e) }
 
-level_coalesce : Level t.Coalesce 17 17
+pub level_coalesce : Level t.Coalesce 17 17
 level_coalesce = record { takes = λ x e. e; before = λ own e. ap (binary_level V74) (own_coalesce own e); after = λ own e. ap (binary_level V83) (own_coalesce own e) }
 
-level_and : Level t.And 21 21
+pub level_and : Level t.And 21 21
 level_and = record { takes = λ x e. e; before = λ own e. ap (binary_level V74) (own_and own e); after = λ own e. ap (binary_level V83) (own_and own e) }
 
-level_xor : Level t.Xor 22 22
+pub level_xor : Level t.Xor 22 22
 level_xor = record { takes = λ x e. e; before = λ own e. ap (binary_level V74) (own_xor own e); after = λ own e. ap (binary_level V83) (own_xor own e) }
 
-level_or : Level t.Or 23 23
+pub level_or : Level t.Or 23 23
 level_or = record { takes = λ x e. e; before = λ own e. ap (binary_level V74) (own_or own e); after = λ own e. ap (binary_level V83) (own_or own e) }
 
 dot_two : (l r : ℕ) (op : Terminal) (old new : ℕ) (c : Forest) → 1 ≤ old → Level op old new → Fits V74 (place (Left l) ~ (word op ~ place (Operand r))) c → is_dot (Binary, c) ≡ true → level V74 (Binary, c) ≡ 7
@@ -305,14 +305,14 @@ dot_wrapped a j d e h =
     let z = wrapped_last ws (changed_tree j d) in
     (z.0, new_tree_is (Some a) j d ∙ ap (λ (b : Bool). wrapped (ws ++ (if b then InParens ∷ [] else [])) (changed_tree j d)) on ∙ z.1)
 
-dot_edge : (a : Around) (j : NodeKind) (d : Forest) → is_dot (j, d) ≡ true → takes_apart a ≡ true → edge V83 (new_tree (Some a) j d) ≡ 0
+pub dot_edge : (a : Around) (j : NodeKind) (d : Forest) → is_dot (j, d) ≡ true → takes_apart a ≡ true → edge V83 (new_tree (Some a) j d) ≡ 0
 dot_edge a j d e h = let y = dot_wrapped a j d e h in ap (edge V83) y.1 ∙ paren_edge y.0
 
 dot_level : (a : Around) (j : NodeKind) (d : Forest) → is_dot (j, d) ≡ true → takes_apart a ≡ true → level V83 (new_tree (Some a) j d) ≡ 0
 dot_level a j d e h = let y = dot_wrapped a j d e h in ap (level V83) y.1
 
 -- a left operand that 8.3 would take apart
-left_tight : (n : ℕ) (a : Around) (j : NodeKind) (d : Forest) → n ≤ 8 → takes_apart a ≡ true → Good j d (new_tree (Some a) j d) → may_stand V74 (Left n) (j, d) ≡ true → may_stand V83 (Left n) (new_tree (Some a) j d) ≡ true
+pub left_tight : (n : ℕ) (a : Around) (j : NodeKind) (d : Forest) → n ≤ 8 → takes_apart a ≡ true → Good j d (new_tree (Some a) j d) → may_stand V74 (Left n) (j, d) ≡ true → may_stand V83 (Left n) (new_tree (Some a) j d) ≡ true
 left_tight n a j d low h g m =
     and_both (is_expression x.0) (nat_le (edge V83 x) n) (g.becomes.expression at) (le-leb (edge V83 x) n (go (is_dot (j, d)) refl))
   where
@@ -327,14 +327,14 @@ left_tight n a j d low h g m =
     go false e = omega (arith, g.dots at e (omega (arith, old, low)), old)
 
 -- a left operand of `.`
-left_dot : (j : NodeKind) (d : Forest) (x : Tree) → Good j d x → may_stand V74 (Left 7) (j, d) ≡ true → may_stand V83 (Left 9) x ≡ true
+pub left_dot : (j : NodeKind) (d : Forest) (x : Tree) → Good j d x → may_stand V74 (Left 7) (j, d) ≡ true → may_stand V83 (Left 9) x ≡ true
 left_dot j d x g m =
     let old : edge V74 (j, d) ≤ 7 = leb-true (edge V74 (j, d)) 7 (and_right (is_expression j) (nat_le (edge V74 (j, d)) 7) m) in
     let new = (edges_below j d x g.like).loose in
     and_both (is_expression x.0) (nat_le (edge V83 x) 9) (g.becomes.expression (and_left (is_expression j) (nat_le (edge V74 (j, d)) 7) m)) (le-leb (edge V83 x) 9 (omega (arith, old, new)))
 
 -- a right operand of a shift
-right_tight : (a : Around) (j : NodeKind) (d : Forest) → takes_apart a ≡ true → Good j d (new_tree (Some a) j d) → may_stand V74 (Operand 7) (j, d) ≡ true → may_stand V83 (Operand 7) (new_tree (Some a) j d) ≡ true
+pub right_tight : (a : Around) (j : NodeKind) (d : Forest) → takes_apart a ≡ true → Good j d (new_tree (Some a) j d) → may_stand V74 (Operand 7) (j, d) ≡ true → may_stand V83 (Operand 7) (new_tree (Some a) j d) ≡ true
 right_tight a j d h g m =
     and_both (is_expression x.0) (nat_le (level V83 x) 7 || is_prefix x.0) (g.becomes.expression at) (go (is_dot (j, d)) refl)
   where
@@ -358,7 +358,7 @@ right_tight a j d h g m =
     go false e = by (nat_le (level V74 (j, d)) 7) (is_prefix j) refl refl (and_right (is_expression j) (nat_le (level V74 (j, d)) 7 || is_prefix j) m) (g.dot_level e)
 
 -- a right operand of `.`
-right_dot : (j : NodeKind) (d : Forest) (x : Tree) → Good j d x → may_stand V74 (Operand 6) (j, d) ≡ true → may_stand V83 (Operand 8) x ≡ true
+pub right_dot : (j : NodeKind) (d : Forest) (x : Tree) → Good j d x → may_stand V74 (Operand 6) (j, d) ≡ true → may_stand V83 (Operand 8) x ≡ true
 right_dot j d x g m = wider (good_stands (Operand 6) j d x g refl m)
   where
     more : (n : ℕ) (q : Bool) → (nat_le n 6 || q) ≡ true → (nat_le n 8 || q) ≡ true
@@ -377,10 +377,10 @@ right_dot j d x g m = wider (good_stands (Operand 6) j d x g refl m)
 -- ---- nodes of two operands
 
 -- the parts of a node of two operands
-abbrev pair : NodeKind → Forest → Token → NodeKind → Forest → Forest
+abbrev pub pair : NodeKind → Forest → Token → NodeKind → Forest → Forest
 pair j d x i e = node j d (leaf x (node i e none))
 
-pair_kept : (j : NodeKind) (d : Forest) (x : Token) (i : NodeKind) (e : Forest) (y z : Tree) (l r : ℕ) (op : Terminal) → Good j d y → Good i e z → accepts V83 op (shown_token (hash_comment x)) ≡ true → may_stand V83 (Left l) y ≡ true → may_stand V83 (Operand r) z ≡ true → Kept (place (Left l) ~ (word op ~ place (Operand r))) (pair j d x i e) (pair y.0 y.1 (shown_token (hash_comment x)) z.0 z.1)
+pub pair_kept : (j : NodeKind) (d : Forest) (x : Token) (i : NodeKind) (e : Forest) (y z : Tree) (l r : ℕ) (op : Terminal) → Good j d y → Good i e z → accepts V83 op (shown_token (hash_comment x)) ≡ true → may_stand V83 (Left l) y ≡ true → may_stand V83 (Operand r) z ≡ true → Kept (place (Left l) ~ (word op ~ place (Operand r))) (pair j d x i e) (pair y.0 y.1 (shown_token (hash_comment x)) z.0 z.1)
 pair_kept j d x i e y z l r op g h p m n = record {
   fits = is_both (is_place m g.shaped) (is_both (is_word p) (is_place n h.shaped) refl) refl;
   like = like_join (node j d none) (leaf x (node i e none)) (node y.0 y.1 none) (leaf (shown_token (hash_comment x)) (node z.0 z.1 none))
@@ -391,7 +391,7 @@ pair_kept j d x i e y z l r op g h p m n = record {
 no_yield : (c b : Forest) → Like c b → Like c b
 no_yield c b l = l
 
-pair_good : (j : NodeKind) (d : Forest) (x : Token) (i : NodeKind) (e : Forest) (y z : Tree) (r old new : ℕ) (op : Terminal)
+pub pair_good : (j : NodeKind) (d : Forest) (x : Token) (i : NodeKind) (e : Forest) (y z : Tree) (r old new : ℕ) (op : Terminal)
     → Level op old new → accepts V74 op x ≡ true → Good i e z → IsNode V74 i e → may_stand V74 (Operand r) (i, e) ≡ true
     → Kept (binary V83) (pair j d x i e) (pair y.0 y.1 (shown_token (hash_comment x)) z.0 z.1) → is_nearest (pair j d x i e) ≡ true
     → (r ≤ 6) ⊎ ((9 ≤ old) ⊎ (is_dot (i, e) ≡ true → edge V83 z ≡ 0)) → (r ≤ 17) ⊎ (19 ≤ old)
