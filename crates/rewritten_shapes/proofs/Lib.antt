@@ -13,3 +13,4 @@ pub mod OperatorWords
 pub mod Wrapped
 pub mod Operands
 pub mod Binaries
+pub mod Unaries
