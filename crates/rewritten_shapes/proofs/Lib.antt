@@ -14,3 +14,4 @@ pub mod Wrapped
 pub mod Operands
 pub mod Binaries
 pub mod Unaries
+pub mod Braces

@@ -18,12 +18,12 @@ use Rattle.php_grammar.specs.Levels.{binary_level}
 use Rattle.syntax_rules.specs.DotPrecedence.{is_shift, is_sum}
 
 -- the words of a class in a table
-abbrev words_of : Terminal → List (List ℕ × Terminal) → List (List ℕ)
+abbrev pub words_of : Terminal → List (List ℕ × Terminal) → List (List ℕ)
 words_of c [] = []
 words_of c (r ∷ rs) = cond (same_class c r.1) (r.0 ∷ words_of c rs) (words_of c rs)
 
 -- whether a text is one of some words
-abbrev is_any : List (List ℕ) → List ℕ → Bool
+abbrev pub is_any : List (List ℕ) → List ℕ → Bool
 is_any [] text = false
 is_any (w ∷ ws) text = is_word w text || is_any ws text
 
@@ -33,7 +33,7 @@ row_step c w x ws y text true false d e h p = absurd (let z : false ≡ true = s
 row_step c w x ws y text false true d e h p = ap (λ (z : Bool). z || is_any ws text) d ∙ p h
 row_step c w x ws y text false false d e h p = p h
 
-found : (c other : Terminal) (rows : List (List ℕ × Terminal)) (text : List ℕ) → same_class c other ≡ false → same_class c (find_row other rows text) ≡ true → is_any (words_of c rows) text ≡ true
+pub found : (c other : Terminal) (rows : List (List ℕ × Terminal)) (text : List ℕ) → same_class c other ≡ false → same_class c (find_row other rows text) ≡ true → is_any (words_of c rows) text ≡ true
 found c other [] text n e = absurd (let z : false ≡ true = sym n ∙ e in cc)
 found c other (r ∷ rs) text n e =
     row_step c r.0 r.1 (words_of c rs) (find_row other rs text) text (is_word r.0 text) (same_class c r.1) refl refl e (found c other rs text n)

@@ -1,5 +1,5 @@
 -- The rewritten file has the shape of the 8.3 grammar.
-use Rattle.std.specs.Prelude.{◌≡◌, ℕ, ◌≤◌, Bool, true, false, not, ◌==◌, ◌&&◌, List, [], ◌∷◌}
+use Rattle.std.specs.Prelude.{◌≡◌, ℕ, ◌≤◌, Bool, true, false, not, ◌==◌, ◌&&◌, ◌||◌, List, [], ◌∷◌}
 use Rattle.std.specs.Str.{bytes_eq, str_to_ascii_lowercase}
 use Rattle.std.specs.Prelude.{codes}
 use Rattle.php_tree.specs.declared.token.Token.{Token}
@@ -7,7 +7,11 @@ use Rattle.php_tree.specs.declared.token.TokenKind.{TokenKind}
 use Rattle.php_tree.specs.declared.token.TokenKind.TheVariants as token
 use Rattle.php_tree.specs.declared.version.Version.TheVariants.{V74, V83}
 use Rattle.php_tree.specs.Tree.{Forest, none, leaf, node, File, depth}
+use Rattle.php_terminals.specs.declared.terminal.Terminal.{Terminal}
+use Rattle.php_terminals.specs.declared.terminal.Terminal.TheVariants as t
+use Rattle.php_terminals.specs.Classify.{cast}
 use Rattle.php_shapes.specs.Shapes.{Shape}
+use Rattle.syntax_rules.specs.Casts.{bare}
 use Rattle.syntax_rules.specs.Rewritten.{rewritten}
 use Rattle.syntax_rules.specs.UnsetCast.{is_undecided}
 use Rattle.rewritten_shapes.specs.RefusedWords.{has_refused}
@@ -23,12 +27,18 @@ is_label_text [] = false
 is_label_text (b ∷ bs) =
     has_no_root (b ∷ bs) && not (bytes_eq (str_to_ascii_lowercase (b ∷ bs)) (codes "namespace"))
 
+-- whether a cast is of a class that 8.3 lacks
+abbrev pub is_old : Terminal → Bool
+is_old t.OldCast = true
+is_old _ = false
+
 abbrev pub is_spelled_by : TokenKind → List ℕ → Bool
 is_spelled_by token.Label text = is_label_text text
+is_spelled_by token.Cast text = not (is_old (cast text)) || (bytes_eq (bare text) (codes "(real)") || bytes_eq (bare text) (codes "(unset)"))
 is_spelled_by token.DollarBrace text = bytes_eq text (codes "${")
 is_spelled_by _ text = true
 
--- Each label and each `${` has a text as the tokens of a source have it.
+-- Each label, each `${` and each cast that 8.3 lacks has a text as the tokens of a source have it.
 abbrev pub AreSpelled : Forest → Type 0
 AreSpelled none = Unit {0}
 AreSpelled (leaf x f) = (is_spelled_by x.kind x.text ≡ true) × AreSpelled f
