@@ -15,3 +15,4 @@ pub mod Operands
 pub mod Binaries
 pub mod Unaries
 pub mod Braces
+pub mod Wholly
