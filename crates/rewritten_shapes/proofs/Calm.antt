@@ -60,14 +60,14 @@ name_calm text h = go (is_word (codes "\\") (front 1 text)) (is_word (codes "nam
     go false false e = cc
 
 -- whether two texts are the same
-abbrev equal : List ℕ → List ℕ → Bool
+abbrev pub equal : List ℕ → List ℕ → Bool
 equal [] [] = true
 equal [] (b ∷ bs) = false
 equal (a ∷ w) [] = false
 equal (a ∷ w) (b ∷ bs) = nat_eq a b && equal w bs
 
 -- a word is told from a text by the text in lower case
-lower_word : (w text : List ℕ) → is_word w text ≡ equal w (str_to_ascii_lowercase text)
+pub lower_word : (w text : List ℕ) → is_word w text ≡ equal w (str_to_ascii_lowercase text)
 lower_word [] [] = refl
 lower_word [] (b ∷ bs) = refl
 lower_word (a ∷ w) [] = refl

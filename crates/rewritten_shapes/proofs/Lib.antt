@@ -16,3 +16,7 @@ pub mod Binaries
 pub mod Unaries
 pub mod Braces
 pub mod Wholly
+pub mod NameParts
+pub mod Units
+pub mod Bilingual
+pub mod Own

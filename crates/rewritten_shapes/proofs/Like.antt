@@ -109,7 +109,7 @@ or_assoc : (a b c : Bool) → (a || (b || c)) ≡ ((a || b) || c)
 or_assoc true b c = refl
 or_assoc false b c = refl
 
-else_join : (g h : Forest) → has_else (g +++ h) ≡ (has_else g || has_else h)
+pub else_join : (g h : Forest) → has_else (g +++ h) ≡ (has_else g || has_else h)
 else_join none h = refl
 else_join (leaf x g) h = ap (λ (y : Bool). is_else (terminal x) || y) (else_join g h) ∙ or_assoc (is_else (terminal x)) (has_else g) (has_else h)
 else_join (node j b g) h = else_join g h

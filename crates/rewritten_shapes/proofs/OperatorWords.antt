@@ -90,6 +90,7 @@ is_watched t.Plus = true
 is_watched t.Minus = true
 is_watched t.Shift = true
 is_watched t.OpenBrace = true
+is_watched t.Backslash = true
 is_watched t.CloseBrace = true
 is_watched t.OpenBracket = true
 is_watched t.CloseBracket = true
@@ -100,6 +101,7 @@ unfolding keywords
 no_keyword text t.Dot h e = absurd (let z : false ≡ true = found t.Dot t.OtherKeyword keywords text refl e in cc)
 no_keyword text t.Plus h e = absurd (let z : false ≡ true = found t.Plus t.OtherKeyword keywords text refl e in cc)
 no_keyword text t.Minus h e = absurd (let z : false ≡ true = found t.Minus t.OtherKeyword keywords text refl e in cc)
+no_keyword text t.Backslash h e = absurd (let z : false ≡ true = found t.Backslash t.OtherKeyword keywords text refl e in cc)
 no_keyword text t.OpenBrace h e = absurd (let z : false ≡ true = found t.OpenBrace t.OtherKeyword keywords text refl e in cc)
 no_keyword text t.CloseBrace h e = absurd (let z : false ≡ true = found t.CloseBrace t.OtherKeyword keywords text refl e in cc)
 no_keyword text t.OpenBracket h e = absurd (let z : false ≡ true = found t.OpenBracket t.OtherKeyword keywords text refl e in cc)
@@ -110,7 +112,7 @@ no_keyword text _ h e = cc
 -- ---- what isn't one of them
 
 abbrev watched_code : ℕ → Bool
-watched_code n = nat_eq n 105 || (nat_eq n 101 || (nat_eq n 102 || (nat_eq n 104 || (nat_eq n 85 || (nat_eq n 86 || (nat_eq n 87 || nat_eq n 88))))))
+watched_code n = nat_eq n 105 || (nat_eq n 101 || (nat_eq n 102 || (nat_eq n 104 || (nat_eq n 85 || (nat_eq n 86 || (nat_eq n 87 || (nat_eq n 94 || nat_eq n 88)))))))
 
 code_watched : (x : Terminal) → is_watched x ≡ watched_code (code x)
 code_watched t.Dot = refl
@@ -118,6 +120,7 @@ code_watched t.Plus = refl
 code_watched t.Minus = refl
 code_watched t.Shift = refl
 code_watched t.OpenBrace = refl
+code_watched t.Backslash = refl
 code_watched t.CloseBrace = refl
 code_watched t.OpenBracket = refl
 code_watched t.CloseBracket = refl
@@ -255,3 +258,57 @@ open_bracket_is x e = low_word (codes "[") x.text refl (one_alone (codes "[") x.
 pub close_bracket_is : (x : Token) → same_class t.CloseBracket (terminal x) ≡ true → x.text ≡ codes "]"
 unfolding operators
 close_bracket_is x e = low_word (codes "]") x.text refl (one_alone (codes "]") x.text (word_by x.kind t.CloseBracket x.text refl e))
+
+pub backslash_is : (x : Token) → same_class t.Backslash (terminal x) ≡ true → x.text ≡ codes "\\"
+unfolding operators
+backslash_is x e = low_word (codes "\\") x.text refl (one_alone (codes "\\") x.text (word_by x.kind t.Backslash x.text refl e))
+
+-- they are operators
+pub op_kind : (sort : TokenKind) (c : Terminal) (text : List ℕ) → is_watched c ≡ true → same_class c (terminal_by sort text) ≡ true → sort ≡ kind.Op
+op_kind kind.Op c text h e = refl
+op_kind kind.Label c text h e = absurd (other_not c (label text) h (label_watched text) e)
+op_kind kind.Keyword c text h e = absurd (keyword_not text c h e)
+op_kind kind.Cast c text h e = absurd (other_not c (cast text) h (cast_watched text) e)
+op_kind kind.Name c text h e = absurd (other_not c (name text) h (name_watched text) e)
+op_kind kind.InlineHtml c text h e = absurd (other_not c (terminal_by kind.InlineHtml text) h refl e)
+op_kind kind.OpenEcho c text h e = absurd (other_not c (terminal_by kind.OpenEcho text) h refl e)
+op_kind kind.Variable c text h e = absurd (other_not c (terminal_by kind.Variable text) h refl e)
+op_kind kind.Int c text h e = absurd (other_not c (terminal_by kind.Int text) h refl e)
+op_kind kind.Float c text h e = absurd (other_not c (terminal_by kind.Float text) h refl e)
+op_kind kind.Text c text h e = absurd (other_not c (terminal_by kind.Text text) h refl e)
+op_kind kind.Quote c text h e = absurd (other_not c (terminal_by kind.Quote text) h refl e)
+op_kind kind.HeredocStart c text h e = absurd (other_not c (terminal_by kind.HeredocStart text) h refl e)
+op_kind kind.Backtick c text h e = absurd (other_not c (terminal_by kind.Backtick text) h refl e)
+op_kind kind.AttributeOpen c text h e = absurd (other_not c (terminal_by kind.AttributeOpen text) h refl e)
+op_kind kind.Semi c text h e = absurd (other_not c (terminal_by kind.Semi text) h refl e)
+op_kind kind.Close c text h e = absurd (other_not c (terminal_by kind.Close text) h refl e)
+op_kind kind.End c text h e = absurd (other_not c (terminal_by kind.End text) h refl e)
+op_kind kind.Piece c text h e = absurd (other_not c (terminal_by kind.Piece text) h refl e)
+op_kind kind.CurlyOpen c text h e = absurd (other_not c (terminal_by kind.CurlyOpen text) h refl e)
+op_kind kind.DollarBrace c text h e = absurd (other_not c (terminal_by kind.DollarBrace text) h refl e)
+op_kind kind.VarName c text h e = absurd (other_not c (terminal_by kind.VarName text) h refl e)
+op_kind kind.QuotedEnd c text h e = absurd (other_not c (terminal_by kind.QuotedEnd text) h refl e)
+
+-- what holds of no row of a table holds of no word in it
+abbrev pub no_row : (Terminal → Bool) → List (List ℕ × Terminal) → Bool
+no_row p [] = true
+no_row p (r ∷ rs) = not (p r.1) && no_row p rs
+
+row_not : (p : Terminal → Bool) (b : Bool) (x y : Terminal) → not (p x) ≡ true → p y ≡ false → p (cond b x y) ≡ false
+row_not p true x y e d = go (p x) e
+  where
+    go : (b : Bool) → not b ≡ true → b ≡ false
+    go true e = sym e
+    go false e = refl
+row_not p false x y e d = d
+
+pub rows_not : (p : Terminal → Bool) (other : Terminal) (rows : List (List ℕ × Terminal)) (text : List ℕ) → p other ≡ false → no_row p rows ≡ true → p (find_row other rows text) ≡ false
+rows_not p other [] text e d = e
+rows_not p other (r ∷ rs) text e d = row_not p (is_word r.0 text) r.1 (find_row other rs text) (one (not (p r.1)) (no_row p rs) d) (rows_not p other rs text e (two (not (p r.1)) (no_row p rs) d))
+  where
+    one : (a b : Bool) → (a && b) ≡ true → a ≡ true
+    one true b e = refl
+    one false b e = cc
+    two : (a b : Bool) → (a && b) ≡ true → b ≡ true
+    two true b e = e
+    two false b e = cc
