@@ -20,3 +20,4 @@ pub mod NameParts
 pub mod Units
 pub mod Bilingual
 pub mod Own
+pub mod Named

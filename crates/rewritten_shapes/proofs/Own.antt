@@ -3,18 +3,17 @@ use Rattle.std.proofs.Common.{◌≡◌, ℕ, Bool, true, false, not, cond, ◌&
 use Rattle.std.specs.Str.{bytes_eq, str_to_ascii_lowercase}
 use Rattle.std.specs.Prelude.{codes}
 use Rattle.php_tree.specs.declared.kind.NodeKind.{NodeKind}
-use Rattle.php_tree.specs.declared.kind.NodeKind.TheVariants as k
+use Rattle.php_tree.specs.declared.kind.NodeKind.TheVariants.{Empty}
 use Rattle.php_tree.specs.declared.token.Token.{Token}
 use Rattle.php_tree.specs.declared.token.TokenKind.{TokenKind}
 use Rattle.php_tree.specs.Tree.{Forest, Tree, none, leaf, node}
 use Rattle.php_terminals.specs.Classify.{names_refused, terminal}
 use Rattle.php_terminals.specs.declared.terminal.Terminal.{Terminal}
-use Rattle.tracked_changes.specs.Pieces.{Piece, after, before, kept}
+use Rattle.tracked_changes.specs.Pieces.{Piece, after, before, changed, kept}
 use Rattle.tracked_changes.specs.Draft.{NewToken, Draft, no_more, new_leaf, new_node, rewritten, unchanged, unchanged_token}
 use Rattle.tracked_changes.proofs.Joining.{after-append, before-append}
 use Rattle.syntax_rules.specs.Around.{Around}
-use Rattle.syntax_rules.specs.HashComment.{hash_comment, outside, spaced}
-use Rattle.syntax_rules.proofs.HashCommentKeeps.{spaced_keeps}
+use Rattle.syntax_rules.specs.HashComment.{Standing, begins_hash, hash_comment, moved, outside, spaced}
 use Rattle.syntax_rules.specs.SplitName.{begins_root, deleted, in_front, is_backslash, is_keyword, is_label, is_name, is_namespace, is_one, is_op, one_name, whole_names}
 use Rattle.rewritten_shapes.specs.RefusedWords.{has, has_before, is_keyword_now, named}
 use Rattle.rewritten_shapes.proofs.Shown.{bare_rewritten, names_whole, new_parts, shown, shown_token}
@@ -56,13 +55,13 @@ joined_same : (t t2 u u2 : NewToken) → Same t t2 → Same u u2 → Same (one_n
 joined_same t t2 u u2 p q = record {
   kind = refl;
   before_ =
-      before-append t.text (deleted (before u.lead) ++ u.text) ∙ ap (λ x. before t.text ++ x) (before-append (deleted (before u.lead)) u.text)
+      before-append (t.text ++ deleted (before u.lead)) u.text ∙ ap (λ x. x ++ before u.text) (before-append t.text (deleted (before u.lead)))
       ∙ rw (p.before_, q.before_, q.lead) refl
-      ∙ sym (before-append t2.text (deleted (before u2.lead) ++ u2.text) ∙ ap (λ x. before t2.text ++ x) (before-append (deleted (before u2.lead)) u2.text));
+      ∙ sym (before-append (t2.text ++ deleted (before u2.lead)) u2.text ∙ ap (λ x. x ++ before u2.text) (before-append t2.text (deleted (before u2.lead))));
   after_ =
-      after-append t.text (deleted (before u.lead) ++ u.text) ∙ ap (λ x. after t.text ++ x) (after-append (deleted (before u.lead)) u.text)
+      after-append (t.text ++ deleted (before u.lead)) u.text ∙ ap (λ x. x ++ after u.text) (after-append t.text (deleted (before u.lead)))
       ∙ rw (p.after_, q.after_, q.lead) refl
-      ∙ sym (after-append t2.text (deleted (before u2.lead) ++ u2.text) ∙ ap (λ x. after t2.text ++ x) (after-append (deleted (before u2.lead)) u2.text));
+      ∙ sym (after-append (t2.text ++ deleted (before u2.lead)) u2.text ∙ ap (λ x. x ++ after u2.text) (after-append t2.text (deleted (before u2.lead))));
   lead = p.lead;
 }
 
@@ -86,14 +85,23 @@ front_same t t2 (new_node k c d) (new_node j b e) p q = (p, q)
 
 whole_same : (d e : Draft) → AreSame d e → AreSame (names_whole d) (names_whole e)
 whole_same no_more no_more p = tt
-whole_same no_more (new_leaf u e) p = p
-whole_same no_more (new_node j b e) p = p
+whole_same no_more (new_leaf u e) p = absurd p
+whole_same no_more (new_node j b e) p = absurd p
 whole_same (new_leaf t d) no_more p = absurd p
 whole_same (new_leaf t d) (new_leaf u e) p = front_same t u (names_whole d) (names_whole e) p.0 (whole_same d e p.1)
 whole_same (new_leaf t d) (new_node j b e) p = absurd p
-whole_same (new_node k c d) no_more p = p
+whole_same (new_node k c d) no_more p = absurd p
 whole_same (new_node k c d) (new_leaf u e) p = absurd p
 whole_same (new_node k c d) (new_node j b e) p = whole_same d e p
+
+put_in_keeps : (b : Bool) (text : List ℕ) (rest : List Piece) → before ((if b then changed [] text ∷ [] else []) ++ rest) ≡ before rest
+put_in_keeps true text rest = refl
+put_in_keeps false text rest = refl
+
+spaced_keeps : (s : Standing) (lead : List ℕ) → before (spaced s lead) ≡ lead
+spaced_keeps s [] = refl
+spaced_keeps s (b ∷ bs) =
+    ap (λ x. b ∷ x) (put_in_keeps (begins_hash s b bs) (codes " ") (spaced (moved s b bs) bs) ∙ spaced_keeps (moved s b bs) bs)
 
 written_same : (a : Bool → Option Around) (b : Bool) (f : Forest) → AreSame (unchanged f) (written a b f)
 written_same a b none = tt
@@ -104,7 +112,7 @@ written_same a b (node k c f) = written_same a false f
 abbrev pub own : Forest → Forest
 own none = none
 own (leaf x f) = leaf (bare_token x) (own f)
-own (node k c f) = node k.Empty none (own f)
+own (node k c f) = node Empty none (own f)
 
 same_token : (t u : NewToken) → Same t u → shown_token t ≡ shown_token u
 same_token t u p = rw (p.kind, p.after_) refl
@@ -118,12 +126,12 @@ same_own (new_leaf t d) (new_leaf u e) p = rw (same_token t u p.0, same_own d e 
 same_own (new_leaf t d) (new_node j b e) p = absurd p
 same_own (new_node k c d) no_more p = absurd p
 same_own (new_node k c d) (new_leaf u e) p = absurd p
-same_own (new_node k c d) (new_node j b e) p = ap (node k.Empty none) (same_own d e p)
+same_own (new_node k c d) (new_node j b e) p = ap (node Empty none) (same_own d e p)
 
 own_bare : (f : Forest) → own (bare f) ≡ own f
 own_bare none = refl
 own_bare (leaf x f) = ap (leaf (bare_token x)) (own_bare f)
-own_bare (node k c f) = ap (node k.Empty none) (own_bare f)
+own_bare (node k c f) = ap (node Empty none) (own_bare f)
 
 pub named_own : (a : Bool → Option Around) (b : Bool) (c : Forest) → own (named c) ≡ own (new_parts a b c)
 named_own a b c =
