@@ -73,7 +73,7 @@ any_label text = go (words.is_word (codes "match") text) (words.is_word (codes "
     go false false false true = refl
     go false false false false = refl
 
-label_any : (y : Token) → accepts V74 t.AnyLabel y ≡ true → is_any_label (terminal y) ≡ true
+pub label_any : (y : Token) → accepts V74 t.AnyLabel y ≡ true → is_any_label (terminal y) ≡ true
 label_any y e = ap (λ (sort : TokenKind). is_any_label (terminal_by sort y.text)) (label_token y e) ∙ any_label y.text
 
 free_label : (own : Terminal) → (is_any_label own || same_class t.FreeLabel own) ≡ true → is_keyword_now own ≡ false → (is_constant_label own || same_class t.FreeLabel own) ≡ true
@@ -161,7 +161,7 @@ word_else t.Backslash x h e = root_else (terminal x) e
 word_else t.Namespace x h e = space_else (terminal x) e
 word_else _ x h e = absurd cc
 
-or_false : (a b : Bool) → a ≡ false → b ≡ false → (a || b) ≡ false
+pub or_false : (a b : Bool) → a ≡ false → b ≡ false → (a || b) ≡ false
 or_false true b e d = e
 or_false false b e d = d
 
@@ -219,7 +219,7 @@ or_one : (a : Bool) → (a || false) ≡ false → a ≡ false
 or_one true e = e
 or_one false e = refl
 
-shown_terminal : (y : Token) → terminal (shown_token (hash_comment y)) ≡ terminal y
+pub shown_terminal : (y : Token) → terminal (shown_token (hash_comment y)) ≡ terminal y
 shown_terminal y = ap terminal (shown_is y)
 
 -- a name becomes one token of a class
@@ -303,7 +303,7 @@ reads which (next r s) = stay_apart (old r) (old s) && (reads which r && reads w
 reads which (either r s) = reads which r && reads which s
 reads which (times r) = stay_apart (old r) (old r) && reads which r
 
-has_join : (p : Terminal → Bool) (g h : Forest) → has p (g +++ h) ≡ (has p g || has p h)
+pub has_join : (p : Terminal → Bool) (g h : Forest) → has p (g +++ h) ≡ (has p g || has p h)
 has_join p none h = refl
 has_join p (leaf x g) h = ap (λ (y : Bool). p (terminal x) || y) (has_join p g h) ∙ or_assoc (p (terminal x)) (has p g) (has p h)
   where
@@ -312,25 +312,25 @@ has_join p (leaf x g) h = ap (λ (y : Bool). p (terminal x) || y) (has_join p g 
     or_assoc false b c = refl
 has_join p (node j b g) h = has_join p g h
 
-left_false : (a b : Bool) → (a || b) ≡ false → a ≡ false
+pub left_false : (a b : Bool) → (a || b) ≡ false → a ≡ false
 left_false true b e = e
 left_false false b e = refl
 
-right_false : (a b : Bool) → (a || b) ≡ false → b ≡ false
+pub right_false : (a b : Bool) → (a || b) ≡ false → b ≡ false
 right_false true b e = absurd cc
 right_false false b e = e
 
-spelled_front : (g h : Forest) → AreSpelled (g +++ h) → AreSpelled g
+pub spelled_front : (g h : Forest) → AreSpelled (g +++ h) → AreSpelled g
 spelled_front none h p = tt
 spelled_front (leaf x g) h p = (p.0, spelled_front g h p.1)
 spelled_front (node k c g) h p = (p.0, spelled_front g h p.1)
 
-spelled_rest : (g h : Forest) → AreSpelled (g +++ h) → AreSpelled h
+pub spelled_rest : (g h : Forest) → AreSpelled (g +++ h) → AreSpelled h
 spelled_rest none h p = p
 spelled_rest (leaf x g) h p = spelled_rest g h p.1
 spelled_rest (node k c g) h p = spelled_rest g h p.1
 
-label_kept : (c : Terminal) (which : Which) (x : Token) → narrows c which ≡ true → accepts V74 c x ≡ true → test which (terminal x) ≡ false → accepts V83 c x ≡ true
+pub label_kept : (c : Terminal) (which : Which) (x : Token) → narrows c which ≡ true → accepts V74 c x ≡ true → test which (terminal x) ≡ false → accepts V83 c x ≡ true
 label_kept t.FreeLabel keywords x e p h = free_label (terminal x) p h
 label_kept t.FunctionLabel match_alone x e p h = function_label (terminal x) p h
 label_kept t.ClassLabel all_four x e p h = class_label (terminal x) p h

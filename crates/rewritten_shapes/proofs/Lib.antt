@@ -21,3 +21,4 @@ pub mod Units
 pub mod Bilingual
 pub mod Own
 pub mod Named
+pub mod Marked
