@@ -15,10 +15,11 @@ pub mod Operands
 pub mod Binaries
 pub mod Unaries
 pub mod Braces
-pub mod Wholly
 pub mod NameParts
 pub mod Units
 pub mod Bilingual
 pub mod Own
 pub mod Named
 pub mod Marked
+pub mod Classes
+pub mod Wholly

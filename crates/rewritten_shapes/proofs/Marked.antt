@@ -14,8 +14,8 @@ use Rattle.php_terminals.specs.Terminals.{code}
 use Rattle.php_terminals.specs.Words as words
 use Rattle.php_grammar.specs.Accepts.{accepts, same_class}
 use Rattle.php_shapes.specs.Names.{name}
-use Rattle.php_shapes.specs.Notation.{Rule, nothing, word, ◌~◌, ◌|||◌, many}
-use Rattle.php_shapes.specs.Shapes.{Fits, is_nothing, is_word, is_both, is_first, is_second, no_more, once_more}
+use Rattle.php_shapes.specs.Notation.{Rule, nothing, word, place, ◌~◌, ◌|||◌, many}
+use Rattle.php_shapes.specs.Shapes.{Fits, is_nothing, is_word, is_both, is_first, is_second, no_more, once_more, is_place}
 use Rattle.syntax_rules.specs.Around.{Around}
 use Rattle.syntax_rules.specs.HashComment.{hash_comment}
 use Rattle.rewritten_shapes.specs.Laws.{AreSpelled}
@@ -43,6 +43,7 @@ asks_no m t.Comma = true
 asks_no m t.Extends = true
 asks_no m t.Implements = true
 asks_no m t.Static = true
+asks_no m t.ClassModifier = true
 asks_no m _ = false
 
 comma_no : (m : Mark) (own : Terminal) → same_class t.Comma own ≡ true → marks m own ≡ false
@@ -69,14 +70,21 @@ static_no brace t.Static e = refl
 static_no declaring t.Static e = refl
 static_no m _ e = absurd cc
 
+modifier_no : (m : Mark) (own : Terminal) → same_class t.ClassModifier own ≡ true → marks m own ≡ false
+modifier_no colons t.ClassModifier e = refl
+modifier_no brace t.ClassModifier e = refl
+modifier_no declaring t.ClassModifier e = refl
+modifier_no m _ e = absurd cc
+
 word_no : (m : Mark) (c : Terminal) (x : Token) → asks_no m c ≡ true → accepts V74 c x ≡ true → marks m (terminal x) ≡ false
 word_no m t.Comma x h e = comma_no m (terminal x) e
 word_no m t.Extends x h e = extends_no m (terminal x) e
 word_no m t.Implements x h e = implements_no m (terminal x) e
 word_no m t.Static x h e = static_no m (terminal x) e
+word_no m t.ClassModifier x h e = modifier_no m (terminal x) e
 word_no m _ x h e = absurd cc
 
-label_no : (m : Mark) (own : Terminal) → is_any_label own ≡ true → marks m own ≡ false
+pub label_no : (m : Mark) (own : Terminal) → is_any_label own ≡ true → marks m own ≡ false
 label_no colons t.Label e = refl
 label_no colons t.Match e = refl
 label_no colons t.Readonly e = refl
@@ -118,6 +126,7 @@ name_has_no m f p s a b = go (name_is f p s a b)
 abbrev pub plain_rule : Mark → Rule → Bool
 plain_rule m nothing = true
 plain_rule m (word c) = asks_no m c
+plain_rule m (place p) = true
 plain_rule m (r ||| s) = plain_rule m r && plain_rule m s
 plain_rule m _ = false
 
@@ -133,6 +142,7 @@ has_none_of m (times r) = stay_apart (old r) (old r) && has_none_of m r
 plain_no : (m : Mark) (r : Rule) (f : Forest) → plain_rule m r ≡ true → Fits V74 r f → (a : Bool → Option Around) (b : Bool) → has (marks m) (new_parts a b f) ≡ false
 plain_no m nothing f e is_nothing a b = refl
 plain_no m (word c) f e (is_word {x} p) a b = or_false (marks m (terminal (shown_token (hash_comment x)))) false (ap (marks m) (shown_terminal x) ∙ word_no m c x e p) refl
+plain_no m (place p) f e (is_place n o) a b = refl
 plain_no m (r ||| s) f e (is_first x) a b = plain_no m r f (and_left (plain_rule m r) (plain_rule m s) e) x a b
 plain_no m (r ||| s) f e (is_second x) a b = plain_no m s f (and_right (plain_rule m r) (plain_rule m s) e) x a b
 plain_no m _ f e x a b = absurd cc

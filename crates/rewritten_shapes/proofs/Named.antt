@@ -24,10 +24,10 @@ use Rattle.rewritten_shapes.proofs.Shown.{new_parts, new_tree}
 use Rattle.rewritten_shapes.proofs.Simple.{is_simple}
 
 -- a rule or nothing, and a rule with commas
-abbrev may : Both → Both
+abbrev pub may : Both → Both
 may r = either (alike nothing) r
 
-abbrev listed : Both → Both
+abbrev pub listed : Both → Both
 listed r = next r (times (next (alike (word t.Comma)) r))
 
 -- ---- forms in both versions
@@ -41,7 +41,7 @@ call = next (either a_called (alike (place Callee))) (alike po.called)
 abbrev type_name : Both
 type_name = next (alike (maybe (word t.Question))) (either (alike (word t.Array)) (either (alike (word t.Callable)) a_name))
 
-abbrev inheritance : Both
+abbrev pub inheritance : Both
 inheritance = next (may (next (alike (word t.Extends)) a_name)) (may (next (alike (word t.Implements)) (listed a_name)))
 
 abbrev new_form : Both

@@ -15,7 +15,7 @@ use Rattle.tracked_changes.proofs.Joining.{after-append, before-append}
 use Rattle.syntax_rules.specs.Around.{Around}
 use Rattle.syntax_rules.specs.HashComment.{Standing, begins_hash, hash_comment, moved, outside, spaced}
 use Rattle.syntax_rules.specs.SplitName.{begins_root, deleted, in_front, is_backslash, is_keyword, is_label, is_name, is_namespace, is_one, is_op, one_name, whole_names}
-use Rattle.rewritten_shapes.specs.RefusedWords.{has, has_before, is_keyword_now, named}
+use Rattle.rewritten_shapes.specs.RefusedWords.{declares, has, has_before, in_class, is_any_of_them, is_keyword_now, named}
 use Rattle.rewritten_shapes.proofs.Shown.{bare_rewritten, names_whole, new_parts, shown, shown_token}
 use Rattle.rewritten_shapes.proofs.Bare.{bare, bare_token}
 use Rattle.rewritten_shapes.proofs.Tabled.{written}
@@ -154,3 +154,11 @@ before_own p (node k c f) = before_own p f
 
 pub before_new : (p : Terminal → Bool) (a : Bool → Option Around) (b : Bool) (c : Forest) → has_before p (named c) ≡ has_before p (new_parts a b c)
 before_new p a b c = before_own p (named c) ∙ ap (has_before p) (named_own a b c) ∙ sym (before_own p (new_parts a b c))
+
+class_own : (b : Bool) (f : Forest) → in_class b f ≡ in_class b (own f)
+class_own b none = refl
+class_own b (leaf x f) = ap (λ (y : Bool). (if b then is_any_of_them (terminal x) else is_keyword_now (terminal x)) || y) (class_own (declares (terminal x)) f)
+class_own b (node k c f) = class_own false f
+
+pub class_new : (a : Bool → Option Around) (b : Bool) (c : Forest) → in_class false (named c) ≡ in_class false (new_parts a b c)
+class_new a b c = class_own false (named c) ∙ ap (in_class false) (named_own a b c) ∙ sym (class_own false (new_parts a b c))

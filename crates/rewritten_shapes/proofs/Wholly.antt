@@ -22,34 +22,19 @@ use Rattle.rewritten_shapes.specs.RefusedWords.{has_refused}
 use Rattle.rewritten_shapes.proofs.Bare.{bare, bare_placed, unbare}
 use Rattle.rewritten_shapes.proofs.Binaries.{good_binary}
 use Rattle.rewritten_shapes.proofs.Braces.{good_brace, good_cast}
+use Rattle.rewritten_shapes.proofs.Classes.{good_class, good_class_constant, good_interface, good_static_call, good_static_prop, good_trait}
+use Rattle.rewritten_shapes.proofs.Named.{good_call, good_const, good_constant, good_declare, good_function, good_goto, good_instanceof, good_labelstmt, good_new, good_try, good_typename}
 use Rattle.rewritten_shapes.proofs.Kept.{AllGood, Good, Kept, kept}
 use Rattle.rewritten_shapes.proofs.Same.{good_same}
 use Rattle.rewritten_shapes.proofs.Shown.{bare_rewritten, new_parts, new_tree, shown, shown_apart, names_whole}
 use Rattle.rewritten_shapes.proofs.Tabled.{drafted_is, written}
 use Rattle.rewritten_shapes.proofs.Unaries.{good_prefix, good_short, good_ternary, good_yield}
 
--- whether a node of the kind has names or words that 8.3 reads otherwise
+-- whether a node of the kind is one of those whose names are still to be shown: uses of traits, namespaces, and uses
 abbrev pub has_names : NodeKind → Bool
-has_names k.Try = true
-has_names k.Function = true
-has_names k.TypeName = true
-has_names k.Class = true
-has_names k.Interface = true
-has_names k.Trait = true
 has_names k.TraitUse = true
-has_names k.Const = true
 has_names k.Namespace = true
 has_names k.Use = true
-has_names k.Declare = true
-has_names k.Goto = true
-has_names k.LabelStmt = true
-has_names k.Constant = true
-has_names k.ClassConstant = true
-has_names k.StaticProp = true
-has_names k.Call = true
-has_names k.StaticCall = true
-has_names k.New = true
-has_names k.InstanceOf = true
 has_names _ = false
 
 -- nodes with names become good ones
@@ -112,26 +97,26 @@ module _ (names : NamesAreGood) (quoted : QuotedAreGood) where
   good_node a k.AssignRef c s u r w n = good_same a k.AssignRef c refl w n
   good_node a k.CompoundAssign c s u r w n = good_same a k.CompoundAssign c refl w n
   good_node a k.Print c s u r w n = good_same a k.Print c refl w n
-  good_node a k.Try c s u r w n = names a k.Try c refl s r w n
-  good_node a k.Function c s u r w n = names a k.Function c refl s r w n
-  good_node a k.TypeName c s u r w n = names a k.TypeName c refl s r w n
-  good_node a k.Class c s u r w n = names a k.Class c refl s r w n
-  good_node a k.Interface c s u r w n = names a k.Interface c refl s r w n
-  good_node a k.Trait c s u r w n = names a k.Trait c refl s r w n
+  good_node a k.Try c s u r w n = good_try a c r s w n
+  good_node a k.Function c s u r w n = good_function a c r s w n
+  good_node a k.TypeName c s u r w n = good_typename a c r s w n
+  good_node a k.Class c s u r w n = good_class a c r s w n
+  good_node a k.Interface c s u r w n = good_interface a c r s w n
+  good_node a k.Trait c s u r w n = good_trait a c r s w n
   good_node a k.TraitUse c s u r w n = names a k.TraitUse c refl s r w n
-  good_node a k.Const c s u r w n = names a k.Const c refl s r w n
+  good_node a k.Const c s u r w n = good_const a c r s w n
   good_node a k.Namespace c s u r w n = names a k.Namespace c refl s r w n
   good_node a k.Use c s u r w n = names a k.Use c refl s r w n
-  good_node a k.Declare c s u r w n = names a k.Declare c refl s r w n
-  good_node a k.Goto c s u r w n = names a k.Goto c refl s r w n
-  good_node a k.LabelStmt c s u r w n = names a k.LabelStmt c refl s r w n
-  good_node a k.Constant c s u r w n = names a k.Constant c refl s r w n
-  good_node a k.ClassConstant c s u r w n = names a k.ClassConstant c refl s r w n
-  good_node a k.StaticProp c s u r w n = names a k.StaticProp c refl s r w n
-  good_node a k.Call c s u r w n = names a k.Call c refl s r w n
-  good_node a k.StaticCall c s u r w n = names a k.StaticCall c refl s r w n
-  good_node a k.New c s u r w n = names a k.New c refl s r w n
-  good_node a k.InstanceOf c s u r w n = names a k.InstanceOf c refl s r w n
+  good_node a k.Declare c s u r w n = good_declare a c r s w n
+  good_node a k.Goto c s u r w n = good_goto a c r s w n
+  good_node a k.LabelStmt c s u r w n = good_labelstmt a c r s w n
+  good_node a k.Constant c s u r w n = good_constant a c r s w n
+  good_node a k.ClassConstant c s u r w n = good_class_constant a c r s w n
+  good_node a k.StaticProp c s u r w n = good_static_prop a c r s w n
+  good_node a k.Call c s u r w n = good_call a c r s w n
+  good_node a k.StaticCall c s u r w n = good_static_call a c r s w n
+  good_node a k.New c s u r w n = good_new a c r s w n
+  good_node a k.InstanceOf c s u r w n = good_instanceof a c r s w n
   good_node a k.Quoted c s u r w n = quoted a c s w n
   good_node a k.Binary c s u r w n = good_binary a c w n
   good_node a k.Prefix c s u r w n = good_prefix a c w n
