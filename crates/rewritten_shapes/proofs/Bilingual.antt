@@ -230,8 +230,10 @@ name_kept asked which names labels f p s a b h = go (name_is f p s a b)
   where
     empty : f ≡ none → ⊥
     empty e = let z : false ≡ true = empty_rule V74 p e in cc
+
     free : has_else f ≡ false
     free = no_else p refl
+
     go : Whole (names_whole (written a b f)) → Kept (word asked) f (new_parts a b f)
     go (inl r) =
         let y = r.0 in

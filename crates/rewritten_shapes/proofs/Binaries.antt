@@ -79,9 +79,9 @@ made : (l r old new : ℕ) (op : Terminal) (c : Forest) → Level op old new →
 made l r old new op c v keeps loose tight same low below f w near =
     let y = two l r op c f in
     let here : Good Binary (pair y.j y.d y.x y.i y.e) (changed_tree Binary (pair y.j y.d y.x y.i y.e)) =
-        made_at y.j y.d y.x y.i y.e r old new op v y.takes y.right_node y.right (subst AllGood y.same w)
-        (keeps (pair y.j y.d y.x y.i y.e) (subst (Fits V74 (rule l op r)) y.same f) (subst AllGood y.same w))
-        (ap is_nearest (sym y.same) ∙ near) loose tight (same y.x y.takes) low below in
+    made_at y.j y.d y.x y.i y.e r old new op v y.takes y.right_node y.right (subst AllGood y.same w)
+    (keeps (pair y.j y.d y.x y.i y.e) (subst (Fits V74 (rule l op r)) y.same f) (subst AllGood y.same w))
+    (ap is_nearest (sym y.same) ∙ near) loose tight (same y.x y.takes) low below in
     subst (λ (c : Forest). Good Binary c (changed_tree Binary c)) (sym y.same) here
 
 -- ---- operators whose operands stand elsewhere in 8.3
@@ -97,7 +97,7 @@ by_hand l r m n op takes left right c f w =
     let h = u.2.0 (Some (at_right y.x)) y.right_node in
     subst (λ (c : Forest). Kept (rule m op n) c (new_parts (within Binary c) true c)) (sym y.same)
     (pair_kept y.j y.d y.x y.i y.e (new_tree (Some (at_left y.x)) y.j y.d) (new_tree (Some (at_right y.x)) y.i y.e) m n op g h (takes y.x y.takes)
-        (left y.x y.j y.d y.takes g y.left) (right y.x y.i y.e y.takes h y.right))
+    (left y.x y.j y.d y.takes g y.left) (right y.x y.i y.e y.takes h y.right))
 
 by_plus : (c : Forest) → Fits V74 (rule 7 t.Plus 6) c → AllGood c → Kept (rule 7 t.Plus 6) c (new_parts (within Binary c) true c)
 by_plus = by_hand 7 6 7 6 t.Plus (λ x e. steady_shown t.Plus x refl e)

@@ -88,7 +88,7 @@ open_shown x e =
 close_shown : (x : Token) → x.text ≡ codes "}" → shown_token (bracket (hash_comment x)) ≡ op_token (codes "]")
 close_shown x e =
     ap (λ (b : Bool). shown_token (if b then retexted token.Op (codes "[") (hash_comment x) else (if is_text (codes "}") (hash_comment x) then retexted token.Op (codes "]") (hash_comment x) else hash_comment x)))
-        (ap (λ (text : List ℕ). bytes_eq (text ++ []) (codes "{")) e)
+    (ap (λ (text : List ℕ). bytes_eq (text ++ []) (codes "{")) e)
     ∙ ap (λ (b : Bool). shown_token (if b then retexted token.Op (codes "]") (hash_comment x) else hash_comment x)) (ap (λ (text : List ℕ). bytes_eq (text ++ []) (codes "}")) e)
 
 opens_bracket : accepts V83 t.OpenBracket (op_token (codes "[")) ≡ true
@@ -118,7 +118,8 @@ offset_good j d x i e w y z m n g h = record {
       (is_both (is_word opens_bracket) (is_both (is_second (is_place (good_stands (Operand 24) i e z h refl n) h.shaped)) (is_word closes_bracket) refl) refl) refl)
       (quiet_near (offset_parts y z) (quiet_brackets y.0 y.1 z.0 z.1)) (lines_fine Offset (offset_parts y z) refl);
   like = record {
-    ifs = λ u. absurd cc; yields = λ u. absurd cc;
+    ifs = λ u. absurd cc;
+    yields = λ u. absurd cc;
     edges = below_same 0;
     begins = λ u. g.like.begins u;
   };
@@ -261,14 +262,19 @@ cast_at x i e f s u m n w = by_real (is_real_cast (Cast, single x i e)) refl
   where
     z : Tree
     z = new_tree (within Cast (single x i e) false) i e
+
     g : Good i e (new_tree (within Cast (single x i e) false) i e)
     g = w.0 (within Cast (single x i e) false) n
+
     old : NewTree
     old = (Cast, written (within Cast (single x i e)) true (single x i e))
+
     after_real : (r : Bool) → is_real_cast (Cast, single x i e) ≡ r → changed_tree Cast (single x i e) ≡ shown_tree (if r then real_cast (Cast, written (within Cast (single x i e)) true (single x i e)) else (if is_edited (Cast, single x i e) then unset_cast (Cast, written (within Cast (single x i e)) true (single x i e)) else (Cast, written (within Cast (single x i e)) true (single x i e))))
     after_real r d = ap (λ (b : Bool). shown_tree (if b then real_cast (Cast, written (within Cast (single x i e)) true (single x i e)) else (if is_edited (Cast, single x i e) then unset_cast (Cast, written (within Cast (single x i e)) true (single x i e)) else (Cast, written (within Cast (single x i e)) true (single x i e))))) d
+
     after_unset : (r : Bool) → is_edited (Cast, single x i e) ≡ r → shown_tree (if is_edited (Cast, single x i e) then unset_cast (Cast, written (within Cast (single x i e)) true (single x i e)) else (Cast, written (within Cast (single x i e)) true (single x i e))) ≡ shown_tree (if r then unset_cast (Cast, written (within Cast (single x i e)) true (single x i e)) else (Cast, written (within Cast (single x i e)) true (single x i e)))
     after_unset r d = ap (λ (b : Bool). shown_tree (if b then unset_cast (Cast, written (within Cast (single x i e)) true (single x i e)) else (Cast, written (within Cast (single x i e)) true (single x i e)))) d
+
     by_unset : (r : Bool) → is_real_cast (Cast, single x i e) ≡ false → is_edited (Cast, single x i e) ≡ r → Good Cast (single x i e) (changed_tree Cast (single x i e))
     by_unset true q d = subst (Good Cast (single x i e)) (sym (after_real false q ∙ after_unset true d)) (null_good (single x i e))
     by_unset false q d =
@@ -277,7 +283,8 @@ cast_at x i e f s u m n w = by_real (is_real_cast (Cast, single x i e)) refl
         let y = cast_token (terminal x) p in
         subst (Good Cast (single x i e)) (sym (after_real false q ∙ after_unset false d))
         (cast_single x (shown_token (hash_comment x)) i e (new_tree (within Cast (single x i e) false) i e) (steady_shown t.Cast x refl p)
-            (ap (λ v. goes_on_if (terminal v)) (shown_is x) ∙ y.0) (ap (λ v. is_to (terminal v)) (shown_is x) ∙ y.1) n m g)
+        (ap (λ v. goes_on_if (terminal v)) (shown_is x) ∙ y.0) (ap (λ v. is_to (terminal v)) (shown_is x) ∙ y.1) n m g)
+
     by_real : (r : Bool) → is_real_cast (Cast, single x i e) ≡ r → Good Cast (single x i e) (changed_tree Cast (single x i e))
     by_real true q =
         subst (Good Cast (single x i e)) (sym (after_real true q))

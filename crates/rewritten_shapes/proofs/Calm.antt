@@ -92,7 +92,7 @@ unfolding keywords
 namespace_is text h =
     let low : str_to_ascii_lowercase text ≡ codes "namespace" = (bytes_eq-Decides (str_to_ascii_lowercase text) (codes "namespace")).0 h in
     let long : is_word (codes "yield") (front 5 text) ≡ false =
-        lower_word (codes "yield") (front 5 text) ∙ ap (equal (codes "yield")) (lower_front 5 text) ∙ ap (λ (x : List ℕ). equal (codes "yield") (front 5 x)) low in
+    lower_word (codes "yield") (front 5 text) ∙ ap (equal (codes "yield")) (lower_front 5 text) ∙ ap (λ (x : List ℕ). equal (codes "yield") (front 5 x)) low in
     let row : find_row t.OtherKeyword keywords text ≡ t.Namespace = lower_row t.OtherKeyword keywords text ∙ ap (row_of t.OtherKeyword keywords) low in
     ap (λ (b : Bool). cond (nat_lt 5 (length text) && b) t.YieldFrom (find_row t.OtherKeyword keywords text)) long
     ∙ go (nat_lt 5 (length text)) (find_row t.OtherKeyword keywords text) ∙ row

@@ -45,7 +45,7 @@ member_kept rest c e f (is_both {g} {h} x y d) s w a b n =
     let al = subst AllGood d w in
     let same : new_parts a b c ≡ new_parts a b g +++ new_parts a (still_first b g) h = ap (new_parts a b) d ∙ apart_parts a b g h (are_apart x y e) in
     let free : has is_keyword_now (new_parts a b g) ≡ false =
-        before_front colons (new_parts a b g) (new_parts a (still_first b g) h) (both_no colons class_before refl g x (spelled_front g h sp) a b) (ap (has_before is_double_colon) (sym same) ∙ n) in
+    before_front colons (new_parts a b g) (new_parts a (still_first b g) h) (both_no colons class_before refl g x (spelled_front g h sp) a b) (ap (has_before is_double_colon) (sym same) ∙ n) in
     kept_join a b (po.class_before V74) rest (po.class_before V83) rest c g h d x y e
     (both_kept keywords class_before refl g x (spelled_front g h sp) (good_front g h al) a b free)
     (kept y f (good_rest g h al) a (still_first b g))
@@ -100,10 +100,10 @@ declared_kept key inherits members st dec rd lacks ap1 ap2 ap3 sm c (is_both {h 
     let p3 : new_parts a false h2 ≡ new_parts a false g3 +++ new_parts a (still_first false g3) h3 = ap (new_parts a false) d3 ∙ apart_parts a false g3 h3 (are_apart u v ap3) in
     let n1 : in_class false (leaf x2 (leaf y2 (new_parts a false h2))) ≡ false = ap (in_class false) (sym (p1 ∙ ap (leaf x2) p2)) ∙ n in
     let n2 : in_class true (leaf y2 (new_parts a false h2)) ≡ false =
-        ap (λ (z : Bool). in_class z (leaf y2 (new_parts a false h2))) (sym (ap declares (shown_terminal x) ∙ dec x p)) ∙ right_false (is_keyword_now (terminal x2)) (in_class (declares (terminal x2)) (leaf y2 (new_parts a false h2))) n1 in
+    ap (λ (z : Bool). in_class z (leaf y2 (new_parts a false h2))) (sym (ap declares (shown_terminal x) ∙ dec x p)) ∙ right_false (is_keyword_now (terminal x2)) (in_class (declares (terminal x2)) (leaf y2 (new_parts a false h2))) n1 in
     let any : is_any_of_them (terminal y) ≡ false = ap is_any_of_them (sym (shown_terminal y)) ∙ left_false (is_any_of_them (terminal y2)) (in_class (declares (terminal y2)) (new_parts a false h2)) n2 in
     let n3 : in_class false (new_parts a false h2) ≡ false =
-        ap (λ (z : Bool). in_class z (new_parts a false h2)) (sym (ap declares (shown_terminal y) ∙ label_class y q)) ∙ right_false (is_any_of_them (terminal y2)) (in_class (declares (terminal y2)) (new_parts a false h2)) n2 in
+    ap (λ (z : Bool). in_class z (new_parts a false h2)) (sym (ap declares (shown_terminal y) ∙ label_class y q)) ∙ right_false (is_any_of_them (terminal y2)) (in_class (declares (terminal y2)) (new_parts a false h2)) n2 in
     let z = class_front (new_parts a false g3) (new_parts a (still_first false g3) h3) (both_no declaring inherits lacks g3 u (spelled_front g3 h3 s3) a false) (ap (in_class false) (sym p3) ∙ n3) in
     kept_join a b (word key) (word t.ClassLabel ~ old inherits ~ members) (word key) (word t.ClassLabel ~ new inherits ~ members) c (leaf x none) h1 d1 (is_word {x = x} p) named ap1
     (record { fits = is_word (steady_shown key x st p); like = like_leaf x x2 (shown_terminal x) })

@@ -147,7 +147,7 @@ tokens_flat : (n : ℕ) (f : Forest) → is_balanced n f ≡ true → edge_from 
 tokens_flat n none e = refl
 tokens_flat n (node k c f) e = cc
 tokens_flat n (leaf x f) e = token_flat (opens (terminal x)) (closes (terminal x)) n f e (tokens_flat (n + 1) f) (tokens_flat (n - 1) f) (tokens_flat n f)
-  
+
 mutual
   pub flat_fits : {r : Rule} {f : Forest} → Fits V83 r f → stops_flat r ≡ true → edge_from V83 0 f ≡ 0
   flat_fits is_nothing e = refl

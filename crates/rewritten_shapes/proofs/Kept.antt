@@ -45,14 +45,30 @@ pub record Becomes (k j : NodeKind) : Type 0 where
 
 pub becomes_same : (k : NodeKind) → Becomes k k
 becomes_same k = record {
-  statement = λ e. e; member = λ e. e; expression = λ e. e; prefix = λ e. inl e; offset_base = λ e. e; member_base = λ e. e;
-  class_base = λ e. e; callee = λ e. e; target = λ e. e; list = λ e. e;
+  statement = λ e. e;
+  member = λ e. e;
+  expression = λ e. e;
+  prefix = λ e. inl e;
+  offset_base = λ e. e;
+  member_base = λ e. e;
+  class_base = λ e. e;
+  callee = λ e. e;
+  target = λ e. e;
+  list = λ e. e;
 }
 
 pub becomes_offset : Becomes k.BraceOffset k.Offset
 becomes_offset = record {
-  statement = λ e. cc; member = λ e. cc; expression = λ e. refl; prefix = λ e. absurd cc; offset_base = λ e. refl; member_base = λ e. refl;
-  class_base = λ e. refl; callee = λ e. refl; target = λ e. refl; list = λ e. cc;
+  statement = λ e. cc;
+  member = λ e. cc;
+  expression = λ e. refl;
+  prefix = λ e. absurd cc;
+  offset_base = λ e. refl;
+  member_base = λ e. refl;
+  class_base = λ e. refl;
+  callee = λ e. refl;
+  target = λ e. refl;
+  list = λ e. cc;
 }
 
 -- an expression that stands before nothing
@@ -93,9 +109,16 @@ bare_target _ e d = cc
 
 pub becomes_paren : (k : NodeKind) → is_bare k ≡ true → Becomes k Paren
 becomes_paren k e = record {
-  statement = λ d. absurd (bare_statement k e d); member = λ d. absurd (bare_member k e d); expression = λ d. refl; prefix = λ d. inr refl;
-  offset_base = λ d. refl; member_base = λ d. refl; class_base = λ d. refl; callee = λ d. refl;
-  target = λ d. absurd (bare_target k e d); list = λ d. absurd (bare_list k e d);
+  statement = λ d. absurd (bare_statement k e d);
+  member = λ d. absurd (bare_member k e d);
+  expression = λ d. refl;
+  prefix = λ d. inr refl;
+  offset_base = λ d. refl;
+  member_base = λ d. refl;
+  class_base = λ d. refl;
+  callee = λ d. refl;
+  target = λ d. absurd (bare_target k e d);
+  list = λ d. absurd (bare_list k e d);
 }
 
 -- ---- nodes
@@ -192,8 +215,8 @@ good_stands Member k c x g e m = g.becomes.member m
 good_stands (Operand n) k c x g e m =
     both_map (is_expression k) (nat_le (level V74 (k, c)) n || is_prefix k) (is_expression x.0) (nat_le (level V83 x) n || is_prefix x.0) g.becomes.expression
     (operand_by (nat_le (level V74 (k, c)) n) (is_prefix k) (nat_le (level V83 x) n) (is_prefix x.0)
-        (within_limit n (level V83 x) (level V74 (k, c)) g.levels e)
-        (λ d. elim (g.becomes.prefix d) [ inl z ↦ inl z | inr z ↦ inr (paren_level n x z) ]))
+    (within_limit n (level V83 x) (level V74 (k, c)) g.levels e)
+    (λ d. elim (g.becomes.prefix d) [ inl z ↦ inl z | inr z ↦ inr (paren_level n x z) ]))
     m
 good_stands (Left n) k c x g e m =
     both_map (is_expression k) (nat_le (edge V74 (k, c)) n) (is_expression x.0) (nat_le (edge V83 x) n) g.becomes.expression

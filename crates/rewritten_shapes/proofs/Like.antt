@@ -50,8 +50,15 @@ pub record NodeLike (k : NodeKind) (c : Forest) (j : NodeKind) (b : Forest) : Ty
 
 pub like_none : Like none none
 like_none = record {
-  elses = λ b d p e. refl; ifs = λ b d p e. p e; arrows = λ b d p e. refl; yields = λ b d p e. p e; same_else = refl;
-  edges = λ e d p. p; begins = λ e. refl; is_some = λ e. refl; is_empty = λ e. refl;
+  elses = λ b d p e. refl;
+  ifs = λ b d p e. p e;
+  arrows = λ b d p e. refl;
+  yields = λ b d p e. p e;
+  same_else = refl;
+  edges = λ e d p. p;
+  begins = λ e. refl;
+  is_some = λ e. refl;
+  is_empty = λ e. refl;
 }
 
 weaker : (b d x : Bool) → (d ≡ true → b ≡ true) → (not (b && x) && true) ≡ true → (not (d && x) && true) ≡ true
@@ -66,13 +73,23 @@ like_leaf x y same = record {
   arrows = λ b d p e. ap (λ (z : Terminal). not (d && is_to z) && true) same ∙ weaker b d (is_to (terminal x)) p e;
   yields = λ b d p e. e;
   same_else = ap (λ (z : Terminal). is_else z || false) same;
-  edges = λ e d p. below_same 0; begins = λ e. refl; is_some = λ e. absurd cc; is_empty = λ e. absurd cc;
+  edges = λ e d p. below_same 0;
+  begins = λ e. refl;
+  is_some = λ e. absurd cc;
+  is_empty = λ e. absurd cc;
 }
 
 pub like_node : (k : NodeKind) (c : Forest) (j : NodeKind) (b : Forest) → NodeLike k c j b → Like (node k c none) (node j b none)
 like_node k c j b n = record {
-  elses = λ x y p e. refl; ifs = λ x y p e. n.ifs e; arrows = λ x y p e. refl; yields = λ x y p e. n.yields e; same_else = refl;
-  edges = λ e d p. n.edges; begins = n.begins; is_some = λ e. absurd cc; is_empty = λ e. absurd cc;
+  elses = λ x y p e. refl;
+  ifs = λ x y p e. n.ifs e;
+  arrows = λ x y p e. refl;
+  yields = λ x y p e. n.yields e;
+  same_else = refl;
+  edges = λ e d p. n.edges;
+  begins = n.begins;
+  is_some = λ e. absurd cc;
+  is_empty = λ e. absurd cc;
 }
 
 -- ---- parts beside each other
@@ -149,15 +166,15 @@ like_join g h i j p q = record {
       let s = sym (elses_join b g h) ∙ e in
       elses_join d i j
       ∙ and_both (elses_are_nearest d i) (elses_are_nearest (ends_in_if d i) j)
-          (p.elses b d w (and_left (elses_are_nearest b g) (elses_are_nearest (ends_in_if b g) h) s))
-          (q.elses (ends_in_if b g) (ends_in_if d i) (p.ifs b d w) (and_right (elses_are_nearest b g) (elses_are_nearest (ends_in_if b g) h) s));
+      (p.elses b d w (and_left (elses_are_nearest b g) (elses_are_nearest (ends_in_if b g) h) s))
+      (q.elses (ends_in_if b g) (ends_in_if d i) (p.ifs b d w) (and_right (elses_are_nearest b g) (elses_are_nearest (ends_in_if b g) h) s));
   ifs = λ b d w e. ifs_join b g h ∙ q.ifs (ends_in_if b g) (ends_in_if d i) (p.ifs b d w) (sym (ifs_join d i j) ∙ e);
   arrows = λ b d w e.
       let s = sym (arrows_join b g h) ∙ e in
       arrows_join d i j
       ∙ and_both (arrows_are_nearest d i) (arrows_are_nearest (ends_in_yield d i) j)
-          (p.arrows b d w (and_left (arrows_are_nearest b g) (arrows_are_nearest (ends_in_yield b g) h) s))
-          (q.arrows (ends_in_yield b g) (ends_in_yield d i) (p.yields b d w) (and_right (arrows_are_nearest b g) (arrows_are_nearest (ends_in_yield b g) h) s));
+      (p.arrows b d w (and_left (arrows_are_nearest b g) (arrows_are_nearest (ends_in_yield b g) h) s))
+      (q.arrows (ends_in_yield b g) (ends_in_yield d i) (p.yields b d w) (and_right (arrows_are_nearest b g) (arrows_are_nearest (ends_in_yield b g) h) s));
   yields = λ b d w e. yields_join b g h ∙ q.yields (ends_in_yield b g) (ends_in_yield d i) (p.yields b d w) (sym (yields_join d i j) ∙ e);
   same_else = else_join i j ∙ rw (p.same_else, q.same_else) (sym (else_join g h));
   edges = λ e d w.

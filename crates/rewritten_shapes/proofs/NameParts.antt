@@ -99,6 +99,7 @@ equal_is (a ∷ w) (b ∷ bs) e =
     one : (a b : Bool) → (a && b) ≡ true → a ≡ true
     one true b e = refl
     one false b e = cc
+
     two : (a b : Bool) → (a && b) ≡ true → b ≡ true
     two true b e = e
     two false b e = cc

@@ -121,4 +121,3 @@ good_labelstmt a c h s w n = both_good keywords label_form a k.LabelStmt c refl 
 
 pub good_declare : (a : Option Around) (c : Forest) → has_refused k.Declare c ≡ false → AreSpelled c → AllGood c → IsNode V74 k.Declare c → Good k.Declare c (new_tree a k.Declare c)
 good_declare a c h s w n = both_good keywords declare_form a k.Declare c refl refl refl refl refl refl h s w n
-

@@ -72,6 +72,7 @@ dots_by k c b i e z r p g nd h = go (is_dot (i, e)) refl
   where
     at : is_expression i ≡ true
     at = and_left (is_expression i) (nat_le (level V74 (i, e)) r || is_prefix i) p.stands
+
     go : (d : Bool) → is_dot (i, e) ≡ d → edge V83 (k, b) ≤ edge V74 (k, c)
     go false d =
         let a = g.dots at d (omega (arith, p.old, h)) in
@@ -92,6 +93,7 @@ ternaries_by k c b i e z r p g h = go (is_ternary i) refl
   where
     at : is_expression i ≡ true
     at = and_left (is_expression i) (nat_le (level V74 (i, e)) r || is_prefix i) p.stands
+
     go : (d : Bool) → is_ternary i ≡ d → edge V83 (k, b) ≤ 17
     go false d =
         let a = g.ternaries at d (omega (arith, p.old, h)) in
@@ -193,7 +195,17 @@ pub record Two (c : Forest) (l : ℕ) (op : Terminal) (r : ℕ) : Type 0 where
 
 pub two : (l r : ℕ) (op : Terminal) (c : Forest) → Fits V74 (place (Left l) ~ (word op ~ place (Operand r))) c → Two c l op r
 two l r op c (is_both (is_place {k = j} {c = d} m n) (is_both (is_word {x} p) (is_place {k = i} {c = e} q o) w) v) = record {
-  j = j; d = d; x = x; i = i; e = e; same = v ∙ ap (node j d) w; left = m; left_node = n; takes = p; right = q; right_node = o;
+  j = j;
+  d = d;
+  x = x;
+  i = i;
+  e = e;
+  same = v ∙ ap (node j d) w;
+  left = m;
+  left_node = n;
+  takes = p;
+  right = q;
+  right_node = o;
 }
 
 dot_binary : (i : NodeKind) (e : Forest) → is_dot (i, e) ≡ true → i ≡ Binary
@@ -318,10 +330,13 @@ left_tight n a j d low h g m =
   where
     x : Tree
     x = new_tree (Some a) j d
+
     at : is_expression j ≡ true
     at = and_left (is_expression j) (nat_le (edge V74 (j, d)) n) m
+
     old : edge V74 (j, d) ≤ n
     old = leb-true (edge V74 (j, d)) n (and_right (is_expression j) (nat_le (edge V74 (j, d)) n) m)
+
     go : (b : Bool) → is_dot (j, d) ≡ b → edge V83 (new_tree (Some a) j d) ≤ n
     go true e = omega (arith, dot_edge a j d e h)
     go false e = omega (arith, g.dots at e (omega (arith, old, low)), old)
@@ -340,19 +355,24 @@ right_tight a j d h g m =
   where
     x : Tree
     x = new_tree (Some a) j d
+
     at : is_expression j ≡ true
     at = and_left (is_expression j) (nat_le (level V74 (j, d)) 7 || is_prefix j) m
+
     paren : (y : Tree) → y.0 ≡ Paren → (nat_le (level V83 y) 7 || is_prefix y.0) ≡ true
     paren y e = ap (λ (i : NodeKind). nat_le (level V83 (i, y.1)) 7 || is_prefix i) e
+
     or_true : (p : Bool) → p ≡ true → (q : Bool) → (q || p) ≡ true
     or_true p e true = refl
     or_true p e false = e
+
     by : (p q : Bool) → nat_le (level V74 (j, d)) 7 ≡ p → is_prefix j ≡ q → (p || q) ≡ true → level V83 x ≤ level V74 (j, d) → (nat_le (level V83 x) 7 || is_prefix x.0) ≡ true
     by true q e w z l =
         let o : level V74 (j, d) ≤ 7 = leb-true (level V74 (j, d)) 7 e in
         ap (λ (y : Bool). y || is_prefix x.0) (le-leb (level V83 x) 7 (omega (arith, o, l)))
     by false true e w z l = elim (g.becomes.prefix w) [ inl u ↦ or_true (is_prefix x.0) u (nat_le (level V83 x) 7) | inr u ↦ paren x u ]
     by false false e w z l = absurd cc
+
     go : (b : Bool) → is_dot (j, d) ≡ b → (nat_le (level V83 x) 7 || is_prefix x.0) ≡ true
     go true e = ap (λ (y : Bool). y || is_prefix x.0) (le-leb (level V83 x) 7 (omega (arith, dot_level a j d e h)))
     go false e = by (nat_le (level V74 (j, d)) 7) (is_prefix j) refl refl (and_right (is_expression j) (nat_le (level V74 (j, d)) 7 || is_prefix j) m) (g.dot_level e)
@@ -371,6 +391,7 @@ right_dot j d x g m = wider (good_stands (Operand 6) j d x g refl m)
             last : (y : Bool) → q ≡ true → (y || q) ≡ true
             last true z = refl
             last false z = z
+
     wider : may_stand V83 (Operand 6) x ≡ true → may_stand V83 (Operand 8) x ≡ true
     wider m = and_both (is_expression x.0) (nat_le (level V83 x) 8 || is_prefix x.0) (and_left (is_expression x.0) (nat_le (level V83 x) 6 || is_prefix x.0) m) (more (level V83 x) (is_prefix x.0) (and_right (is_expression x.0) (nat_le (level V83 x) 6 || is_prefix x.0) m))
 
@@ -409,16 +430,22 @@ pair_good j d x i e y z r old new op v p g n m kept near loose tight same low be
   where
     c : Forest
     c = pair j d x i e
+
     b : Forest
     b = pair y.0 y.1 (shown_token (hash_comment x)) z.0 z.1
+
     own : same_class op (terminal x) ≡ true
     own = v.takes x p
+
     was : level V74 (Binary, pair j d x i e) ≡ old
     was = v.before (terminal x) own
+
     is : level V83 (Binary, pair y.0 y.1 (shown_token (hash_comment x)) z.0 z.1) ≡ new
     is = ap (λ (u : Token). binary_level V83 (terminal u)) (shown_is x) ∙ v.after (terminal x) own
+
     levels : Below (level V83 (Binary, pair y.0 y.1 (shown_token (hash_comment x)) z.0 z.1)) (level V74 (Binary, pair j d x i e))
     levels = subst (λ (u : ℕ). Below u (level V74 (Binary, pair j d x i e))) (sym is) (subst (Below new) (sym was) below)
+
     ends : EndsIn Binary (pair j d x i e) (pair y.0 y.1 (shown_token (hash_comment x)) z.0 z.1) i e z r
     ends = record {
       old = edge_is V74 Binary (pair j d x i e) ∙ ap (max (level V74 (Binary, pair j d x i e))) (sym (edge_is V74 i e));

@@ -77,6 +77,7 @@ low_word (a ∷ w) (b ∷ bs) h e =
     and_one : (x y : Bool) → (x && y) ≡ true → x ≡ true
     and_one true y e = refl
     and_one false y e = cc
+
     and_two : (x y : Bool) → (x && y) ≡ true → y ≡ true
     and_two true y e = e
     and_two false y e = cc
@@ -309,6 +310,7 @@ rows_not p other (r ∷ rs) text e d = row_not p (is_word r.0 text) r.1 (find_ro
     one : (a b : Bool) → (a && b) ≡ true → a ≡ true
     one true b e = refl
     one false b e = cc
+
     two : (a b : Bool) → (a && b) ≡ true → b ≡ true
     two true b e = e
     two false b e = cc

@@ -139,7 +139,7 @@ starts_calm (is_inside x near) h = refl
 starts_calm (is_both {r} {s} {f} {g} {h} x y d) e =
     ap begins_calm d
     ∙ begins_join g h (starts_calm x (and_left (starts_apart r) (not (may_be_empty r) || starts_apart s) e))
-        (λ z. starts_calm y (else_other (may_be_empty r) (starts_apart s) (and_right (starts_apart r) (not (may_be_empty r) || starts_apart s) e) (empty_rule V74 x z)))
+    (λ z. starts_calm y (else_other (may_be_empty r) (starts_apart s) (and_right (starts_apart r) (not (may_be_empty r) || starts_apart s) e) (empty_rule V74 x z)))
 starts_calm (is_first {r} {s} x) h = starts_calm x (and_left (starts_apart r) (starts_apart s) h)
 starts_calm (is_second {r} {s} x) h = starts_calm x (and_right (starts_apart r) (starts_apart s) h)
 starts_calm no_more h = refl

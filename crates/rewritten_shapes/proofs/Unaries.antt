@@ -276,8 +276,12 @@ plain_ternary c p near =
     let old : edge V74 (Ternary, c) ≡ max 18 (edge_from V74 0 c) = edge_is V74 Ternary c in
     record {
       shaped = is_node p.fits (like_nearest c b p.like near) (lines_fine Ternary b refl);
-      like = settled_like Ternary c b refl p.like; becomes = becomes_same Ternary; levels = below_same 18; dot_level = λ u. omega arith;
-      dots = λ u w h. absurd (omega (arith, old, h)); ternaries = λ u w h. absurd cc;
+      like = settled_like Ternary c b refl p.like;
+      becomes = becomes_same Ternary;
+      levels = below_same 18;
+      dot_level = λ u. omega arith;
+      dots = λ u w h. absurd (omega (arith, old, h));
+      ternaries = λ u w h. absurd cc;
     }
 
 pub plain_short : (c : Forest) → Kept (short_ternary V83) c (new_parts (within ShortTernary c) true c) → is_nearest c ≡ true → Good ShortTernary c (changed_tree ShortTernary c)
@@ -286,8 +290,12 @@ plain_short c p near =
     let old : edge V74 (ShortTernary, c) ≡ max 18 (edge_from V74 0 c) = edge_is V74 ShortTernary c in
     record {
       shaped = is_node p.fits (like_nearest c b p.like near) (lines_fine ShortTernary b refl);
-      like = settled_like ShortTernary c b refl p.like; becomes = becomes_same ShortTernary; levels = below_same 18; dot_level = λ u. omega arith;
-      dots = λ u w h. absurd (omega (arith, old, h)); ternaries = λ u w h. absurd cc;
+      like = settled_like ShortTernary c b refl p.like;
+      becomes = becomes_same ShortTernary;
+      levels = below_same 18;
+      dot_level = λ u. omega arith;
+      dots = λ u w h. absurd (omega (arith, old, h));
+      ternaries = λ u w h. absurd cc;
     }
 
 pub good_ternary : (a : Option Around) (c : Forest) → AllGood c → IsNode V74 Ternary c → Good Ternary c (new_tree a Ternary c)

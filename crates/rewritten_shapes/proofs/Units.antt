@@ -96,10 +96,11 @@ pub record Bare (y : Token) (u : NewToken) : Type 0 where
 
 label_more : (y : Token) (d : Draft) → y.kind ≡ token.Label → is_label_text y.text ≡ true → More d → (u : NewToken) × Bare y u × (in_front true (hash_comment y) d ≡ new_leaf u draft.no_more)
 label_more y d k s (inl e) = (hash_comment y, record { kind = inl refl; plain = no_root_front y.text [] s }, ap (in_front true (hash_comment y)) e)
-label_more y d k s (inr r) =
-    (one_name (hash_comment y) r.0,
-     record { kind = inr refl; plain = no_root_front y.text _ s },
-     ap (in_front true (hash_comment y)) r.2 ∙ joins (hash_comment y) r.0 draft.no_more (part_name (hash_comment y) r.0 (or_left (is_label y.kind) _ (label_is y.kind k)) (ap is_name r.1.kind) r.1.root))
+label_more y d k s (inr r) = (
+  one_name (hash_comment y) r.0,
+  record { kind = inr refl; plain = no_root_front y.text _ s },
+  ap (in_front true (hash_comment y)) r.2 ∙ joins (hash_comment y) r.0 draft.no_more (part_name (hash_comment y) r.0 (or_left (is_label y.kind) _ (label_is y.kind k)) (ap is_name r.1.kind) r.1.root),
+)
 
 root_more : (x y : Token) (u : NewToken) → accepts V74 t.Backslash x ≡ true → y.kind ≡ token.Label → Bare y u → (v : NewToken) × Root v × (in_front true (hash_comment x) (new_leaf u draft.no_more) ≡ new_leaf v draft.no_more)
 root_more x y u p k b = (one_name (hash_comment x) u, record { kind = refl; root = root_front x.text _ (backslash_is x p) }, joins (hash_comment x) u draft.no_more (one b.kind))
@@ -144,6 +145,9 @@ name_is f (is_both {h = k} (is_second (is_second (is_both (is_word {x = n} o) (i
     let sp = subst AreSpelled same s in
     let l = label_more y (names_whole (written a false h)) (label_token y q) (label_spelled y.kind y.text (label_token y q) sp.1.1.0) (more_is m sp.1.1.1 a false) in
     let r = root_more x y l.0 p (label_token y q) l.1 in
-    inr (one_name (hash_comment n) r.0, refl,
-        ap (λ (g : Forest). names_whole (written a b g)) same ∙ ap (λ z. in_front true (hash_comment n) (in_front true (hash_comment x) z)) l.2 ∙ ap (in_front true (hash_comment n)) r.2
-        ∙ joins (hash_comment n) r.0 draft.no_more (part_name (hash_comment n) r.0 (or_right (is_label n.kind) _ (space_token n o)) (ap is_name r.1.kind) r.1.root))
+    inr (
+      one_name (hash_comment n) r.0,
+      refl,
+      ap (λ (g : Forest). names_whole (written a b g)) same ∙ ap (λ z. in_front true (hash_comment n) (in_front true (hash_comment x) z)) l.2 ∙ ap (in_front true (hash_comment n)) r.2
+          ∙ joins (hash_comment n) r.0 draft.no_more (part_name (hash_comment n) r.0 (or_right (is_label n.kind) _ (space_token n o)) (ap is_name r.1.kind) r.1.root),
+    )

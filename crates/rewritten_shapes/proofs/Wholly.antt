@@ -139,7 +139,7 @@ module _ (names : NamesAreGood) (quoted : QuotedAreGood) where
       let d = drafted (rewriting (all_on (patches f.statements))) 0 f.statements in
       let new = kept shape.shaped refl (all_good f.statements s r) at_top true in
       let same : new_parts at_top true f.statements ≡ bare (rewritten f).statements =
-          sym (ap (λ (x : draft.Draft). shown (names_whole x)) (drafted_is f.statements))
-          ∙ sym (shown_apart false (names_whole d)) ∙ sym (bare_rewritten (apart false (whole_names true d)))
-          ∙ sym (bare_placed 0 (draft.rewritten (apart false (whole_names true d)))) in
+      sym (ap (λ (x : draft.Draft). shown (names_whole x)) (drafted_is f.statements))
+      ∙ sym (shown_apart false (names_whole d)) ∙ sym (bare_rewritten (apart false (whole_names true d)))
+      ∙ sym (bare_placed 0 (draft.rewritten (apart false (whole_names true d)))) in
       record { shaped = unbare V83 new.fits (rewritten f).statements same; ends = shape.ends }
