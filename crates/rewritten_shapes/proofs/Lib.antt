@@ -23,3 +23,4 @@ pub mod Named
 pub mod Marked
 pub mod Classes
 pub mod Wholly
+pub mod Qualified

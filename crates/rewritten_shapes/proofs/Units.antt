@@ -11,12 +11,13 @@ use Rattle.php_grammar.specs.Accepts.{accepts}
 use Rattle.php_shapes.specs.Names.{more_of_name, lead_of_name, name}
 use Rattle.php_shapes.specs.Notation.{Rule, nothing, word, ◌~◌, ◌|||◌, many}
 use Rattle.php_shapes.specs.Shapes.{Fits, is_nothing, is_word, is_both, is_first, is_second, no_more, once_more}
-use Rattle.tracked_changes.specs.Pieces.{before}
+use Rattle.tracked_changes.specs.Pieces.{after, before}
+use Rattle.tracked_changes.proofs.Joining.{after-append}
 use Rattle.tracked_changes.specs.Draft.{NewToken, Draft, new_leaf}
 use Rattle.tracked_changes.specs.Draft as draft
 use Rattle.syntax_rules.specs.Around.{Around}
 use Rattle.syntax_rules.specs.HashComment.{hash_comment}
-use Rattle.syntax_rules.specs.SplitName.{begins_root, in_front, is_backslash, is_label, is_name, is_namespace, is_one, one_name}
+use Rattle.syntax_rules.specs.SplitName.{begins_root, deleted, in_front, is_backslash, is_label, is_name, is_namespace, is_one, one_name}
 use Rattle.rewritten_shapes.specs.Laws.{AreSpelled, has_no_root, is_label_text, is_spelled_by}
 use Rattle.rewritten_shapes.proofs.NameParts.{label_token, root_token, space_token}
 use Rattle.rewritten_shapes.proofs.OperatorWords.{backslash_is}
@@ -81,6 +82,7 @@ label_is sort e = ap is_label e
 pub record Root (u : NewToken) : Type 0 where
   pub kind : u.kind ≡ token.Name
   pub root : begins_root (before u.text) ≡ true
+  pub text : (rest : List ℕ) × (after u.text ≡ 92 ∷ rest)
 
 abbrev More : Draft → Type 0
 More d = (d ≡ draft.no_more) ⊎ ((u : NewToken) × Root u × (d ≡ new_leaf u draft.no_more))
@@ -93,17 +95,22 @@ behind_label a b y h = in_front true (hash_comment y) (names_whole (written a b 
 pub record Bare (y : Token) (u : NewToken) : Type 0 where
   pub kind : (u ≡ hash_comment y) ⊎ (u.kind ≡ token.Name)
   pub plain : begins_root (before u.text) ≡ false
+  pub text : (u ≡ hash_comment y) ⊎ ((u.kind ≡ token.Name) × (rest : List ℕ) × (after u.text ≡ y.text ++ 92 ∷ rest))
+
+deleted_after : (bytes : List ℕ) → after (deleted bytes) ≡ []
+deleted_after [] = refl
+deleted_after (b ∷ bs) = refl
 
 label_more : (y : Token) (d : Draft) → y.kind ≡ token.Label → is_label_text y.text ≡ true → More d → (u : NewToken) × Bare y u × (in_front true (hash_comment y) d ≡ new_leaf u draft.no_more)
-label_more y d k s (inl e) = (hash_comment y, record { kind = inl refl; plain = no_root_front y.text [] s }, ap (in_front true (hash_comment y)) e)
+label_more y d k s (inl e) = (hash_comment y, record { kind = inl refl; plain = no_root_front y.text [] s; text = inl refl }, ap (in_front true (hash_comment y)) e)
 label_more y d k s (inr r) = (
   one_name (hash_comment y) r.0,
-  record { kind = inr refl; plain = no_root_front y.text _ s },
+  record { kind = inr refl; plain = no_root_front y.text _ s; text = inr (refl, r.1.text.0, ap (λ (z : List ℕ). y.text ++ z) (after-append (deleted (before r.0.lead)) r.0.text ∙ ap (λ (z : List ℕ). z ++ after r.0.text) (deleted_after (before r.0.lead)) ∙ r.1.text.1)) },
   ap (in_front true (hash_comment y)) r.2 ∙ joins (hash_comment y) r.0 draft.no_more (part_name (hash_comment y) r.0 (or_left (is_label y.kind) _ (label_is y.kind k)) (ap is_name r.1.kind) r.1.root),
 )
 
 root_more : (x y : Token) (u : NewToken) → accepts V74 t.Backslash x ≡ true → y.kind ≡ token.Label → Bare y u → (v : NewToken) × Root v × (in_front true (hash_comment x) (new_leaf u draft.no_more) ≡ new_leaf v draft.no_more)
-root_more x y u p k b = (one_name (hash_comment x) u, record { kind = refl; root = root_front x.text _ (backslash_is x p) }, joins (hash_comment x) u draft.no_more (one b.kind))
+root_more x y u p k b = (one_name (hash_comment x) u, record { kind = refl; root = root_front x.text _ (backslash_is x p); text = (after (deleted (before u.lead) ++ u.text), ap (λ (z : List ℕ). z ++ after (deleted (before u.lead) ++ u.text)) (backslash_is x p)) }, joins (hash_comment x) u draft.no_more (one b.kind))
   where
     one : (u ≡ hash_comment y) ⊎ (u.kind ≡ token.Name) → is_one (hash_comment x) u ≡ true
     one (inl e) = root_label (hash_comment x) u (root_token x p) (ap (λ (z : NewToken). is_label z.kind) e ∙ label_is y.kind k)
@@ -151,3 +158,12 @@ name_is f (is_both {h = k} (is_second (is_second (is_both (is_word {x = n} o) (i
       ap (λ (g : Forest). names_whole (written a b g)) same ∙ ap (λ z. in_front true (hash_comment n) (in_front true (hash_comment x) z)) l.2 ∙ ap (in_front true (hash_comment n)) r.2
           ∙ joins (hash_comment n) r.0 draft.no_more (part_name (hash_comment n) r.0 (or_right (is_label n.kind) _ (space_token n o)) (ap is_name r.1.kind) r.1.root),
     )
+
+-- a name without a lead: a label, or one that doesn't begin with `\`
+pub plain_is : (f : Forest) → Fits V74 (word t.AnyLabel ~ more_of_name) f → AreSpelled f → (a : Bool → Option Around) (b : Bool)
+    → (y : Token) × (accepts V74 t.AnyLabel y ≡ true) × (is_label_text y.text ≡ true) × (u : NewToken) × Bare y u × (names_whole (written a b f) ≡ new_leaf u draft.no_more)
+plain_is f (is_both {h = h} (is_word {x = y} q) m d) s a b =
+    let sp = subst AreSpelled d s in
+    let k = label_token y q in
+    let l = label_more y (names_whole (written a false h)) k (label_spelled y.kind y.text k sp.0) (more_is m sp.1 a false) in
+    (y, q, label_spelled y.kind y.text k sp.0, l.0, l.1, ap (λ (g : Forest). names_whole (written a b g)) d ∙ l.2)
