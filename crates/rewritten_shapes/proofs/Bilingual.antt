@@ -126,7 +126,7 @@ quiet_name text = go (words.is_word (codes "\\") (words.front 1 text)) (words.is
     go false true = (refl, refl, refl)
     go false false = (refl, refl, refl)
 
-quiet_label : (own : Terminal) → (is_any_label own || same_class t.AnyLabel own) ≡ true → (goes_on_if own ≡ false) × (is_to own ≡ false) × (is_else own ≡ false)
+pub quiet_label : (own : Terminal) → (is_any_label own || same_class t.AnyLabel own) ≡ true → (goes_on_if own ≡ false) × (is_to own ≡ false) × (is_else own ≡ false)
 quiet_label t.Else e = absurd cc
 quiet_label t.ElseIf e = absurd cc
 quiet_label t.DoubleArrow e = absurd cc
@@ -165,7 +165,7 @@ pub or_false : (a b : Bool) → a ≡ false → b ≡ false → (a || b) ≡ fal
 or_false true b e d = e
 or_false false b e d = d
 
-no_else : {r : Rule} {f : Forest} → Fits V74 r f → of_name r ≡ true → has_else f ≡ false
+pub no_else : {r : Rule} {f : Forest} → Fits V74 r f → of_name r ≡ true → has_else f ≡ false
 no_else is_nothing h = refl
 no_else (is_word {c} {x} p) h = or_false (is_else (terminal x)) false (word_else c x h p) refl
 no_else (is_kind n) h = absurd cc
@@ -185,7 +185,7 @@ calm_if true false e = refl
 calm_if false false e = refl
 
 -- some parts without `else`, for which one token stands
-like_word : (f : Forest) (y : Token) → has_else f ≡ false → (f ≡ none → ⊥) → goes_on_if (terminal y) ≡ false → is_to (terminal y) ≡ false → is_else (terminal y) ≡ false → Like f (leaf y none)
+pub like_word : (f : Forest) (y : Token) → has_else f ≡ false → (f ≡ none → ⊥) → goes_on_if (terminal y) ≡ false → is_to (terminal y) ≡ false → is_else (terminal y) ≡ false → Like f (leaf y none)
 like_word f y e n i a l = record {
   elses = λ b d p h. calm_if d (goes_on_if (terminal y)) i;
   ifs = λ b d p h. absurd cc;
@@ -200,7 +200,7 @@ like_word f y e n i a l = record {
 
 -- ---- a name
 
-name_quiet : (u : Token) → u.kind ≡ token.Name → (goes_on_if (terminal u) ≡ false) × (is_to (terminal u) ≡ false) × (is_else (terminal u) ≡ false)
+pub name_quiet : (u : Token) → u.kind ≡ token.Name → (goes_on_if (terminal u) ≡ false) × (is_to (terminal u) ≡ false) × (is_else (terminal u) ≡ false)
 name_quiet u e = subst (λ (sort : TokenKind). (goes_on_if (terminal_by sort u.text) ≡ false) × (is_to (terminal_by sort u.text) ≡ false) × (is_else (terminal_by sort u.text) ≡ false)) (sym e) (quiet_name u.text)
 
 takes_name : (u : Token) → u.kind ≡ token.Name → accepts V83 t.NameToken u ≡ true

@@ -51,7 +51,7 @@ label_calm text h =
     go false false false true e = cc
     go false false false false e = cc
 
-name_calm : (text : List ℕ) → is_calm (name text) ≡ true → ⊥
+pub name_calm : (text : List ℕ) → is_calm (name text) ≡ true → ⊥
 name_calm text h = go (is_word (codes "\\") (front 1 text)) (is_word (codes "namespace\\") (front 10 text)) h
   where
     go : (a b : Bool) → is_calm (cond a t.FullName (cond b t.RelativeName t.QualifiedName)) ≡ true → ⊥
@@ -124,7 +124,7 @@ shut_by kind.Keyword text h = ap not (keyword_calm text h)
 shut_by kind.Op text h = ap (λ (b : Bool). not (b || false)) (operator_calm text h)
 shut_by _ text h = refl
 
-fresh_kind : (kind : TokenKind) (text : List ℕ) → is_calm (terminal_by kind text) ≡ true → not (is_label kind || is_name kind) ≡ true
+pub fresh_kind : (kind : TokenKind) (text : List ℕ) → is_calm (terminal_by kind text) ≡ true → not (is_label kind || is_name kind) ≡ true
 fresh_kind kind.Label text h = absurd (label_calm text h)
 fresh_kind kind.Name text h = absurd (name_calm text h)
 fresh_kind _ text h = refl

@@ -24,3 +24,5 @@ pub mod Marked
 pub mod Classes
 pub mod Wholly
 pub mod Qualified
+pub mod Spaces
+pub mod Traits

@@ -177,7 +177,7 @@ both_no m (times r) e f x s a b = many_no m (old r) (and_left (stay_apart (old r
 
 -- ---- what stands before such a token
 
-front_by : (x y z : Bool) → x ≡ false → (if x then false else (y || z)) ≡ false → (y ≡ false) × (z ≡ false)
+pub front_by : (x y z : Bool) → x ≡ false → (if x then false else (y || z)) ≡ false → (y ≡ false) × (z ≡ false)
 front_by true y z e h = absurd cc
 front_by false y z e h = (left_false y z h, right_false y z h)
 

@@ -119,7 +119,7 @@ keyword_space text e = (bytes_eq-Decides (str_to_ascii_lowercase text) (codes "n
     go true e = absurd cc
     go false e = e
 
-space_by : (sort : TokenKind) (text : List ℕ) → asks_space (terminal_by sort text) ≡ true → (is_keyword sort && bytes_eq (str_to_ascii_lowercase text) (codes "namespace")) ≡ true
+pub space_by : (sort : TokenKind) (text : List ℕ) → asks_space (terminal_by sort text) ≡ true → (is_keyword sort && bytes_eq (str_to_ascii_lowercase text) (codes "namespace")) ≡ true
 space_by token.Keyword text e = keyword_space text e
 space_by token.Label text e = absurd (clash (label_no_space text) e)
 space_by token.Op text e = absurd (clash (operator_no_space text) e)

@@ -26,28 +26,21 @@ use Rattle.rewritten_shapes.proofs.Classes.{good_class, good_class_constant, goo
 use Rattle.rewritten_shapes.proofs.Named.{good_call, good_const, good_constant, good_declare, good_function, good_goto, good_instanceof, good_labelstmt, good_new, good_try, good_typename}
 use Rattle.rewritten_shapes.proofs.Kept.{AllGood, Good, Kept, kept}
 use Rattle.rewritten_shapes.proofs.Same.{good_same}
+use Rattle.rewritten_shapes.proofs.Spaces.{good_namespace}
 use Rattle.rewritten_shapes.proofs.Shown.{bare_rewritten, new_parts, new_tree, shown, shown_apart, names_whole}
 use Rattle.rewritten_shapes.proofs.Tabled.{drafted_is, written}
+use Rattle.rewritten_shapes.proofs.Traits.{good_trait_use}
 use Rattle.rewritten_shapes.proofs.Unaries.{good_prefix, good_short, good_ternary, good_yield}
 
--- whether a node of the kind is one of those whose names are still to be shown: uses of traits, namespaces, and uses
-abbrev pub has_names : NodeKind → Bool
-has_names k.TraitUse = true
-has_names k.Namespace = true
-has_names k.Use = true
-has_names _ = false
-
--- nodes with names become good ones
-abbrev pub NamesAreGood : Type 0
-NamesAreGood =
-    (a : Option Around) (k : NodeKind) (c : Forest) → has_names k ≡ true → AreSpelled c → has_refused k c ≡ false → AllGood c → IsNode V74 k c
-    → Good k c (new_tree a k c)
+-- uses become good ones
+abbrev pub UsesAreGood : Type 0
+UsesAreGood = (a : Option Around) (c : Forest) → AreSpelled c → has_refused k.Use c ≡ false → AllGood c → IsNode V74 k.Use c → Good k.Use c (new_tree a k.Use c)
 
 -- quoted texts become good ones
 abbrev pub QuotedAreGood : Type 0
 QuotedAreGood = (a : Option Around) (c : Forest) → AreSpelled c → AllGood c → IsNode V74 Quoted c → Good Quoted c (new_tree a Quoted c)
 
-module _ (names : NamesAreGood) (quoted : QuotedAreGood) where
+module _ (uses : UsesAreGood) (quoted : QuotedAreGood) where
   good_node : (a : Option Around) (k : NodeKind) (c : Forest) → AreSpelled c → is_undecided (k, c) ≡ false → has_refused k c ≡ false → AllGood c → IsNode V74 k c → Good k c (new_tree a k c)
   good_node a k.Block c s u r w n = good_same a k.Block c refl w n
   good_node a k.Empty c s u r w n = good_same a k.Empty c refl w n
@@ -103,10 +96,10 @@ module _ (names : NamesAreGood) (quoted : QuotedAreGood) where
   good_node a k.Class c s u r w n = good_class a c r s w n
   good_node a k.Interface c s u r w n = good_interface a c r s w n
   good_node a k.Trait c s u r w n = good_trait a c r s w n
-  good_node a k.TraitUse c s u r w n = names a k.TraitUse c refl s r w n
+  good_node a k.TraitUse c s u r w n = good_trait_use a c r s w n
   good_node a k.Const c s u r w n = good_const a c r s w n
-  good_node a k.Namespace c s u r w n = names a k.Namespace c refl s r w n
-  good_node a k.Use c s u r w n = names a k.Use c refl s r w n
+  good_node a k.Namespace c s u r w n = good_namespace a c s w n
+  good_node a k.Use c s u r w n = uses a c s r w n
   good_node a k.Declare c s u r w n = good_declare a c r s w n
   good_node a k.Goto c s u r w n = good_goto a c r s w n
   good_node a k.LabelStmt c s u r w n = good_labelstmt a c r s w n
