@@ -1,29 +1,26 @@
 -- Rules that 8.3 has with each name as one token, and without the words that it refuses.
-use Rattle.std.proofs.Common.{◌≡◌, ℕ, Bool, true, false, not, cond, ◌&&◌, ◌||◌, ◌⊎◌, inl, inr, codes, List, [], ◌∷◌, ◌++◌, Option, refl, sym, ap, ◌∙◌, subst}
-use Rattle.php_tree.specs.declared.kind.NodeKind.{NodeKind}
+use Rattle.std.proofs.Common.{◌≡◌, ℕ, Bool, true, false, not, cond, ◌&&◌, ◌||◌, inl, inr, codes, List, Option, refl, sym, ap, ◌∙◌, subst}
 use Rattle.php_tree.specs.declared.token.Token.{Token}
 use Rattle.php_tree.specs.declared.token.TokenKind.{TokenKind}
 use Rattle.php_tree.specs.declared.token.TokenKind.TheVariants as token
 use Rattle.php_tree.specs.declared.version.Version.TheVariants.{V74, V83}
-use Rattle.php_tree.specs.Tree.{Forest, Tree, none, leaf, node, ◌+++◌}
+use Rattle.php_tree.specs.Tree.{Forest, none, leaf, node, ◌+++◌}
 use Rattle.php_terminals.specs.declared.terminal.Terminal.{Terminal}
 use Rattle.php_terminals.specs.declared.terminal.Terminal.TheVariants as t
 use Rattle.php_terminals.specs.Classify.{is_any_label, is_called_label, is_constant_label, is_full, is_plain_label, is_qualified, is_relative, terminal, terminal_by}
 use Rattle.php_terminals.specs.Classify as classes
 use Rattle.php_terminals.specs.Words as words
 use Rattle.php_grammar.specs.Accepts.{accepts, same_class}
-use Rattle.php_shapes.specs.Names.{called_name, lead_of_name, more_of_name, name}
+use Rattle.php_shapes.specs.Names.{called_name, name}
 use Rattle.php_shapes.specs.Nearest.{goes_on_if, has_else, is_else, is_to}
 use Rattle.php_shapes.specs.Notation.{Rule, nothing, word, ◌~◌, ◌|||◌, many}
 use Rattle.php_shapes.specs.Shapes.{Fits, is_nothing, is_word, is_both, is_first, is_second, no_more, once_more, is_kind, is_place, is_inside, is_tokens}
-use Rattle.tracked_changes.specs.Draft.{NewToken, Draft, new_leaf}
 use Rattle.syntax_rules.specs.Around.{Around}
 use Rattle.syntax_rules.specs.HashComment.{hash_comment}
 use Rattle.rewritten_shapes.specs.Laws.{AreSpelled}
-use Rattle.rewritten_shapes.specs.RefusedWords.{has, is_any_of_them, is_keyword_now, is_match, is_type_now}
-use Rattle.rewritten_shapes.proofs.Bare.{bare_token}
+use Rattle.rewritten_shapes.specs.RefusedWords.{has, is_any_of_them, is_keyword_now, is_match}
 use Rattle.rewritten_shapes.proofs.Calm.{shown_accepts, shown_is}
-use Rattle.rewritten_shapes.proofs.Kept.{AllGood, Good, Kept, good_front, good_rest, kept, kept_first, kept_join, kept_many, kept_second, steady}
+use Rattle.rewritten_shapes.proofs.Kept.{AllGood, Kept, good_front, good_rest, kept, kept_first, kept_join, kept_many, kept_second, steady}
 use Rattle.rewritten_shapes.proofs.Like.{Like, below_zero, else_join, like_leaf, like_none}
 use Rattle.rewritten_shapes.proofs.Shown.{names_whole, new_parts, shown, shown_token}
 use Rattle.rewritten_shapes.proofs.Sides.{and_left, and_right, apart_parts, are_apart, empty_rule, stay_apart, still_first}

@@ -1,21 +1,21 @@
 -- Nodes with an operator between two operands.
-use Rattle.std.proofs.Common.{◌≡◌, ℕ, ◌≤◌, ◌-◌, max, Bool, true, false, not, cond, ◌&&◌, ◌||◌, ◌⊎◌, inl, inr, codes, List, [], ◌∷◌, Option, Some, None, refl, sym, ap, ◌∙◌, subst, arith}
+use Rattle.std.proofs.Common.{◌≡◌, ℕ, ◌≤◌, Bool, true, false, ◌&&◌, ◌||◌, ◌⊎◌, inl, inr, codes, List, Option, Some, refl, sym, ap, ◌∙◌, subst, arith}
 use Rattle.std.specs.Str.{bytes_eq}
 use Rattle.php_tree.specs.declared.kind.NodeKind.{NodeKind}
 use Rattle.php_tree.specs.declared.kind.NodeKind.TheVariants.{Binary}
 use Rattle.php_tree.specs.declared.token.Token.{Token}
 use Rattle.php_tree.specs.declared.version.Version.TheVariants.{V74, V83}
-use Rattle.php_tree.specs.Tree.{Forest, Tree, none, leaf, node}
+use Rattle.php_tree.specs.Tree.{Forest}
 use Rattle.php_terminals.specs.declared.terminal.Terminal.{Terminal}
 use Rattle.php_terminals.specs.declared.terminal.Terminal.TheVariants as t
 use Rattle.php_terminals.specs.Classify.{terminal}
 use Rattle.php_grammar.specs.Accepts.{accepts, same_class}
 use Rattle.php_grammar.specs.Edges.{edge}
 use Rattle.php_shapes.specs.Nearest.{is_nearest}
-use Rattle.php_shapes.specs.Notation.{Rule, word, place, ◌~◌, ◌|||◌}
+use Rattle.php_shapes.specs.Notation.{Rule, word, place, ◌~◌}
 use Rattle.php_shapes.specs.Operators.{binary}
 use Rattle.php_shapes.specs.Places.{Left, Operand, may_stand}
-use Rattle.php_shapes.specs.Shapes.{Fits, IsNode, is_both, is_first, is_node, is_place, is_second, is_word}
+use Rattle.php_shapes.specs.Shapes.{Fits, IsNode, is_first, is_node, is_second}
 use Rattle.syntax_rules.specs.Around.{Around, within}
 use Rattle.syntax_rules.specs.DotPrecedence.{is_dot, is_shift, is_sum, takes_apart}
 use Rattle.syntax_rules.specs.HashComment.{hash_comment}

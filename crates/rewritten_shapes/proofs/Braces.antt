@@ -1,13 +1,13 @@
 -- Offsets in braces, and casts.
-use Rattle.std.proofs.Common.{◌≡◌, ℕ, ◌≤◌, max, Bool, true, false, not, cond, ◌&&◌, ◌||◌, ◌⊎◌, inl, inr, if◌then◌else◌, nat_eq, nat_lt, length, codes, List, [], ◌∷◌, ◌++◌, Option, refl, sym, ap, ◌∙◌, subst, arith}
+use Rattle.std.proofs.Common.{◌≡◌, ℕ, max, Bool, true, false, not, cond, ◌&&◌, ◌||◌, if◌then◌else◌, nat_lt, length, codes, List, [], ◌++◌, Option, refl, sym, ap, ◌∙◌, subst, arith}
 use Rattle.std.specs.Str.{bytes_eq}
 use Rattle.php_tree.specs.declared.kind.NodeKind.{NodeKind}
-use Rattle.php_tree.specs.declared.kind.NodeKind.TheVariants.{BraceOffset, Cast, Constant, Offset, Paren}
+use Rattle.php_tree.specs.declared.kind.NodeKind.TheVariants.{BraceOffset, Cast, Constant, Offset}
 use Rattle.php_tree.specs.declared.token.Token.{Token}
 use Rattle.php_tree.specs.declared.token.TokenKind.{TokenKind}
 use Rattle.php_tree.specs.declared.token.TokenKind.TheVariants as token
 use Rattle.php_tree.specs.declared.version.Version.TheVariants.{V74, V83}
-use Rattle.php_tree.specs.Tree.{Forest, Tree, none, leaf, node, ◌+++◌}
+use Rattle.php_tree.specs.Tree.{Forest, Tree, none, leaf, node}
 use Rattle.php_terminals.specs.declared.terminal.Terminal.{Terminal}
 use Rattle.php_terminals.specs.declared.terminal.Terminal.TheVariants as t
 use Rattle.php_terminals.specs.Classify.{cast, name, terminal, terminal_by}
@@ -16,31 +16,28 @@ use Rattle.php_terminals.specs.Words as words
 use Rattle.php_grammar.specs.Accepts.{accepts, same_class}
 use Rattle.php_grammar.specs.Edges.{edge, edge_from}
 use Rattle.php_grammar.specs.Levels.{level}
-use Rattle.php_shapes.specs.Forms.{form}
 use Rattle.php_shapes.specs.Nearest.{arrows_are_nearest, elses_are_nearest, ends_in_if, ends_in_yield, goes_on_if, is_nearest, is_open_if, is_open_yield, is_to}
-use Rattle.php_shapes.specs.Notation.{Rule, word, place, ◌~◌, ◌|||◌, expr, braces}
+use Rattle.php_shapes.specs.Notation.{word, ◌|||◌}
 use Rattle.php_shapes.specs.Operators as rules
 use Rattle.php_shapes.specs.Places.{Operand, OffsetBase, may_stand}
 use Rattle.php_shapes.specs.Postfixes.{brace_offset}
-use Rattle.php_shapes.specs.Shapes.{Fits, IsNode, is_nothing, is_both, is_first, is_node, is_place, is_second, is_word}
-use Rattle.tracked_changes.specs.Draft.{NewToken}
+use Rattle.php_shapes.specs.Shapes.{Fits, IsNode, is_both, is_first, is_node, is_place, is_second, is_word}
 use Rattle.tracked_changes.specs.Tokens.{is_text, retexted}
 use Rattle.tracked_changes.specs.Walk.{NewTree}
 use Rattle.syntax_rules.specs.Around.{Around, within}
 use Rattle.syntax_rules.specs.BraceOffset.{bracket}
 use Rattle.syntax_rules.specs.Casts.{bare}
-use Rattle.syntax_rules.specs.DotPrecedence.{is_dot}
 use Rattle.syntax_rules.specs.HashComment.{hash_comment}
 use Rattle.syntax_rules.specs.RealCast.{is_real_cast, real_cast}
 use Rattle.syntax_rules.specs.UnsetCast.{is_edited, is_undecided, is_unset_cast, of_variable, unset_cast}
 use Rattle.rewritten_shapes.specs.Laws.{AreSpelled, is_old, is_spelled_by}
 use Rattle.rewritten_shapes.proofs.Calm.{shown_is, steady_shown}
-use Rattle.rewritten_shapes.proofs.Kept.{AllGood, Good, Kept, becomes_offset, becomes_same, edge_is, good_stands, settled_like}
-use Rattle.rewritten_shapes.proofs.Like.{Below, Like, below_max, below_same, below_zero, like_join, like_leaf, like_nearest, like_node}
+use Rattle.rewritten_shapes.proofs.Kept.{AllGood, Good, becomes_offset, becomes_same, edge_is, good_stands}
+use Rattle.rewritten_shapes.proofs.Like.{below_max, below_same}
 use Rattle.rewritten_shapes.proofs.Operands.{dots_by, ternaries_by}
 use Rattle.rewritten_shapes.proofs.OperatorWords.{close_brace_is, found, open_brace_is}
 use Rattle.rewritten_shapes.proofs.Same.{lines_fine}
-use Rattle.rewritten_shapes.proofs.Shown.{changed_tree, in_paren, new_parts, new_tree, op_token, shown_token, shown_tree}
+use Rattle.rewritten_shapes.proofs.Shown.{changed_tree, in_paren, new_tree, op_token, shown_token, shown_tree}
 use Rattle.rewritten_shapes.proofs.Sides.{and_both, and_left, and_right}
 use Rattle.rewritten_shapes.proofs.Simple.{unwrapped_tree}
 use Rattle.rewritten_shapes.proofs.Tabled.{written}

@@ -1,5 +1,5 @@
 -- Tokens that belong to no name.
-use Rattle.std.proofs.Common.{◌≡◌, ℕ, suc, Bool, true, false, not, cond, ◌&&◌, ◌||◌, ◌⊎◌, inl, inr, nat_eq, nat_lt, codes, List, [], ◌∷◌, ◌++◌, length, refl, sym, ap, ◌∙◌, subst, append-nil}
+use Rattle.std.proofs.Common.{◌≡◌, ℕ, Bool, true, false, not, cond, ◌&&◌, ◌||◌, nat_eq, nat_lt, codes, List, [], ◌∷◌, length, refl, sym, ap, ◌∙◌, append-nil}
 use Rattle.std.specs.Char.{to_ascii_lowercase}
 use Rattle.std.specs.Str.{bytes_eq, str_to_ascii_lowercase}
 use Rattle.std.proofs.lemmas.Slice.Eq.{bytes_eq-Decides}
@@ -15,11 +15,9 @@ use Rattle.php_terminals.specs.declared.terminal.Terminal.TheVariants as t
 use Rattle.php_terminals.specs.Classify.{is_modifier, is_sign_or_tight, name, terminal, terminal_by}
 use Rattle.php_terminals.specs.Terminals.{code}
 use Rattle.php_terminals.specs.Words.{find_row, front, is_word, keyword, keywords, label, labels, operator, operators}
-use Rattle.php_grammar.specs.Accepts.{accepts, in_set, same_class}
-use Rattle.tracked_changes.specs.Pieces.{before}
-use Rattle.tracked_changes.specs.Draft.{NewToken}
+use Rattle.php_grammar.specs.Accepts.{accepts, same_class}
 use Rattle.syntax_rules.specs.HashComment.{hash_comment}
-use Rattle.syntax_rules.specs.SplitName.{is_backslash, is_keyword, is_label, is_name, is_namespace, is_op}
+use Rattle.syntax_rules.specs.SplitName.{is_keyword, is_label, is_name, is_op}
 use Rattle.rewritten_shapes.proofs.Bare.{bare_accepts, bare_token}
 use Rattle.rewritten_shapes.proofs.Shown.{is_fresh, is_shut, shown_token}
 

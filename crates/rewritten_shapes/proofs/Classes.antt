@@ -1,11 +1,10 @@
 -- Members of classes by name, and declarations of classes.
-use Rattle.std.proofs.Common.{◌≡◌, Bool, true, false, ◌&&◌, ◌||◌, Option, refl, sym, ap, ◌∙◌, subst}
+use Rattle.std.proofs.Common.{◌≡◌, Bool, true, false, ◌||◌, Option, refl, sym, ap, ◌∙◌, subst}
 use Rattle.php_tree.specs.declared.kind.NodeKind.{NodeKind}
 use Rattle.php_tree.specs.declared.kind.NodeKind.TheVariants as k
 use Rattle.php_tree.specs.declared.token.Token.{Token}
-use Rattle.php_tree.specs.declared.token.TokenKind.{TokenKind}
 use Rattle.php_tree.specs.declared.version.Version.TheVariants.{V74, V83}
-use Rattle.php_tree.specs.Tree.{Forest, Tree, none, leaf, node, ◌+++◌}
+use Rattle.php_tree.specs.Tree.{Forest, none, leaf, ◌+++◌}
 use Rattle.php_terminals.specs.declared.terminal.Terminal.{Terminal}
 use Rattle.php_terminals.specs.declared.terminal.Terminal.TheVariants as t
 use Rattle.php_terminals.specs.Classify.{is_any_label, terminal}
@@ -13,7 +12,7 @@ use Rattle.php_grammar.specs.Accepts.{accepts, same_class}
 use Rattle.php_shapes.specs.Atoms as at
 use Rattle.php_shapes.specs.Declarations as de
 use Rattle.php_shapes.specs.Forms.{form}
-use Rattle.php_shapes.specs.Notation.{Rule, nothing, word, kind, place, ◌~◌, ◌|||◌, many, maybe}
+use Rattle.php_shapes.specs.Notation.{Rule, nothing, word, place, ◌~◌, many}
 use Rattle.php_shapes.specs.Places.{ClassBase}
 use Rattle.php_shapes.specs.Postfixes as po
 use Rattle.php_shapes.specs.Shapes.{Fits, IsNode, is_nothing, is_word, is_both, is_first, is_node}
@@ -21,11 +20,11 @@ use Rattle.syntax_rules.specs.Around.{Around, within}
 use Rattle.syntax_rules.specs.HashComment.{hash_comment}
 use Rattle.rewritten_shapes.specs.Laws.{AreSpelled}
 use Rattle.rewritten_shapes.specs.RefusedWords.{declares, has, has_before, has_refused, in_class, is_any_of_them, is_double_colon, is_keyword_now, named}
-use Rattle.rewritten_shapes.proofs.Bilingual.{Both, a_label, a_name, alike, both_kept, either, keywords, label_kept, all_four, left_false, new, next, old, or_false, reads, right_false, shown_terminal, spelled_front, spelled_rest, times}
+use Rattle.rewritten_shapes.proofs.Bilingual.{Both, a_name, alike, both_kept, either, keywords, label_kept, all_four, left_false, new, next, old, reads, right_false, shown_terminal, spelled_front, spelled_rest, times}
 use Rattle.rewritten_shapes.proofs.Calm.{is_steady, shown_accepts, steady_shown}
 use Rattle.rewritten_shapes.proofs.Kept.{AllGood, Good, Kept, good_front, good_rest, is_settled, kept, kept_join, steady}
-use Rattle.rewritten_shapes.proofs.Like.{like_leaf, like_none}
-use Rattle.rewritten_shapes.proofs.Marked.{Mark, before_front, both_no, class_front, colons, declaring, has_none_of, label_no}
+use Rattle.rewritten_shapes.proofs.Like.{like_leaf}
+use Rattle.rewritten_shapes.proofs.Marked.{before_front, both_no, class_front, colons, declaring, has_none_of}
 use Rattle.rewritten_shapes.proofs.Named.{inheritance, listed, may}
 use Rattle.rewritten_shapes.proofs.Own.{before_new, class_new}
 use Rattle.rewritten_shapes.proofs.Same.{assemble, has_no_lines, lines_fine}

@@ -1,8 +1,7 @@
 -- The depth of the rewritten file.
-use Rattle.std.proofs.Common.{Some, None, length, length-append, ◌≡◌, ℕ, suc, ◌+◌, ◌*◌, ◌≤◌, max, Bool, true, false, not, ◌&&◌, ◌||◌, cond, if◌then◌else◌, List, [], ◌∷◌, ◌++◌, Option, codes, refl, sym, ap, ◌∙◌, subst, arith, append-nil}
+use Rattle.std.proofs.Common.{Some, None, length, length-append, ◌≡◌, ℕ, suc, ◌+◌, ◌*◌, ◌≤◌, max, Bool, true, false, ◌&&◌, ◌||◌, cond, if◌then◌else◌, List, [], ◌∷◌, ◌++◌, Option, codes, refl, ap, ◌∙◌, arith, append-nil}
 use Rattle.std.specs.Str.{bytes_eq}
 use Rattle.std.proofs.lemmas.Slice.Eq.{bytes_eq-Decides}
-use Rattle.php_tree.specs.declared.token.Token.{Token}
 use Rattle.php_tree.specs.declared.token.TokenKind.{TokenKind}
 use Rattle.php_tree.specs.declared.token.TokenKind.TheVariants as token
 use Rattle.php_tree.specs.declared.kind.NodeKind.{NodeKind}
@@ -11,20 +10,19 @@ use Rattle.php_tree.specs.Tree.{Forest, none, leaf, node, Tree, depth}
 use Rattle.php_tree.specs.Places.{placed, end_of, behind}
 use Rattle.tree_patches.specs.Patches.{Wrapping, InParens}
 use Rattle.tracked_changes.specs.Pieces.{before}
-use Rattle.tracked_changes.specs.Draft.{NewToken, Draft, no_more, new_leaf, new_node, ◌then◌, rewritten, rewritten_token}
+use Rattle.tracked_changes.specs.Draft.{NewToken, Draft, no_more, new_leaf, new_node, ◌then◌, rewritten}
 use Rattle.tracked_changes.specs.Leads.{holds_none, without_lead}
 use Rattle.tracked_changes.specs.Parens.{in_parens, in_wrappings}
-use Rattle.tracked_changes.specs.Tokens.{is_text, put_in, put_also, retexted}
+use Rattle.tracked_changes.specs.Tokens.{is_text}
 use Rattle.tracked_changes.specs.Walk.{NewTree, new_alone, drafted}
 use Rattle.syntax_rules.specs.Around.{Around, at_top, kind_if_first, within}
-use Rattle.syntax_rules.specs.BraceOffset.{bracket, bracketed, brace_offset, is_brace_offset}
-use Rattle.syntax_rules.specs.DollarBrace.{is_dollar_brace, curly, named, plain, with_offset, with_node, opened, escaped, is_piece, begins_dollar_brace, part, parts, dollar_brace}
-use Rattle.syntax_rules.specs.HashComment.{hash_comment}
-use Rattle.syntax_rules.specs.DotPrecedence.{is_binary, is_dot, is_regrouped, around_dot}
+use Rattle.syntax_rules.specs.BraceOffset.{bracketed, brace_offset, is_brace_offset}
+use Rattle.syntax_rules.specs.DollarBrace.{is_dollar_brace, curly, named, plain, with_offset, with_node, opened, escaped, is_piece, begins_dollar_brace, parts, dollar_brace}
+use Rattle.syntax_rules.specs.DotPrecedence.{is_regrouped, around_dot}
 use Rattle.syntax_rules.specs.NestedTernary as nested
 use Rattle.syntax_rules.specs.RealCast.{float_first, is_real_cast, real_cast}
 use Rattle.syntax_rules.specs.Rewritten as whole
-use Rattle.syntax_rules.specs.SplitName.{is_one, one_name, in_front, whole_names, apart, keyword_behind, keyword_last, space_before}
+use Rattle.syntax_rules.specs.SplitName.{is_one, one_name, in_front, whole_names, apart, keyword_behind, keyword_last}
 use Rattle.syntax_rules.specs.Together.{all_on, is_quoted, rewriting}
 use Rattle.syntax_rules.specs.UnsetCast.{is_edited, is_unset_cast, of_variable, unset_cast}
 use Rattle.rewritten_shapes.specs.Laws.{AreSpelled, is_spelled_by, RewrittenIsShallow}

@@ -1,18 +1,17 @@
 -- Nodes at whose end no operator stands, so that their edge is their level.
-use Rattle.std.proofs.Common.{◌≡◌, ℕ, ◌+◌, ◌-◌, nat_eq, ◌≤◌, max, Bool, true, false, not, cond, ◌&&◌, ◌||◌, ◌⊎◌, inl, inr, nat_le, refl, sym, ap, ◌∙◌, subst, arith}
+use Rattle.std.proofs.Common.{◌≡◌, ℕ, ◌+◌, ◌-◌, nat_eq, Bool, true, false, not, cond, ◌&&◌, ◌||◌, ◌⊎◌, inl, inr, refl, ap, ◌∙◌, arith}
 use Rattle.php_tree.specs.declared.kind.NodeKind.{NodeKind}
 use Rattle.php_tree.specs.declared.kind.NodeKind.TheVariants as k
-use Rattle.php_tree.specs.declared.version.Version.{Version}
 use Rattle.php_tree.specs.declared.version.Version.TheVariants.{V83}
 use Rattle.php_tree.specs.Tree.{Forest, none, leaf, node, ◌+++◌}
 use Rattle.php_terminals.specs.Classify.{terminal}
 use Rattle.php_terminals.specs.Marks.{closes, opens}
 use Rattle.php_grammar.specs.Bases.{is_target}
-use Rattle.php_grammar.specs.Edges.{edge, edge_from}
+use Rattle.php_grammar.specs.Edges.{edge_from}
 use Rattle.php_grammar.specs.Levels.{level}
 use Rattle.php_shapes.specs.Forms.{form}
 use Rattle.php_shapes.specs.Notation.{Rule, nothing, word, kind, place, inside, ◌~◌, ◌|||◌, many, tokens}
-use Rattle.php_shapes.specs.Places.{Place, Statement, Member, Operand, Left, LeftShort, OffsetBase, MemberBase, ClassBase, Callee, Target, TargetOrList, ClassName, begins_with_class_name, is_class_name, may_stand}
+use Rattle.php_shapes.specs.Places.{Place, Target, ClassName, begins_with_class_name, is_class_name, may_stand}
 use Rattle.php_shapes.specs.Shapes.{Fits, IsNode, is_balanced, is_nothing, is_word, is_kind, is_place, is_inside, is_both, is_first, is_second, no_more, once_more, is_tokens, is_node}
 use Rattle.rewritten_shapes.proofs.Like.{edges_join}
 use Rattle.rewritten_shapes.proofs.Sides.{and_left, and_right, empty_rule, false_true, map_right, may_be_empty}

@@ -1,5 +1,5 @@
 -- Parts keep the shape of a rule that is the same in both versions.
-use Rattle.std.proofs.Common.{◌≡◌, ℕ, ◌<◌, ◌≤◌, max, Bool, true, false, not, cond, ◌&&◌, ◌||◌, ◌⊎◌, inl, inr, nat_le, nat_lt, Option, Some, None, refl, sym, ap, ◌∙◌, subst, arith}
+use Rattle.std.proofs.Common.{◌≡◌, ℕ, ◌<◌, ◌≤◌, max, Bool, true, false, not, ◌&&◌, ◌||◌, ◌⊎◌, inl, inr, nat_le, nat_lt, Option, refl, sym, ap, ◌∙◌, subst, arith}
 use Rattle.std.proofs.lemmas.Bool.{le-leb, leb-true, ltb-true}
 use Rattle.php_tree.specs.declared.kind.NodeKind.{NodeKind}
 use Rattle.php_tree.specs.declared.kind.NodeKind.TheVariants as k
@@ -11,21 +11,20 @@ use Rattle.php_tree.specs.Tree.{Forest, Tree, none, leaf, node, ◌+++◌}
 use Rattle.php_terminals.specs.declared.terminal.Terminal.{Terminal}
 use Rattle.php_terminals.specs.Classify.{terminal}
 use Rattle.php_grammar.specs.Accepts.{accepts}
-use Rattle.php_grammar.specs.Bases.{is_callee, is_class_base, is_list, is_member_base, is_offset_base, is_short_ternary, is_target}
+use Rattle.php_grammar.specs.Bases.{is_callee, is_class_base, is_list, is_member_base, is_offset_base, is_target}
 use Rattle.php_grammar.specs.Edges.{edge, edge_from}
 use Rattle.php_grammar.specs.Levels.{level}
-use Rattle.php_shapes.specs.Forms.{form}
-use Rattle.php_shapes.specs.Nearest.{ends_in_if, ends_in_yield, has_else, is_nearest, is_open_if, is_open_yield}
+use Rattle.php_shapes.specs.Nearest.{ends_in_if, ends_in_yield, is_nearest, is_open_if, is_open_yield}
 use Rattle.php_shapes.specs.Notation.{Rule, nothing, word, kind, place, inside, ◌~◌, ◌|||◌, many, tokens}
 use Rattle.php_shapes.specs.Places.{Place, Statement, Member, Operand, Left, LeftShort, OffsetBase, MemberBase, ClassBase, Callee, Target, TargetOrList, ClassName, begins_with_class_name, is_class_name, is_expression, is_member, is_prefix, is_statement, may_stand}
-use Rattle.php_shapes.specs.Shapes.{Fits, IsNode, is_nothing, is_word, is_kind, is_place, is_inside, is_both, is_first, is_second, no_more, once_more, is_tokens, is_node}
+use Rattle.php_shapes.specs.Shapes.{Fits, IsNode, is_nothing, is_word, is_kind, is_place, is_inside, is_both, is_first, is_second, no_more, once_more, is_tokens}
 use Rattle.syntax_rules.specs.Around.{Around, within}
 use Rattle.syntax_rules.specs.DotPrecedence.{is_dot}
 use Rattle.syntax_rules.specs.HashComment.{hash_comment}
 use Rattle.rewritten_shapes.proofs.Calm.{is_steady, shown_is, steady_shown}
 use Rattle.rewritten_shapes.proofs.Like.{Below, Like, NodeLike, below_max, below_same, like_join, like_leaf, like_nearest, like_node, like_none}
 use Rattle.rewritten_shapes.proofs.Shown.{new_parts, new_tree, shown_token}
-use Rattle.rewritten_shapes.proofs.Sides.{and_both, and_left, and_right, apart_parts, are_apart, starts_apart, stay_apart, still_first, stops_apart}
+use Rattle.rewritten_shapes.proofs.Sides.{and_both, and_left, and_right, apart_parts, are_apart, stay_apart, still_first}
 use Rattle.rewritten_shapes.proofs.Simple.{is_simple, simple_tree}
 
 -- ---- kinds

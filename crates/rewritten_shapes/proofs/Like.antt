@@ -1,15 +1,14 @@
 -- What new parts have of the parts that they stand for: nothing more belongs elsewhere, and edges are at most as loose, but for
 -- that of `.`.
-use Rattle.std.proofs.Common.{◌≡◌, ℕ, ◌+◌, ◌<◌, ◌≤◌, max, Bool, true, false, not, cond, ◌&&◌, ◌||◌, ◌⊎◌, inl, inr, refl, sym, ap, ◌∙◌, subst, arith}
+use Rattle.std.proofs.Common.{◌≡◌, ℕ, ◌<◌, ◌≤◌, max, Bool, true, false, not, ◌&&◌, ◌||◌, refl, sym, ap, ◌∙◌, subst, arith}
 use Rattle.php_tree.specs.declared.kind.NodeKind.{NodeKind}
-use Rattle.php_tree.specs.declared.kind.NodeKind.TheVariants as k
 use Rattle.php_tree.specs.declared.token.Token.{Token}
 use Rattle.php_tree.specs.declared.version.Version.{Version}
 use Rattle.php_tree.specs.declared.version.Version.TheVariants.{V74, V83}
 use Rattle.php_tree.specs.Tree.{Forest, none, leaf, node, ◌+++◌}
 use Rattle.php_terminals.specs.declared.terminal.Terminal.{Terminal}
 use Rattle.php_terminals.specs.Classify.{terminal}
-use Rattle.php_grammar.specs.Edges.{edge, edge_from}
+use Rattle.php_grammar.specs.Edges.{edge_from}
 use Rattle.php_grammar.specs.Levels.{level}
 use Rattle.php_shapes.specs.Nearest.{arrows_are_nearest, elses_are_nearest, ends_in_if, ends_in_yield, goes_on_if, has_else, is_else, is_nearest, is_open_if, is_open_yield, is_to}
 use Rattle.php_shapes.specs.Places.{begins_with_class_name, is_class_name}

@@ -1,26 +1,23 @@
 -- Tokens that stand in no name: what stands behind a name is told from it.
-use Rattle.std.proofs.Common.{◌≡◌, ℕ, Bool, true, false, not, cond, ◌&&◌, ◌||◌, ◌⊎◌, inl, inr, nat_eq, if◌then◌else◌, codes, List, Option, refl, sym, ap, ◌∙◌, subst}
-use Rattle.std.proofs.lemmas.Bool.{eqb-true}
+use Rattle.std.proofs.Common.{◌≡◌, ℕ, Bool, true, false, cond, ◌&&◌, ◌||◌, inl, inr, if◌then◌else◌, codes, List, Option, refl, sym, ap, ◌∙◌, subst}
 use Rattle.php_tree.specs.declared.token.Token.{Token}
 use Rattle.php_tree.specs.declared.token.TokenKind.{TokenKind}
-use Rattle.php_tree.specs.declared.token.TokenKind.TheVariants as token
 use Rattle.php_tree.specs.declared.version.Version.TheVariants.{V74}
 use Rattle.php_tree.specs.Tree.{Forest, none, leaf, node, ◌+++◌}
 use Rattle.php_terminals.specs.declared.terminal.Terminal.{Terminal}
 use Rattle.php_terminals.specs.declared.terminal.Terminal.TheVariants as t
 use Rattle.php_terminals.specs.Classify.{is_any_label, terminal, terminal_by}
 use Rattle.php_terminals.specs.Classify as classes
-use Rattle.php_terminals.specs.Terminals.{code}
 use Rattle.php_terminals.specs.Words as words
 use Rattle.php_grammar.specs.Accepts.{accepts, same_class}
 use Rattle.php_shapes.specs.Names.{name}
-use Rattle.php_shapes.specs.Notation.{Rule, nothing, word, place, ◌~◌, ◌|||◌, many}
+use Rattle.php_shapes.specs.Notation.{Rule, nothing, word, place, ◌|||◌, many}
 use Rattle.php_shapes.specs.Shapes.{Fits, is_nothing, is_word, is_both, is_first, is_second, no_more, once_more, is_place}
 use Rattle.syntax_rules.specs.Around.{Around}
 use Rattle.syntax_rules.specs.HashComment.{hash_comment}
 use Rattle.rewritten_shapes.specs.Laws.{AreSpelled}
 use Rattle.rewritten_shapes.specs.RefusedWords.{declares, has, has_before, in_class, is_brace, is_double_colon, is_keyword_now}
-use Rattle.rewritten_shapes.proofs.Bilingual.{Both, a_called, a_label, a_name, alike, either, has_join, label_any, left_false, new, next, old, or_false, right_false, shown_terminal, spelled_front, spelled_rest, times}
+use Rattle.rewritten_shapes.proofs.Bilingual.{Both, a_called, a_label, a_name, alike, either, has_join, label_any, left_false, next, old, or_false, right_false, shown_terminal, spelled_front, spelled_rest, times}
 use Rattle.rewritten_shapes.proofs.Shown.{names_whole, new_parts, shown, shown_token}
 use Rattle.rewritten_shapes.proofs.Sides.{and_left, and_right, apart_parts, are_apart, stay_apart, still_first}
 use Rattle.rewritten_shapes.proofs.Tabled.{written}

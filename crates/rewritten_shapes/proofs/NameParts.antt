@@ -1,5 +1,5 @@
 -- The tokens of names: labels, `\` and `namespace`.
-use Rattle.std.proofs.Common.{◌≡◌, ℕ, Bool, true, false, not, cond, ◌&&◌, ◌||◌, nat_eq, nat_lt, codes, List, [], ◌∷◌, ◌++◌, slice_index, length, refl, sym, ap, ◌∙◌, subst, append-nil}
+use Rattle.std.proofs.Common.{◌≡◌, ℕ, Bool, true, false, cond, ◌&&◌, ◌||◌, nat_eq, nat_lt, codes, List, [], ◌∷◌, ◌++◌, slice_index, length, refl, sym, ap, ◌∙◌, append-nil}
 use Rattle.std.specs.Char.{to_ascii_lowercase}
 use Rattle.std.specs.Str.{bytes_eq, str_to_ascii_lowercase}
 use Rattle.std.proofs.lemmas.Bool.{eqb-true}
@@ -7,16 +7,16 @@ use Rattle.std.proofs.lemmas.Slice.Eq.{bytes_eq-Decides}
 use Rattle.php_tree.specs.declared.token.Token.{Token}
 use Rattle.php_tree.specs.declared.token.TokenKind.{TokenKind}
 use Rattle.php_tree.specs.declared.token.TokenKind.TheVariants as token
-use Rattle.php_tree.specs.declared.version.Version.TheVariants.{V74, V83}
+use Rattle.php_tree.specs.declared.version.Version.TheVariants.{V74}
 use Rattle.php_terminals.specs.declared.terminal.Terminal.{Terminal}
 use Rattle.php_terminals.specs.declared.terminal.Terminal.TheVariants as t
-use Rattle.php_terminals.specs.Classify.{cast, cast_letter, is_any_label, name, opening, terminal, terminal_by}
+use Rattle.php_terminals.specs.Classify.{cast, cast_letter, is_any_label, name, opening, terminal_by}
 use Rattle.php_terminals.specs.Words.{find_row, front, is_word, keyword, keywords, label, labels, operator, operators}
 use Rattle.php_grammar.specs.Accepts.{accepts, same_class}
 use Rattle.syntax_rules.specs.HashComment.{hash_comment}
-use Rattle.syntax_rules.specs.SplitName.{is_backslash, is_keyword, is_label, is_namespace, is_op}
+use Rattle.syntax_rules.specs.SplitName.{is_backslash, is_keyword, is_namespace, is_op}
 use Rattle.rewritten_shapes.proofs.Calm.{equal, lower_word}
-use Rattle.rewritten_shapes.proofs.OperatorWords.{backslash_is, found, is_any, op_kind, rows_not, words_of}
+use Rattle.rewritten_shapes.proofs.OperatorWords.{backslash_is, found, op_kind, rows_not}
 
 both_true : (a b : Bool) → a ≡ true → b ≡ true → (a && b) ≡ true
 both_true true b e d = d

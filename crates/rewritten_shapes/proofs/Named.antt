@@ -1,22 +1,21 @@
 -- Nodes with names, and with labels that 8.3 narrows.
-use Rattle.std.proofs.Common.{◌≡◌, Bool, true, false, ◌&&◌, ◌||◌, Option, refl, sym, ap, ◌∙◌, subst}
+use Rattle.std.proofs.Common.{◌≡◌, true, false, Option, refl, sym, ◌∙◌, subst}
 use Rattle.php_tree.specs.declared.kind.NodeKind.{NodeKind}
 use Rattle.php_tree.specs.declared.kind.NodeKind.TheVariants as k
 use Rattle.php_tree.specs.declared.version.Version.TheVariants.{V74, V83}
-use Rattle.php_tree.specs.Tree.{Forest, Tree, none, leaf, node}
+use Rattle.php_tree.specs.Tree.{Forest}
 use Rattle.php_terminals.specs.declared.terminal.Terminal.TheVariants as t
 use Rattle.php_shapes.specs.Atoms as at
-use Rattle.php_shapes.specs.Declarations as de
 use Rattle.php_shapes.specs.Forms.{form}
-use Rattle.php_shapes.specs.Notation.{Rule, nothing, word, kind, place, ◌~◌, ◌|||◌, many, maybe, expr, commas, parens, braces}
-use Rattle.php_shapes.specs.Places.{Callee, ClassBase, ClassName, Left}
+use Rattle.php_shapes.specs.Notation.{Rule, nothing, word, kind, place, ◌~◌, maybe, expr}
+use Rattle.php_shapes.specs.Places.{Callee, ClassName, Left}
 use Rattle.php_shapes.specs.Postfixes as po
 use Rattle.php_shapes.specs.Shapes.{Fits, IsNode, is_node}
 use Rattle.php_shapes.specs.Statements as st
 use Rattle.syntax_rules.specs.Around.{Around, within}
 use Rattle.rewritten_shapes.specs.Laws.{AreSpelled}
 use Rattle.rewritten_shapes.specs.RefusedWords.{has, has_refused, named}
-use Rattle.rewritten_shapes.proofs.Bilingual.{Both, Which, a_called, a_label, a_name, alike, all_four, both_kept, either, keywords, match_alone, new, next, old, reads, test, times}
+use Rattle.rewritten_shapes.proofs.Bilingual.{Both, Which, a_called, a_label, a_name, alike, both_kept, either, keywords, match_alone, new, next, old, reads, test, times}
 use Rattle.rewritten_shapes.proofs.Kept.{AllGood, Good, Kept, is_settled}
 use Rattle.rewritten_shapes.proofs.Own.{has_new}
 use Rattle.rewritten_shapes.proofs.Same.{assemble, lines_fine, has_no_lines}

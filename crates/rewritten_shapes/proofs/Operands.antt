@@ -1,5 +1,5 @@
 -- Operators between two operands: where 8.3 has another place for an operand, it stands in parentheses.
-use Rattle.std.proofs.Common.{◌≡◌, ℕ, ◌<◌, ◌≤◌, ◌-◌, max, Bool, true, false, not, cond, ◌&&◌, ◌||◌, ◌⊎◌, inl, inr, if◌then◌else◌, nat_le, codes, List, [], ◌∷◌, ◌++◌, Option, Some, None, refl, sym, ap, ◌∙◌, subst, arith}
+use Rattle.std.proofs.Common.{◌≡◌, ℕ, ◌≤◌, max, Bool, true, false, ◌&&◌, ◌||◌, ◌⊎◌, inl, inr, if◌then◌else◌, nat_le, codes, List, [], ◌∷◌, ◌++◌, Some, refl, sym, ap, ◌∙◌, subst, arith}
 use Rattle.std.specs.Str.{bytes_eq}
 use Rattle.std.proofs.lemmas.Bool.{le-leb, leb-true}
 use Rattle.std.proofs.lemmas.Slice.Eq.{bytes_eq-Decides}
@@ -7,36 +7,32 @@ use Rattle.php_tree.specs.declared.kind.NodeKind.{NodeKind}
 use Rattle.php_tree.specs.declared.kind.NodeKind.TheVariants as k
 use Rattle.php_tree.specs.declared.kind.NodeKind.TheVariants.{Paren, Binary}
 use Rattle.php_tree.specs.declared.token.Token.{Token}
-use Rattle.php_tree.specs.declared.version.Version.{Version}
 use Rattle.php_tree.specs.declared.version.Version.TheVariants.{V74, V83}
-use Rattle.php_tree.specs.Tree.{Forest, Tree, none, leaf, node, ◌+++◌}
+use Rattle.php_tree.specs.Tree.{Forest, Tree, none, leaf, node}
 use Rattle.php_terminals.specs.declared.terminal.Terminal.{Terminal}
 use Rattle.php_terminals.specs.declared.terminal.Terminal.TheVariants as t
 use Rattle.php_terminals.specs.Classify.{terminal}
 use Rattle.php_grammar.specs.Accepts.{accepts, same_class}
-use Rattle.php_grammar.specs.Edges.{edge, edge_from}
+use Rattle.php_grammar.specs.Edges.{edge}
 use Rattle.php_grammar.specs.Levels.{binary_level, level}
-use Rattle.php_shapes.specs.Forms.{form}
 use Rattle.php_shapes.specs.Nearest.{is_nearest}
-use Rattle.php_shapes.specs.Notation.{Rule, word, place, ◌~◌, ◌|||◌}
-use Rattle.php_shapes.specs.Operators.{binary, to_the_left}
+use Rattle.php_shapes.specs.Notation.{word, place, ◌~◌}
+use Rattle.php_shapes.specs.Operators.{binary}
 use Rattle.php_shapes.specs.Places.{Left, Operand, is_expression, is_prefix, may_stand}
 use Rattle.php_shapes.specs.Shapes.{Fits, IsNode, is_both, is_first, is_node, is_place, is_second, is_word}
 use Rattle.tree_patches.specs.Patches.{Wrapping, InParens}
-use Rattle.syntax_rules.specs.Around.{Around, kind_if_first, operator_of, within}
-use Rattle.syntax_rules.specs.DotPrecedence.{is_binary, is_dot, is_regrouped, is_shift, is_sum, takes_apart}
+use Rattle.syntax_rules.specs.Around.{Around, kind_if_first, operator_of}
+use Rattle.syntax_rules.specs.DotPrecedence.{is_dot, is_regrouped, takes_apart}
 use Rattle.syntax_rules.specs.HashComment.{hash_comment}
 use Rattle.syntax_rules.specs.NestedTernary as nested
-use Rattle.syntax_rules.specs.Rewritten as all
-use Rattle.rewritten_shapes.proofs.Bare.{bare_token}
-use Rattle.rewritten_shapes.proofs.Calm.{is_steady, shown_is, steady_shown}
-use Rattle.rewritten_shapes.proofs.Kept.{AllGood, Good, Kept, becomes_same, edge_is, edges_below, good_stands, is_ternary, kept, parts_like, steady}
-use Rattle.rewritten_shapes.proofs.Like.{Below, Like, below_same, like_join, like_leaf, like_nearest, like_node}
-use Rattle.rewritten_shapes.proofs.OperatorWords.{dot_is, dot_level_is, minus_is, plus_is, shift_is}
+use Rattle.rewritten_shapes.proofs.Calm.{shown_is}
+use Rattle.rewritten_shapes.proofs.Kept.{Good, Kept, becomes_same, edge_is, edges_below, good_stands, is_ternary, kept, parts_like}
+use Rattle.rewritten_shapes.proofs.Like.{Below, Like, like_join, like_leaf, like_nearest, like_node}
+use Rattle.rewritten_shapes.proofs.OperatorWords.{dot_level_is}
 use Rattle.rewritten_shapes.proofs.Same.{lines_fine}
-use Rattle.rewritten_shapes.proofs.Shown.{changed_tree, in_paren, new_parts, new_tree, new_tree_is, shown_token, wrapped}
+use Rattle.rewritten_shapes.proofs.Shown.{changed_tree, in_paren, new_tree, new_tree_is, shown_token, wrapped}
 use Rattle.rewritten_shapes.proofs.Sides.{and_left, and_right, and_both}
-use Rattle.rewritten_shapes.proofs.Wrapped.{paren_edge, wrapped_good}
+use Rattle.rewritten_shapes.proofs.Wrapped.{paren_edge}
 
 -- ---- a last operand
 

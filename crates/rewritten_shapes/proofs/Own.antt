@@ -1,20 +1,18 @@
 -- The tokens of a node's own, with its names whole, are those of its new parts.
-use Rattle.std.proofs.Common.{◌≡◌, ℕ, Bool, true, false, not, cond, ◌&&◌, ◌||◌, if◌then◌else◌, List, [], ◌∷◌, ◌++◌, Option, refl, sym, ap, ◌∙◌, subst, append-nil}
+use Rattle.std.proofs.Common.{◌≡◌, ℕ, Bool, true, false, not, ◌&&◌, ◌||◌, if◌then◌else◌, List, [], ◌∷◌, ◌++◌, Option, refl, sym, ap, ◌∙◌, append-nil}
 use Rattle.std.specs.Str.{bytes_eq, str_to_ascii_lowercase}
 use Rattle.std.specs.Prelude.{codes}
-use Rattle.php_tree.specs.declared.kind.NodeKind.{NodeKind}
 use Rattle.php_tree.specs.declared.kind.NodeKind.TheVariants.{Empty}
-use Rattle.php_tree.specs.declared.token.Token.{Token}
 use Rattle.php_tree.specs.declared.token.TokenKind.{TokenKind}
-use Rattle.php_tree.specs.Tree.{Forest, Tree, none, leaf, node}
-use Rattle.php_terminals.specs.Classify.{names_refused, terminal}
+use Rattle.php_tree.specs.Tree.{Forest, none, leaf, node}
+use Rattle.php_terminals.specs.Classify.{terminal}
 use Rattle.php_terminals.specs.declared.terminal.Terminal.{Terminal}
-use Rattle.tracked_changes.specs.Pieces.{Piece, after, before, changed, kept}
-use Rattle.tracked_changes.specs.Draft.{NewToken, Draft, no_more, new_leaf, new_node, rewritten, unchanged, unchanged_token}
+use Rattle.tracked_changes.specs.Pieces.{Piece, after, before, changed}
+use Rattle.tracked_changes.specs.Draft.{NewToken, Draft, no_more, new_leaf, new_node, unchanged}
 use Rattle.tracked_changes.proofs.Joining.{after-append, before-append}
 use Rattle.syntax_rules.specs.Around.{Around}
-use Rattle.syntax_rules.specs.HashComment.{Standing, begins_hash, hash_comment, moved, outside, spaced}
-use Rattle.syntax_rules.specs.SplitName.{begins_root, deleted, in_front, is_backslash, is_keyword, is_label, is_name, is_namespace, is_one, is_op, one_name, whole_names}
+use Rattle.syntax_rules.specs.HashComment.{Standing, begins_hash, moved, outside, spaced}
+use Rattle.syntax_rules.specs.SplitName.{begins_root, deleted, in_front, is_keyword, is_label, is_name, is_one, is_op, one_name, whole_names}
 use Rattle.rewritten_shapes.specs.RefusedWords.{declares, has, has_before, in_class, is_any_of_them, is_keyword_now, named}
 use Rattle.rewritten_shapes.proofs.Shown.{bare_rewritten, names_whole, new_parts, shown, shown_token}
 use Rattle.rewritten_shapes.proofs.Bare.{bare, bare_token}

@@ -1,9 +1,9 @@
 -- Nodes of kinds whose forms are the same in both versions.
-use Rattle.std.proofs.Common.{◌≡◌, ℕ, ◌≤◌, max, Bool, true, false, not, cond, ◌&&◌, ◌||◌, ◌⊎◌, inl, inr, ◌++◌, [], Option, refl, sym, ap, ◌∙◌, subst, arith, append-nil}
+use Rattle.std.proofs.Common.{◌≡◌, ℕ, ◌≤◌, max, Bool, true, false, not, ◌⊎◌, inl, inr, Option, refl, sym, ap, ◌∙◌, subst, arith}
 use Rattle.php_tree.specs.declared.kind.NodeKind.{NodeKind}
 use Rattle.php_tree.specs.declared.kind.NodeKind.TheVariants as k
 use Rattle.php_tree.specs.declared.version.Version.TheVariants.{V74, V83}
-use Rattle.php_tree.specs.Tree.{Forest, Tree, none, leaf, node}
+use Rattle.php_tree.specs.Tree.{Forest, none, leaf, node}
 use Rattle.php_terminals.specs.declared.terminal.Terminal.TheVariants as t
 use Rattle.php_terminals.specs.Indents.{is_misindented, literal_fits}
 use Rattle.php_grammar.specs.Edges.{edge, edge_from}
@@ -14,10 +14,9 @@ use Rattle.php_shapes.specs.Notation.{Rule, word}
 use Rattle.php_shapes.specs.Places.{is_expression}
 use Rattle.php_shapes.specs.Shapes.{Fits, IsNode, is_node, is_word}
 use Rattle.syntax_rules.specs.Around.{Around, within}
-use Rattle.rewritten_shapes.proofs.Bare.{bare_misindented}
 use Rattle.rewritten_shapes.proofs.Calm.{shown_is}
 use Rattle.rewritten_shapes.proofs.Flat.{flat_fits, stops_flat}
-use Rattle.rewritten_shapes.proofs.Kept.{AllGood, Good, Kept, becomes_same, edge_is, is_settled, is_ternary, kept, settled_level, settled_like, steady}
+use Rattle.rewritten_shapes.proofs.Kept.{AllGood, Good, Kept, becomes_same, edge_is, is_settled, kept, settled_level, settled_like, steady}
 use Rattle.rewritten_shapes.proofs.Like.{Below, below_same, like_nearest}
 use Rattle.rewritten_shapes.proofs.Shown.{new_parts, new_tree}
 use Rattle.rewritten_shapes.proofs.Simple.{is_simple, simple_tree}

@@ -1,23 +1,20 @@
 -- The new tree of a draft, without trivia and places.
-use Rattle.std.proofs.Common.{◌≡◌, ℕ, suc, ◌+◌, Bool, true, false, not, cond, ◌&&◌, ◌||◌, if◌then◌else◌, codes, List, [], ◌∷◌, ◌++◌, Option, refl, sym, ap, ◌∙◌, subst}
+use Rattle.std.proofs.Common.{◌≡◌, ℕ, Bool, true, false, not, cond, ◌&&◌, ◌||◌, if◌then◌else◌, codes, List, [], ◌∷◌, Option, refl, ap, ◌∙◌}
 use Rattle.php_tree.specs.declared.kind.NodeKind.{NodeKind}
 use Rattle.php_tree.specs.declared.kind.NodeKind.TheVariants as kind
 use Rattle.php_tree.specs.declared.token.Token.{Token}
-use Rattle.php_tree.specs.declared.token.TokenKind.{TokenKind}
 use Rattle.php_tree.specs.declared.token.TokenKind.TheVariants as token
 use Rattle.php_tree.specs.Tree.{Forest, Tree, none, leaf, node, ◌+++◌}
 use Rattle.tree_patches.specs.Patches.{Wrapping, InParens}
 use Rattle.tracked_changes.specs.Pieces.{after, before}
 use Rattle.tracked_changes.specs.Draft.{NewToken, Draft, no_more, new_leaf, new_node, ◌then◌, rewritten}
-use Rattle.tracked_changes.specs.Leads.{holds_none, first_lead, without_lead}
-use Rattle.tracked_changes.specs.Parens.{in_parens, in_wrappings}
-use Rattle.tracked_changes.specs.Tokens.{put_in}
-use Rattle.tracked_changes.specs.Walk.{NewTree, new_alone}
+use Rattle.tracked_changes.specs.Leads.{holds_none, without_lead}
+use Rattle.tracked_changes.specs.Parens.{in_wrappings}
+use Rattle.tracked_changes.specs.Walk.{NewTree}
 use Rattle.syntax_rules.specs.Around.{Around, within}
-use Rattle.syntax_rules.specs.HashComment.{hash_comment}
 use Rattle.syntax_rules.specs.Rewritten as all
 use Rattle.syntax_rules.specs.SplitName.{apart, in_front, is_backslash, is_label, is_name, is_namespace, is_nothing, is_one, keyword_behind, keyword_last, one_name, space_before, begins_root, whole_names}
-use Rattle.rewritten_shapes.proofs.Bare.{bare, bare_token}
+use Rattle.rewritten_shapes.proofs.Bare.{bare}
 use Rattle.rewritten_shapes.proofs.Tabled.{changed, written}
 
 -- ---- tokens and forests

@@ -1,22 +1,20 @@
 -- How the parts of a rule begin and end, so that names of two rules beside each other stay apart.
-use Rattle.std.proofs.Common.{◌⊎◌, inl, inr, ◌≡◌, ℕ, Bool, true, false, not, cond, ◌&&◌, ◌||◌, if◌then◌else◌, List, Option, refl, sym, ap, ◌∙◌, subst}
+use Rattle.std.proofs.Common.{◌⊎◌, inl, inr, ◌≡◌, Bool, true, false, not, ◌&&◌, ◌||◌, if◌then◌else◌, Option, refl, sym, ap, ◌∙◌}
 use Rattle.php_tree.specs.declared.kind.NodeKind.{NodeKind}
-use Rattle.php_tree.specs.declared.token.Token.{Token}
 use Rattle.php_tree.specs.declared.version.Version.{Version}
 use Rattle.php_tree.specs.declared.version.Version.TheVariants.{V74}
 use Rattle.php_tree.specs.Tree.{Forest, none, leaf, node, ◌+++◌}
-use Rattle.php_terminals.specs.declared.terminal.Terminal.{Terminal}
 use Rattle.php_terminals.specs.Classify.{terminal}
 use Rattle.php_shapes.specs.Notation.{Rule, nothing, word, kind, place, inside, ◌~◌, ◌|||◌, many, tokens}
 use Rattle.php_shapes.specs.Shapes.{Fits, is_nothing, is_word, is_kind, is_place, is_inside, is_both, is_first, is_second, no_more, once_more, is_tokens}
-use Rattle.tracked_changes.specs.Draft.{Draft, no_more, new_leaf, new_node, ◌then◌}
+use Rattle.tracked_changes.specs.Draft.{no_more, new_leaf, new_node, ◌then◌}
 use Rattle.syntax_rules.specs.Around.{Around, within}
 use Rattle.syntax_rules.specs.Rewritten as all
 use Rattle.tracked_changes.specs.Parens.{in_wrappings}
 use Rattle.tracked_changes.specs.Walk.{NewTree}
 use Rattle.syntax_rules.specs.HashComment.{hash_comment}
 use Rattle.rewritten_shapes.proofs.Calm.{asks_calm, calm_asked, calm_fresh, calm_shut, is_calm}
-use Rattle.rewritten_shapes.proofs.Shown.{begins_fresh, ends_shut, glued, glued_fresh, glued_shut, is_shut, names_whole, new_parts, shown, shown_then, shut_front, whole_then}
+use Rattle.rewritten_shapes.proofs.Shown.{begins_fresh, ends_shut, glued_fresh, glued_shut, is_shut, names_whole, new_parts, shown, shown_then, shut_front, whole_then}
 use Rattle.rewritten_shapes.proofs.Tabled.{changed, written}
 
 -- ---- booleans

@@ -1,16 +1,14 @@
 -- Nodes that the rules on syntax leave as they are, but for what stands in them.
-use Rattle.std.proofs.Common.{◌≡◌, ℕ, ◌≤◌, Bool, true, false, not, cond, ◌&&◌, ◌||◌, if◌then◌else◌, List, [], ◌∷◌, ◌++◌, Option, Some, None, refl, sym, ap, ◌∙◌, subst, arith}
+use Rattle.std.proofs.Common.{◌≡◌, Bool, true, false, ◌&&◌, if◌then◌else◌, List, [], ◌∷◌, ◌++◌, Option, Some, None, refl, ap, ◌∙◌}
 use Rattle.std.specs.Str.{bytes_eq}
 use Rattle.std.specs.Prelude.{codes}
 use Rattle.php_tree.specs.declared.kind.NodeKind.{NodeKind}
 use Rattle.php_tree.specs.declared.kind.NodeKind.TheVariants as k
-use Rattle.php_tree.specs.Tree.{Forest, Tree, none, leaf, node}
+use Rattle.php_tree.specs.Tree.{Forest}
 use Rattle.tree_patches.specs.Patches.{Wrapping, InParens}
-use Rattle.tracked_changes.specs.Draft.{Draft}
-use Rattle.tracked_changes.specs.Parens.{in_wrappings}
 use Rattle.tracked_changes.specs.Walk.{NewTree}
 use Rattle.syntax_rules.specs.Around.{Around, kind_if_first, operator_of, within}
-use Rattle.syntax_rules.specs.DotPrecedence.{around_dot, is_binary, is_dot, is_regrouped, takes_apart}
+use Rattle.syntax_rules.specs.DotPrecedence.{around_dot, is_binary, is_regrouped, takes_apart}
 use Rattle.syntax_rules.specs.NestedTernary as nested
 use Rattle.syntax_rules.specs.Rewritten as all
 use Rattle.rewritten_shapes.proofs.Shown.{new_parts, new_tree, new_tree_is, shown_tree, wrapped, changed_tree}

@@ -6,27 +6,26 @@ use Rattle.php_tree.specs.declared.token.Token.{Token}
 use Rattle.php_tree.specs.declared.token.TokenKind.{TokenKind}
 use Rattle.php_tree.specs.declared.token.TokenKind.TheVariants as token
 use Rattle.php_tree.specs.declared.version.Version.TheVariants.{V74, V83}
-use Rattle.php_tree.specs.Tree.{Forest, Tree, none, leaf, node, ◌+++◌}
+use Rattle.php_tree.specs.Tree.{Forest, none, leaf, ◌+++◌}
 use Rattle.php_terminals.specs.declared.terminal.Terminal.{Terminal}
 use Rattle.php_terminals.specs.declared.terminal.Terminal.TheVariants as t
 use Rattle.php_terminals.specs.Classify.{is_any_label, is_qualified, terminal, terminal_by}
 use Rattle.php_grammar.specs.Accepts.{accepts, same_class}
 use Rattle.php_shapes.specs.Names.{namespace_name}
 use Rattle.php_shapes.specs.Namespaces.{namespace_declaration}
-use Rattle.php_shapes.specs.Nearest.{goes_on_if, has_else, is_else, is_to}
+use Rattle.php_shapes.specs.Nearest.{goes_on_if, is_else, is_to}
 use Rattle.php_shapes.specs.Notation.{Rule, word, ◌~◌, ◌|||◌, braces}
 use Rattle.php_shapes.specs.Shapes.{Fits, IsNode, is_both, is_first, is_node, is_second, is_word}
 use Rattle.php_shapes.specs.Statements.{statements}
 use Rattle.tracked_changes.specs.Pieces.{after, before}
 use Rattle.tracked_changes.specs.Draft.{NewToken, Draft, new_leaf, ◌then◌}
-use Rattle.tracked_changes.specs.Draft as draft
 use Rattle.syntax_rules.specs.Around.{Around, within}
 use Rattle.syntax_rules.specs.HashComment.{hash_comment}
 use Rattle.syntax_rules.specs.SplitName.{begins_root, in_front, is_backslash, is_keyword, is_label, is_name, is_namespace, is_one, is_op}
 use Rattle.rewritten_shapes.specs.Laws.{AreSpelled, is_label_text}
 use Rattle.rewritten_shapes.proofs.Bilingual.{label_any, like_word, name_quiet, no_else, quiet_label, shown_terminal, spelled_front}
 use Rattle.rewritten_shapes.proofs.Calm.{shown_accepts, steady_shown}
-use Rattle.rewritten_shapes.proofs.Kept.{AllGood, Good, Kept, good_front, good_rest, kept, kept_both, kept_first, kept_join, kept_second}
+use Rattle.rewritten_shapes.proofs.Kept.{AllGood, Good, Kept, good_rest, kept, kept_both, kept_first, kept_join, kept_second}
 use Rattle.rewritten_shapes.proofs.Like.{like_leaf}
 use Rattle.rewritten_shapes.proofs.NameParts.{space_by}
 use Rattle.rewritten_shapes.proofs.Qualified.{qualified_is}

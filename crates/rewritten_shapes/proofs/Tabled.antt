@@ -1,10 +1,10 @@
 -- The draft of a file without the table of what is put round its nodes.
-use Rattle.std.proofs.Common.{◌≡◌, ℕ, zero, suc, ◌+◌, ◌<◌, Bool, true, false, ◌&&◌, if◌then◌else◌, List, [], ◌∷◌, ◌++◌, length, Option, Some, None, refl, ap, sym, ◌∙◌, arith, slice_get, length-append, add-zero, zero-add}
+use Rattle.std.proofs.Common.{◌≡◌, ℕ, zero, suc, ◌+◌, ◌<◌, Bool, true, false, if◌then◌else◌, List, [], ◌∷◌, ◌++◌, length, Option, refl, ap, sym, ◌∙◌, arith, slice_get, length-append, add-zero, zero-add}
 use Rattle.std.specs.Prelude.{unwrap_or}
 use Rattle.php_tree.specs.declared.kind.NodeKind.{NodeKind}
 use Rattle.php_tree.specs.Tree.{Forest, none, leaf, node, Tree, count}
 use Rattle.tree_patches.specs.Patches.{Patches, Wrapping}
-use Rattle.tracked_changes.specs.Draft.{Draft, no_more, new_leaf, new_node, ◌then◌}
+use Rattle.tracked_changes.specs.Draft.{Draft, no_more, new_leaf, ◌then◌}
 use Rattle.tracked_changes.specs.Parens.{in_wrappings}
 use Rattle.tracked_changes.specs.Walk.{NewTree, new_alone, drafted}
 use Rattle.syntax_rules.specs.Around.{Around, within, at_top}

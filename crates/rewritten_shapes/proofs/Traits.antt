@@ -1,14 +1,14 @@
 -- Uses of traits keep their shape: any tokens may stand between the braces.
-use Rattle.std.proofs.Common.{◌≡◌, ℕ, ◌+◌, ◌-◌, Bool, true, false, not, cond, ◌&&◌, ◌||◌, nat_eq, if◌then◌else◌, List, Option, refl, sym, ap, ◌∙◌, subst}
+use Rattle.std.proofs.Common.{◌≡◌, ℕ, ◌+◌, ◌-◌, Bool, true, false, not, cond, ◌&&◌, ◌||◌, nat_eq, if◌then◌else◌, Option, refl, sym, ap, ◌∙◌, subst}
 use Rattle.php_tree.specs.declared.kind.NodeKind.TheVariants as k
 use Rattle.php_tree.specs.declared.token.Token.{Token}
 use Rattle.php_tree.specs.declared.version.Version.TheVariants.{V74, V83}
-use Rattle.php_tree.specs.Tree.{Forest, Tree, none, leaf, node, ◌+++◌}
+use Rattle.php_tree.specs.Tree.{Forest, none, leaf, node, ◌+++◌}
 use Rattle.php_terminals.specs.declared.terminal.Terminal.{Terminal}
 use Rattle.php_terminals.specs.declared.terminal.Terminal.TheVariants as t
 use Rattle.php_terminals.specs.Classify.{terminal}
 use Rattle.php_terminals.specs.Marks.{closes, opens}
-use Rattle.php_grammar.specs.Accepts.{accepts, same_class}
+use Rattle.php_grammar.specs.Accepts.{same_class}
 use Rattle.php_shapes.specs.Declarations.{trait_use}
 use Rattle.php_shapes.specs.Names.{names}
 use Rattle.php_shapes.specs.Nearest.{elses_are_nearest, arrows_are_nearest, goes_on_if, has_else, is_else, is_to}
@@ -19,8 +19,8 @@ use Rattle.syntax_rules.specs.Around.{Around, within}
 use Rattle.syntax_rules.specs.HashComment.{hash_comment}
 use Rattle.syntax_rules.specs.SplitName.{in_front, is_one, one_name}
 use Rattle.rewritten_shapes.specs.Laws.{AreSpelled}
-use Rattle.rewritten_shapes.specs.RefusedWords.{has, has_before, has_refused, is_brace, is_keyword_now, named}
-use Rattle.rewritten_shapes.proofs.Bilingual.{Both, a_name, both_kept, keywords, or_false, right_false, shown_terminal, spelled_front}
+use Rattle.rewritten_shapes.specs.RefusedWords.{has, has_before, has_refused, is_brace, is_keyword_now}
+use Rattle.rewritten_shapes.proofs.Bilingual.{a_name, both_kept, keywords, shown_terminal, spelled_front}
 use Rattle.rewritten_shapes.proofs.Calm.{calm_shut, fresh_kind, is_calm, name_calm, steady_shown}
 use Rattle.rewritten_shapes.proofs.Kept.{AllGood, Good, Kept, good_front, good_rest, kept, kept_first, kept_join, kept_second}
 use Rattle.rewritten_shapes.proofs.Like.{Like, below_same, like_join, like_leaf, like_none}
@@ -28,8 +28,8 @@ use Rattle.rewritten_shapes.proofs.Marked.{before_front, both_no, brace, front_b
 use Rattle.rewritten_shapes.proofs.Named.{listed}
 use Rattle.rewritten_shapes.proofs.Own.{before_new}
 use Rattle.rewritten_shapes.proofs.Same.{assemble, lines_fine}
-use Rattle.rewritten_shapes.proofs.Shown.{fresh_is_one, is_fresh, is_shut, names_whole, new_parts, new_tree, shown, shown_token, shut_is_one}
-use Rattle.rewritten_shapes.proofs.Sides.{and_both, and_right, apart_parts, are_apart, still_first}
+use Rattle.rewritten_shapes.proofs.Shown.{fresh_is_one, names_whole, new_parts, new_tree, shown, shown_token, shut_is_one}
+use Rattle.rewritten_shapes.proofs.Sides.{and_right, apart_parts, are_apart, still_first}
 use Rattle.rewritten_shapes.proofs.Tabled.{written}
 
 -- ---- tokens of names

@@ -1,5 +1,5 @@
 -- Prefixes, `yield` and ternaries.
-use Rattle.std.proofs.Common.{◌≡◌, ℕ, ◌≤◌, max, Bool, true, false, not, cond, ◌&&◌, ◌||◌, ◌⊎◌, inl, inr, nat_le, codes, List, [], ◌∷◌, ◌++◌, if◌then◌else◌, Option, Some, None, refl, sym, ap, ◌∙◌, subst, arith}
+use Rattle.std.proofs.Common.{◌≡◌, ℕ, ◌≤◌, max, Bool, true, false, cond, ◌&&◌, inl, nat_le, [], ◌∷◌, ◌++◌, if◌then◌else◌, Option, refl, sym, ap, ◌∙◌, subst, arith}
 use Rattle.std.proofs.lemmas.Bool.{le-leb, leb-true}
 use Rattle.php_tree.specs.declared.kind.NodeKind.{NodeKind}
 use Rattle.php_tree.specs.declared.kind.NodeKind.TheVariants as k
@@ -14,26 +14,25 @@ use Rattle.php_grammar.specs.Accepts.{accepts}
 use Rattle.php_grammar.specs.Bases.{is_short_ternary}
 use Rattle.php_grammar.specs.Edges.{edge, edge_from}
 use Rattle.php_grammar.specs.Levels.{level, prefix_level, is_alone}
-use Rattle.php_shapes.specs.Forms.{form}
-use Rattle.php_shapes.specs.Nearest.{is_nearest, is_open_yield, is_value_alone, is_yield}
-use Rattle.php_shapes.specs.Notation.{Rule, nothing, word, place, ◌~◌, ◌|||◌, maybe, expr}
+use Rattle.php_shapes.specs.Nearest.{is_nearest, is_value_alone, is_yield}
+use Rattle.php_shapes.specs.Notation.{Rule, word, place, ◌~◌, ◌|||◌, expr}
 use Rattle.php_shapes.specs.Operators.{prefix, yield, ternary, short_ternary}
 use Rattle.php_shapes.specs.Places.{Place, Left, LeftShort, Operand, Target, is_expression, may_stand}
 use Rattle.php_shapes.specs.Shapes.{Fits, IsNode, is_nothing, is_both, is_first, is_node, is_place, is_second, is_word}
-use Rattle.tree_patches.specs.Patches.{Wrapping, InParens}
-use Rattle.syntax_rules.specs.Around.{Around, kind_if_first, within}
+use Rattle.tree_patches.specs.Patches.{InParens}
+use Rattle.syntax_rules.specs.Around.{Around, within}
 use Rattle.syntax_rules.specs.DotPrecedence.{around_dot, is_dot}
 use Rattle.syntax_rules.specs.HashComment.{hash_comment}
 use Rattle.syntax_rules.specs.NestedTernary as nested
 use Rattle.syntax_rules.specs.Rewritten as all
 use Rattle.rewritten_shapes.proofs.Calm.{shown_is}
-use Rattle.rewritten_shapes.proofs.Flat.{flat_fits, stops_flat}
-use Rattle.rewritten_shapes.proofs.Kept.{AllGood, Good, Kept, becomes_same, edge_is, edges_below, good_front, good_rest, is_ternary, kept, kept_join, parts_like, settled_like}
+use Rattle.rewritten_shapes.proofs.Flat.{flat_fits}
+use Rattle.rewritten_shapes.proofs.Kept.{AllGood, Good, Kept, becomes_same, edge_is, edges_below, is_ternary, kept, kept_join, parts_like, settled_like}
 use Rattle.rewritten_shapes.proofs.Like.{Below, below_same, like_nearest, like_node}
 use Rattle.rewritten_shapes.proofs.Operands.{EndsIn, dot_node, dots_by, ternaries_by}
 use Rattle.rewritten_shapes.proofs.Same.{lines_fine}
 use Rattle.rewritten_shapes.proofs.Shown.{changed_tree, in_paren, new_parts, new_tree, new_tree_is, shown_token, wrapped}
-use Rattle.rewritten_shapes.proofs.Sides.{and_left, and_right, and_both, still_first}
+use Rattle.rewritten_shapes.proofs.Sides.{and_left, and_right, and_both}
 use Rattle.rewritten_shapes.proofs.Simple.{simple_tree}
 use Rattle.rewritten_shapes.proofs.Wrapped.{paren_edge, wrapped_good}
 

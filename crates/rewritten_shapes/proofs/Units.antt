@@ -1,15 +1,14 @@
 -- Names become one token.
-use Rattle.std.proofs.Common.{◌≡◌, ◌==◌, ℕ, Bool, true, false, not, cond, ◌&&◌, ◌||◌, ◌⊎◌, inl, inr, if◌then◌else◌, codes, List, [], ◌∷◌, ◌++◌, Option, refl, sym, ap, ◌∙◌, subst, append-nil}
-use Rattle.std.specs.Str.{bytes_eq, str_to_ascii_lowercase}
+use Rattle.std.proofs.Common.{◌≡◌, ◌==◌, ℕ, Bool, true, false, not, ◌&&◌, ◌||◌, ◌⊎◌, inl, inr, if◌then◌else◌, codes, List, [], ◌∷◌, ◌++◌, Option, refl, sym, ap, ◌∙◌, subst}
 use Rattle.php_tree.specs.declared.token.Token.{Token}
 use Rattle.php_tree.specs.declared.token.TokenKind.{TokenKind}
 use Rattle.php_tree.specs.declared.token.TokenKind.TheVariants as token
-use Rattle.php_tree.specs.declared.version.Version.TheVariants.{V74, V83}
-use Rattle.php_tree.specs.Tree.{Forest, none, leaf, node, ◌+++◌}
+use Rattle.php_tree.specs.declared.version.Version.TheVariants.{V74}
+use Rattle.php_tree.specs.Tree.{Forest, leaf, ◌+++◌}
 use Rattle.php_terminals.specs.declared.terminal.Terminal.TheVariants as t
 use Rattle.php_grammar.specs.Accepts.{accepts}
-use Rattle.php_shapes.specs.Names.{more_of_name, lead_of_name, name}
-use Rattle.php_shapes.specs.Notation.{Rule, nothing, word, ◌~◌, ◌|||◌, many}
+use Rattle.php_shapes.specs.Names.{more_of_name, name}
+use Rattle.php_shapes.specs.Notation.{word, ◌~◌}
 use Rattle.php_shapes.specs.Shapes.{Fits, is_nothing, is_word, is_both, is_first, is_second, no_more, once_more}
 use Rattle.tracked_changes.specs.Pieces.{after, before}
 use Rattle.tracked_changes.proofs.Joining.{after-append}
@@ -21,7 +20,7 @@ use Rattle.syntax_rules.specs.SplitName.{begins_root, deleted, in_front, is_back
 use Rattle.rewritten_shapes.specs.Laws.{AreSpelled, has_no_root, is_label_text, is_spelled_by}
 use Rattle.rewritten_shapes.proofs.NameParts.{label_token, root_token, space_token}
 use Rattle.rewritten_shapes.proofs.OperatorWords.{backslash_is}
-use Rattle.rewritten_shapes.proofs.Shown.{names_whole, shown, new_parts}
+use Rattle.rewritten_shapes.proofs.Shown.{names_whole}
 use Rattle.rewritten_shapes.proofs.Sides.{and_both, and_left}
 use Rattle.rewritten_shapes.proofs.Tabled.{written}
 

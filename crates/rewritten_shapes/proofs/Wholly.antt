@@ -1,15 +1,11 @@
 -- The whole: each node of a file becomes a good one, so the rewritten file has the shape.
-use Rattle.std.proofs.Common.{◌≡◌, Bool, true, false, List, [], ◌∷◌, Option, refl, sym, ap, ◌∙◌, subst}
+use Rattle.std.proofs.Common.{◌≡◌, true, false, Option, refl, sym, ap, ◌∙◌}
 use Rattle.php_tree.specs.declared.kind.NodeKind.{NodeKind}
 use Rattle.php_tree.specs.declared.kind.NodeKind.TheVariants as k
 use Rattle.php_tree.specs.declared.kind.NodeKind.TheVariants.{Quoted}
-use Rattle.php_tree.specs.declared.token.TokenKind.{TokenKind}
 use Rattle.php_tree.specs.declared.version.Version.TheVariants.{V74, V83}
-use Rattle.php_tree.specs.Places.{placed}
-use Rattle.php_tree.specs.Tree.{File, Forest, Tree, none, leaf, node}
-use Rattle.php_parser.specs.Ends.{is_end}
-use Rattle.php_shapes.specs.Shapes.{Fits, IsNode, Shape}
-use Rattle.php_shapes.specs.Statements.{statements}
+use Rattle.php_tree.specs.Tree.{Forest, none, leaf, node}
+use Rattle.php_shapes.specs.Shapes.{IsNode}
 use Rattle.tracked_changes.specs.Draft as draft
 use Rattle.tracked_changes.specs.Walk.{drafted}
 use Rattle.syntax_rules.specs.Around.{Around, at_top}
@@ -24,11 +20,11 @@ use Rattle.rewritten_shapes.proofs.Binaries.{good_binary}
 use Rattle.rewritten_shapes.proofs.Braces.{good_brace, good_cast}
 use Rattle.rewritten_shapes.proofs.Classes.{good_class, good_class_constant, good_interface, good_static_call, good_static_prop, good_trait}
 use Rattle.rewritten_shapes.proofs.Named.{good_call, good_const, good_constant, good_declare, good_function, good_goto, good_instanceof, good_labelstmt, good_new, good_try, good_typename}
-use Rattle.rewritten_shapes.proofs.Kept.{AllGood, Good, Kept, kept}
+use Rattle.rewritten_shapes.proofs.Kept.{AllGood, Good, kept}
 use Rattle.rewritten_shapes.proofs.Same.{good_same}
 use Rattle.rewritten_shapes.proofs.Spaces.{good_namespace}
 use Rattle.rewritten_shapes.proofs.Shown.{bare_rewritten, new_parts, new_tree, shown, shown_apart, names_whole}
-use Rattle.rewritten_shapes.proofs.Tabled.{drafted_is, written}
+use Rattle.rewritten_shapes.proofs.Tabled.{drafted_is}
 use Rattle.rewritten_shapes.proofs.Traits.{good_trait_use}
 use Rattle.rewritten_shapes.proofs.Unaries.{good_prefix, good_short, good_ternary, good_yield}
 

@@ -1,22 +1,20 @@
 -- Nodes in parentheses.
-use Rattle.std.proofs.Common.{◌≡◌, ℕ, ◌≤◌, max, Bool, true, false, not, cond, ◌&&◌, ◌||◌, ◌⊎◌, inl, inr, if◌then◌else◌, nat_le, codes, List, [], ◌∷◌, ◌++◌, Option, Some, None, refl, sym, ap, ◌∙◌, subst, arith}
+use Rattle.std.proofs.Common.{◌≡◌, max, Bool, true, false, not, ◌&&◌, ◌||◌, nat_le, codes, List, [], ◌∷◌, refl, sym, ap, ◌∙◌, subst, arith}
 use Rattle.php_tree.specs.declared.kind.NodeKind.{NodeKind}
 use Rattle.php_tree.specs.declared.kind.NodeKind.TheVariants as k
 use Rattle.php_tree.specs.declared.kind.NodeKind.TheVariants.{Paren}
 use Rattle.php_tree.specs.declared.version.Version.TheVariants.{V74, V83}
-use Rattle.php_tree.specs.Tree.{Forest, Tree, none, leaf, node}
+use Rattle.php_tree.specs.Tree.{Forest, Tree}
 use Rattle.php_terminals.specs.declared.terminal.Terminal.{Terminal}
 use Rattle.php_terminals.specs.declared.terminal.Terminal.TheVariants as t
 use Rattle.php_terminals.specs.Classify.{terminal}
 use Rattle.php_terminals.specs.Words.{operators}
 use Rattle.php_grammar.specs.Accepts.{accepts}
 use Rattle.php_grammar.specs.Edges.{edge, edge_from}
-use Rattle.php_grammar.specs.Levels.{binary_level, first_leaf, level, middle_leaf, prefix_level}
-use Rattle.php_shapes.specs.Forms.{form}
+use Rattle.php_grammar.specs.Levels.{binary_level, level, middle_leaf}
 use Rattle.php_shapes.specs.Nearest.{arrows_are_nearest, elses_are_nearest, ends_in_if, ends_in_yield, goes_on_if, is_nearest, is_open_if, is_open_yield, is_to}
-use Rattle.php_shapes.specs.Notation.{parens, expr}
 use Rattle.php_shapes.specs.Places.{Operand, is_class_name, is_expression, is_prefix, may_stand}
-use Rattle.php_shapes.specs.Shapes.{Fits, IsNode, is_both, is_node, is_place, is_word}
+use Rattle.php_shapes.specs.Shapes.{IsNode, is_both, is_node, is_place, is_word}
 use Rattle.tree_patches.specs.Patches.{Wrapping, InParens}
 use Rattle.rewritten_shapes.proofs.Kept.{Good, becomes_paren, edge_is, is_bare}
 use Rattle.rewritten_shapes.proofs.Like.{Below, below_zero}
