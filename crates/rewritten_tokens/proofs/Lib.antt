@@ -1,0 +1,5 @@
+pub mod Tiling
+pub mod Modes
+pub mod Follows
+pub mod Newer
+pub mod Uncut
