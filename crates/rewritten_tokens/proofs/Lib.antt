@@ -3,3 +3,4 @@ pub mod Modes
 pub mod Follows
 pub mod Newer
 pub mod Uncut
+pub mod Spelled

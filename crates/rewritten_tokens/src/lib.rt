@@ -3,6 +3,7 @@
 
 ghost use Rattle.rewritten_tokens.specs.Tokens.{TokensAreTiles};
 ghost use Rattle.rewritten_tokens.specs.Names.{SameInNewer};
+ghost use Rattle.rewritten_tokens.specs.Whole.{TokensInNewer};
 
 /// The tokens of any bytes stand in a row with their trivia, each the longest of the mode that those
 /// before leave.
@@ -16,6 +17,12 @@ pub fn same_in_newer()
     ensures { SameInNewer }
 {}
 
+/// Such bytes with names apart from other words have in 8.3 the tokens of 7.4, with each name one
+/// token.
+pub fn tokens_in_newer()
+    ensures { TokensInNewer }
+{}
+
 #[cfg(test)]
 mod tests {
     use super::*;
@@ -24,5 +31,6 @@ mod tests {
     fn laws_can_be_called() {
         tokens_are_tiles();
         same_in_newer();
+        tokens_in_newer();
     }
 }
