@@ -4,3 +4,6 @@ pub mod Follows
 pub mod Newer
 pub mod Uncut
 pub mod Spelled
+pub mod Placing
+pub mod Written
+pub mod Drafted

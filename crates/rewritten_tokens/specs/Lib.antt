@@ -1,3 +1,5 @@
 pub mod Tokens
 pub mod Names
 pub mod Whole
+pub mod Written
+pub mod Drafted

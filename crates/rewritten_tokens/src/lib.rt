@@ -4,6 +4,8 @@
 ghost use Rattle.rewritten_tokens.specs.Tokens.{TokensAreTiles};
 ghost use Rattle.rewritten_tokens.specs.Names.{SameInNewer};
 ghost use Rattle.rewritten_tokens.specs.Whole.{TokensInNewer};
+ghost use Rattle.rewritten_tokens.specs.Written.{RewrittenHasTokens, RowsAreWritten};
+ghost use Rattle.rewritten_tokens.specs.Drafted.{NamesInOrder};
 
 /// The tokens of any bytes stand in a row with their trivia, each the longest of the mode that those
 /// before leave.
@@ -23,6 +25,23 @@ pub fn tokens_in_newer()
     ensures { TokensInNewer }
 {}
 
+/// The tokens of the file that a draft rewrites are those of the draft.
+pub fn rewritten_has_tokens()
+    ensures { RewrittenHasTokens }
+{}
+
+/// A rewritten file has its tokens in 8.3, where 7.4 has a row of tokens and trivia with the same
+/// ones but for names, and 8.3 takes this row as 7.4 does.
+pub fn rows_are_written()
+    ensures { RowsAreWritten }
+{}
+
+/// The rule on names makes of a draft's tokens whole names, apart from keywords, where each name
+/// stands within one node.
+pub fn names_in_order()
+    ensures { NamesInOrder }
+{}
+
 #[cfg(test)]
 mod tests {
     use super::*;
@@ -32,5 +51,8 @@ mod tests {
         tokens_are_tiles();
         same_in_newer();
         tokens_in_newer();
+        rewritten_has_tokens();
+        rows_are_written();
+        names_in_order();
     }
 }
