@@ -7,3 +7,4 @@ pub mod Spelled
 pub mod Placing
 pub mod Written
 pub mod Drafted
+pub mod Parted

@@ -3,3 +3,4 @@ pub mod Names
 pub mod Whole
 pub mod Written
 pub mod Drafted
+pub mod Parted

@@ -6,6 +6,7 @@ ghost use Rattle.rewritten_tokens.specs.Names.{SameInNewer};
 ghost use Rattle.rewritten_tokens.specs.Whole.{TokensInNewer};
 ghost use Rattle.rewritten_tokens.specs.Written.{RewrittenHasTokens, RowsAreWritten};
 ghost use Rattle.rewritten_tokens.specs.Drafted.{NamesInOrder};
+ghost use Rattle.rewritten_tokens.specs.Parted.{WholeOfParts};
 
 /// The tokens of any bytes stand in a row with their trivia, each the longest of the mode that those
 /// before leave.
@@ -42,6 +43,11 @@ pub fn names_in_order()
     ensures { NamesInOrder }
 {}
 
+/// Whole names are those of the tokens in parts, without the trivia inside.
+pub fn whole_of_parts()
+    ensures { WholeOfParts }
+{}
+
 #[cfg(test)]
 mod tests {
     use super::*;
@@ -54,5 +60,6 @@ mod tests {
         rewritten_has_tokens();
         rows_are_written();
         names_in_order();
+        whole_of_parts();
     }
 }
