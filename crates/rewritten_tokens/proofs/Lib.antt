@@ -8,3 +8,5 @@ pub mod Placing
 pub mod Written
 pub mod Drafted
 pub mod Parted
+pub mod Spaced
+pub mod Parts

@@ -4,3 +4,4 @@ pub mod Whole
 pub mod Written
 pub mod Drafted
 pub mod Parted
+pub mod Spaced

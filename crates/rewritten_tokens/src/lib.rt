@@ -7,6 +7,7 @@ ghost use Rattle.rewritten_tokens.specs.Whole.{TokensInNewer};
 ghost use Rattle.rewritten_tokens.specs.Written.{RewrittenHasTokens, RowsAreWritten};
 ghost use Rattle.rewritten_tokens.specs.Drafted.{NamesInOrder};
 ghost use Rattle.rewritten_tokens.specs.Parted.{WholeOfParts};
+ghost use Rattle.rewritten_tokens.specs.Spaced.{SpacesComeFirst, PartsAreWritten};
 
 /// The tokens of any bytes stand in a row with their trivia, each the longest of the mode that those
 /// before leave.
@@ -48,6 +49,17 @@ pub fn whole_of_parts()
     ensures { WholeOfParts }
 {}
 
+/// Spaces may be put before names that are still in parts.
+pub fn spaces_come_first()
+    ensures { SpacesComeFirst }
+{}
+
+/// A rewritten file has its tokens in 8.3, where 7.4 has the row of its tokens and trivia with names
+/// in parts, and 8.3 takes this row as 7.4 does.
+pub fn parts_are_written()
+    ensures { PartsAreWritten }
+{}
+
 #[cfg(test)]
 mod tests {
     use super::*;
@@ -61,5 +73,7 @@ mod tests {
         rows_are_written();
         names_in_order();
         whole_of_parts();
+        spaces_come_first();
+        parts_are_written();
     }
 }
