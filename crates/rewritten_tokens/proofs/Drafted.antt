@@ -1,8 +1,8 @@
 -- The rule on names, on a draft's tokens in order.
-use Rattle.std.proofs.Common.{◌≡◌, Bool, true, false, cond, not, ◌&&◌, List, [], ◌∷◌, ◌++◌, refl, sym, ap, ◌∙◌, subst}
+use Rattle.std.proofs.Common.{◌≡◌, Bool, true, false, cond, not, ◌&&◌, List, [], ◌∷◌, ◌++◌, refl, sym, ap, ◌∙◌}
 use Rattle.std.proofs.lemmas.Bool.{and_parts}
 use Rattle.tracked_changes.specs.Draft.{NewToken, Draft, no_more, new_leaf, new_node}
-use Rattle.syntax_rules.specs.SplitName.{is_one, one_name, in_front, whole_names, space_before, keyword_behind, keyword_last, apart, split_name}
+use Rattle.syntax_rules.specs.SplitName.{is_one, one_name, in_front, whole_names, space_before, keyword_behind, keyword_last, apart}
 use Rattle.rewritten_tokens.specs.Written.{draft_tokens}
 use Rattle.rewritten_tokens.specs.Drafted.{before_all, all_whole, all_spaced, joins, last_joins, begins_node, names_within, NamesInOrder}
 
@@ -113,7 +113,7 @@ whole_drafted (new_leaf t d) h =
     let (one, more) = and_parts (not (begins_node d && joins t (all_whole (draft_tokens d)))) (names_within d) h in
     let ih = whole_drafted d more in
     let none : (begins_node (whole_names true d) && joins t (draft_tokens (whole_names true d))) ≡ false =
-        rw (node_whole d, ih) (not_it (begins_node d && joins t (all_whole (draft_tokens d))) one) in
+    rw (node_whole d, ih) (not_it (begins_node d && joins t (all_whole (draft_tokens d))) one) in
     front_drafted t (whole_names true d) none ∙ ap (before_all t) ih
 whole_drafted (new_node k c d) h =
     let (one, more) = and_parts (not (last_joins (draft_tokens c) (all_whole (draft_tokens d)))) (names_within c && names_within d) h in

@@ -1,5 +1,5 @@
 -- What follows words, `\` and comments in code.
-use Rattle.std.proofs.Common.{◌≡◌, ℕ, suc, ◌+◌, ◌<◌, ◌≤◌, Bool, true, false, cond, not, ◌&&◌, ◌||◌, nat_eq, List, [], ◌∷◌, ◌++◌, length, take, drop, Option, Some, None, refl, sym, ap, ◌∙◌, subst, arith}
+use Rattle.std.proofs.Common.{◌≡◌, ℕ, suc, ◌+◌, Bool, true, false, cond, ◌&&◌, ◌||◌, nat_eq, List, [], ◌∷◌, ◌++◌, length, take, drop, Option, Some, None, refl, sym, ap, ◌∙◌, subst, arith}
 use Rattle.std.proofs.lemmas.Bool.{eqb-true, and_parts}
 use Rattle.std.proofs.lemmas.Bool.Decides.{nat_tests}
 use Rattle.std.proofs.lemmas.List.{length-append}
@@ -7,20 +7,19 @@ use Rattle.std.proofs.Math.Seq.{take-append-add}
 use Rattle.php_tree.specs.declared.version.Version.TheVariants.{V74, V83}
 use Rattle.php_spellings.specs.declared.table.Kind.{Kind}
 use Rattle.php_spellings.specs.declared.table.Kind.TheVariants.{Comment, Word, Op}
-use Rattle.php_spellings.specs.declared.table.State.{State}
 use Rattle.php_spellings.specs.declared.table.State.TheVariants.{First, Plain}
 use Rattle.php_spellings.specs.declared.table.Run.TheVariants.{Labels, Line, HashLine}
 use Rattle.php_spellings.specs.declared.table.Tail.TheVariants.{AnyWord}
 use Rattle.php_spellings.specs.Bytes.{lower, is_letter, is_label_byte, is_empty, begins, begins_by}
 use Rattle.php_lexer.specs.Heredocs.{led}
 use Rattle.php_lexer.specs.Tails.{is_run}
-use Rattle.php_lexer.specs.Rules.{Row, rule, is_tail, is_b, begins_text, kind_by}
+use Rattle.php_lexer.specs.Rules.{Row, rule, is_tail, kind_by}
 use Rattle.php_lexer.specs.RulesCode.{code_rows}
 use Rattle.php_lexer.specs.Modes.{code, kind_of, IsLongest}
 use Rattle.php_lexer.specs.Scan.{scan, run_len, add_to, word_len, longer}
 use Rattle.php_lexer.proofs.Dispatch.{other_head, older_scan}
 use Rattle.php_lexer.proofs.Single.{same_kind, same_length}
-use Rattle.php_relexing.specs.Newer.{begins_deeper, goes_deeper}
+use Rattle.php_relexing.specs.Newer.{goes_deeper}
 use Rattle.php_relexing.specs.Labels.{all_label, is_label}
 use Rattle.php_relexing.proofs.Scanned.{found, found_length, scan_of, longest_of}
 use Rattle.php_relexing.proofs.NameRows.{word_alone}

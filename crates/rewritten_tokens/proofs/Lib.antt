@@ -9,4 +9,5 @@ pub mod Written
 pub mod Drafted
 pub mod Parted
 pub mod Spaced
+pub mod Ending
 pub mod Parts

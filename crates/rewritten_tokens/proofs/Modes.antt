@@ -1,5 +1,5 @@
 -- What a token does to the modes in both versions.
-use Rattle.std.proofs.Common.{◌≡◌, ℕ, suc, Bool, true, false, cond, not, ◌&&◌, ◌||◌, nat_eq, List, [], ◌∷◌, ◌++◌, length, take, drop, Option, Some, None, refl, sym, ap, ◌∙◌, subst}
+use Rattle.std.proofs.Common.{◌≡◌, ℕ, suc, Bool, true, false, cond, not, ◌&&◌, nat_eq, List, [], ◌∷◌, ◌++◌, length, take, drop, Option, Some, None, refl, ap, subst}
 use Rattle.std.proofs.lemmas.Bool.{eqb-true, and_parts}
 use Rattle.php_tree.specs.declared.version.Version.TheVariants.{V74, V83}
 use Rattle.php_spellings.specs.declared.table.Kind.{Kind}
@@ -7,9 +7,8 @@ use Rattle.php_spellings.specs.declared.table.Kind.TheVariants.{InlineHtml, Vari
 use Rattle.php_spellings.specs.declared.table.Mark.{Mark}
 use Rattle.php_spellings.specs.declared.table.Mark.TheVariants.{Double, Back, Here}
 use Rattle.php_spellings.specs.Bytes.{begins_by}
-use Rattle.php_lexer.specs.Modes.{Mode, html, code, named, quoted, offset, property, Turn, stay, enter, leave, is_byte, begins_arrow, begins_property, part_turn, quoted_turn, turn_of, kind_of, IsLongest}
+use Rattle.php_lexer.specs.Modes.{Mode, html, code, named, quoted, offset, property, Turn, stay, enter, leave, is_byte, begins_property, quoted_turn, turn_of, IsLongest}
 use Rattle.php_lexer.specs.Lexed.{Stack, turned_by, turn_at, after}
-use Rattle.php_lexer.specs.Scan.{scan}
 use Rattle.php_lexer.proofs.Dispatch.{other_head}
 use Rattle.php_relexing.proofs.Scanned.{found, scan_of, rescanned}
 use Rattle.php_relexing.proofs.Picked.{longest_meets}

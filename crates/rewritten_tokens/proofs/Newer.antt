@@ -1,30 +1,19 @@
 -- Bytes without an edit: 8.3 has the tokens and trivia of 7.4, with each name one token.
-use Rattle.std.proofs.Common.{◌≡◌, ℕ, zero, suc, ◌+◌, Bool, true, false, cond, not, ◌&&◌, ◌||◌, nat_eq, List, [], ◌∷◌, ◌++◌, length, take, drop, refl, sym, ap, ◌∙◌, subst, append_assoc, arith}
-use Rattle.std.proofs.lemmas.Bool.{eqb-true, and_parts}
+use Rattle.std.proofs.Common.{◌≡◌, ℕ, Bool, true, false, cond, ◌||◌, nat_eq, List, [], ◌∷◌, ◌++◌, length, refl, ap, ◌∙◌, append_assoc, arith}
+use Rattle.std.proofs.lemmas.Bool.{and_parts}
 use Rattle.std.proofs.lemmas.Bool.Decides.{nat_tests}
-use Rattle.std.proofs.lemmas.List.{length-append}
-use Rattle.std.proofs.Math.Seq.{drop-append_seam}
-use Rattle.php_tree.specs.declared.version.Version.{Version}
-use Rattle.php_tree.specs.declared.version.Version.TheVariants.{V74, V83}
+use Rattle.php_tree.specs.declared.version.Version.TheVariants.{V83}
 use Rattle.php_spellings.specs.declared.table.Kind.{Kind}
-use Rattle.php_spellings.specs.declared.table.Kind.TheVariants.{Comment, Variable, Word, Name, Op, Piece, DollarBrace}
+use Rattle.php_spellings.specs.declared.table.Kind.TheVariants.{Word, Name}
 use Rattle.php_spellings.specs.declared.table.Shape.TheVariants as shape
-use Rattle.php_spellings.specs.declared.table.Spot.TheVariants.{Begin, FirstLabel, Backslash, LaterLabel}
-use Rattle.php_spellings.specs.Bytes.{is_letter, is_label_byte, begins, begins_by}
+use Rattle.php_spellings.specs.declared.table.Spot.TheVariants.{FirstLabel, Backslash, LaterLabel}
+use Rattle.php_spellings.specs.Bytes.{is_letter, is_label_byte, begins}
 use Rattle.php_lexer.specs.Shapes.{has_shape}
-use Rattle.php_lexer.specs.Modes.{Mode, html, code, named, quoted, offset, property, begins_arrow, begins_property, IsLongest}
-use Rattle.php_lexer.specs.Lexed.{Stack, after}
+use Rattle.php_lexer.specs.Modes.{code, IsLongest}
 use Rattle.php_relexing.specs.Tiles.{Tile, tile, joined}
-use Rattle.php_relexing.specs.Spelled.{Steps, done, step}
-use Rattle.php_relexing.specs.Newer.{begins_deeper, goes_deeper, begins_name, ends_name}
 use Rattle.php_relexing.specs.Labels.{all_label, is_label, is_name}
 use Rattle.php_relexing.proofs.Picked.{longest_meets}
-use Rattle.php_relexing.proofs.Newer.{same_in_newer_code, same_in_newer_texts}
-use Rattle.php_relexing.proofs.Names.{names_are_tokens}
-use Rattle.php_relexing.proofs.Labels.{words_are_labels}
-use Rattle.rewritten_tokens.specs.Names.{goes_on_root, is_rooted, are_one, in_front, whole_names, begins_word, begins_nullsafe, is_common, all_common, is_named, is_unnamed, SameInNewer}
-use Rattle.rewritten_tokens.proofs.Modes.{is_variable, SameProperty, is_dollar_brace, no_name_kind, is_quoted, same_after, unnamed_after, unnamed_top, property_stays, piece_is, no_word, no_root}
-use Rattle.rewritten_tokens.proofs.Follows.{word_ends, word_first, root_kind, root_alone, hash_kind, hash_stays}
+use Rattle.rewritten_tokens.specs.Names.{goes_on_root, is_rooted, are_one, in_front, whole_names, begins_word}
 
 -- ---- joined rows have the same bytes
 

@@ -4,10 +4,10 @@ use Rattle.php_tree.specs.declared.token.TokenKind.{TokenKind}
 use Rattle.php_tree.specs.declared.token.TokenKind.TheVariants as token
 use Rattle.php_spellings.specs.Bytes.{is_empty, begins_by}
 use Rattle.php_lexer.specs.Lexed.{Lexeme}
-use Rattle.tracked_changes.specs.Pieces.{Piece, kept, changed, also, new_bytes, old_bytes, before, after}
+use Rattle.tracked_changes.specs.Pieces.{Piece, new_bytes, old_bytes, before, after}
 use Rattle.tracked_changes.specs.Draft.{NewToken}
 use Rattle.syntax_rules.specs.SplitName as names
-use Rattle.rewritten_tokens.specs.Whole.{is_label_kind, is_name_kind, is_keyword_kind, is_op_kind, is_namespace, begins_label, is_backslash, goes_on_name, is_one, before_tokens, whole_tokens}
+use Rattle.rewritten_tokens.specs.Whole.{is_label_kind, is_name_kind, is_keyword_kind, is_namespace, is_backslash, is_one, before_tokens, whole_tokens}
 use Rattle.rewritten_tokens.specs.Written.{new_lexeme}
 use Rattle.rewritten_tokens.specs.Drafted.{before_all, all_whole, joins}
 use Rattle.rewritten_tokens.specs.Parted.{bare, parted, SamePart, HasText, NamesStay, WholeOfParts}

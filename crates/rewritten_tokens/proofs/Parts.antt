@@ -1,19 +1,17 @@
 -- A rewritten file has its tokens where 7.4 has the row with names in parts.
-use Rattle.std.proofs.Common.{◌≡◌, ℕ, Bool, true, false, cond, ◌&&◌, ◌||◌, List, [], ◌∷◌, ◌++◌, map, refl, sym, ap, ◌∙◌, subst}
+use Rattle.std.proofs.Common.{◌≡◌, ℕ, Bool, true, false, cond, ◌&&◌, List, [], ◌∷◌, ◌++◌, map, refl, sym, ap, ◌∙◌, subst}
+use Rattle.php_tree.specs.declared.version.Version.TheVariants.{V74}
 use Rattle.php_tree.specs.declared.token.TokenKind.{TokenKind}
 use Rattle.php_tree.specs.declared.token.TokenKind.TheVariants as token
-use Rattle.php_tree.specs.Tree.{File}
 use Rattle.php_spellings.specs.Bytes.{is_empty}
 use Rattle.php_lexer.specs.Lexed.{Lexeme}
-use Rattle.php_relexing.specs.Tiles.{Tile}
-use Rattle.php_relexing.specs.Spelled.{spelled}
 use Rattle.tracked_changes.specs.Draft.{NewToken}
 use Rattle.syntax_rules.specs.Rewritten.{draft_of}
 use Rattle.rewritten_tokens.specs.Whole.{is_one, begins_label, is_backslash, before_tokens, whole_tokens}
 use Rattle.rewritten_tokens.specs.Written.{new_lexeme, draft_tokens, file_tokens}
-use Rattle.rewritten_tokens.specs.Drafted.{all_whole, all_spaced}
 use Rattle.rewritten_tokens.specs.Parted.{parted}
 use Rattle.rewritten_tokens.specs.Spaced.{nameless_draft, in_parts, PartsAreWritten}
+use Rattle.rewritten_tokens.proofs.Ending.{end_is_read}
 use Rattle.rewritten_tokens.proofs.Written.{rows_are_written}
 use Rattle.rewritten_tokens.proofs.Drafted.{names_in_order}
 use Rattle.rewritten_tokens.proofs.Parted.{whole_of_parts}
@@ -49,14 +47,13 @@ with_end : (xs : List Lexeme) (e : Lexeme) → e.kind ≡ token.End → whole_to
 with_end xs e h = subst (λ (k : TokenKind). whole_tokens (xs ++ record e { kind = k } ∷ []) ≡ whole_tokens xs ++ record e { kind = k } ∷ []) (sym h) (end_whole xs e.lead e.text)
 
 pub parts_are_written : PartsAreWritten
-parts_are_written f us end within texts stay steps common apart same =
-    let tokens : List NewToken = draft_tokens (nameless_draft f).statements in
-    let last : Lexeme = new_lexeme (nameless_draft f).end in
+parts_are_written bytes f us read within texts stay steps common apart same =
+    let end : f.end.kind ≡ token.End = end_is_read V74 bytes f read in
     let names : map new_lexeme (draft_tokens (draft_of f).statements) ≡ whole_tokens (map new_lexeme (parted (in_parts f))) =
-        ap (map new_lexeme) (names_in_order (nameless_draft f).statements within ∙ spaces_come_first false (draft_tokens (nameless_draft f).statements) texts)
-        ∙ whole_of_parts (in_parts f) stay in
+    ap (map new_lexeme) (names_in_order (nameless_draft f).statements within ∙ spaces_come_first false (draft_tokens (nameless_draft f).statements) texts)
+    ∙ whole_of_parts (in_parts f) stay in
     let all : map new_lexeme (file_tokens (draft_of f)) ≡ whole_tokens (map new_lexeme (parted (in_parts f)) ++ new_lexeme (nameless_draft f).end ∷ []) =
-        map_append (draft_tokens (draft_of f).statements) ((draft_of f).end ∷ [])
-        ∙ ap (λ (l : List Lexeme). l ++ new_lexeme (nameless_draft f).end ∷ []) names
-        ∙ sym (with_end (map new_lexeme (parted (in_parts f))) (new_lexeme (nameless_draft f).end) end) in
+    map_append (draft_tokens (draft_of f).statements) ((draft_of f).end ∷ [])
+    ∙ ap (λ (l : List Lexeme). l ++ new_lexeme (nameless_draft f).end ∷ []) names
+    ∙ sym (with_end (map new_lexeme (parted (in_parts f))) (new_lexeme (nameless_draft f).end) end) in
     rows_are_written (draft_of f) us steps common apart (ap whole_tokens same ∙ sym all)

@@ -1,11 +1,11 @@
 -- Tokens of a file whose tokens stand in their places.
-use Rattle.std.proofs.Common.{◌≡◌, ℕ, ◌+◌, List, [], ◌∷◌, ◌++◌, map, length, refl, sym, ap, ◌∙◌, subst, append_assoc, append-nil}
+use Rattle.std.proofs.Common.{◌≡◌, ℕ, List, [], ◌∷◌, ◌++◌, map, refl, sym, ap, ◌∙◌, subst, append_assoc, append-nil}
 use Rattle.php_tree.specs.declared.token.Token.{Token}
 use Rattle.php_tree.specs.Tree.{Forest, none, leaf, node, File, leaves, token_bytes, tokens_bytes, printed, file_leaves, file_printed}
 use Rattle.php_tree.specs.Places.{behind, token_at, end_of, placed, placed_file, ArePlaced}
 use Rattle.php_lexer.specs.Lexed.{Lexeme, lexeme}
-use Rattle.tracked_changes.specs.Draft.{NewToken, Draft, no_more, new_leaf, new_node, FileDraft, rewritten_token, rewritten, rewritten_file}
-use Rattle.rewritten_tokens.specs.Written.{new_lexeme, draft_tokens, file_tokens, RewrittenHasTokens}
+use Rattle.tracked_changes.specs.Draft.{Draft, no_more, new_leaf, new_node, rewritten_token, rewritten}
+use Rattle.rewritten_tokens.specs.Written.{new_lexeme, draft_tokens, RewrittenHasTokens}
 
 -- ---- places
 

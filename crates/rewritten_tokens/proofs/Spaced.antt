@@ -1,12 +1,12 @@
 -- Spaces may be put before names that are still in parts.
-use Rattle.std.proofs.Common.{◌≡◌, ℕ, Bool, true, false, cond, not, ◌&&◌, ◌||◌, List, [], ◌∷◌, ◌++◌, codes, refl, sym, ap, ◌∙◌, subst, append_assoc, append-nil}
+use Rattle.std.proofs.Common.{◌≡◌, ℕ, Bool, true, false, cond, not, ◌&&◌, ◌||◌, List, [], ◌∷◌, ◌++◌, codes, refl, sym, ap, ◌∙◌, append_assoc, append-nil}
 use Rattle.php_tree.specs.declared.token.TokenKind.{TokenKind}
 use Rattle.php_tree.specs.declared.token.TokenKind.TheVariants as token
 use Rattle.tracked_changes.specs.Pieces.{Piece, changed, old_bytes, before}
 use Rattle.tracked_changes.specs.Draft.{NewToken}
 use Rattle.syntax_rules.specs.SplitName.{is_label, is_name, is_keyword, is_nothing, begins_root, is_backslash, is_namespace, deleted, is_one, one_name, space_before, keyword_behind}
 use Rattle.rewritten_tokens.specs.Drafted.{before_all, all_whole, all_spaced, joins}
-use Rattle.rewritten_tokens.specs.Spaced.{space_put, spaces_put, front_text, PartsHaveText, SpacesComeFirst}
+use Rattle.rewritten_tokens.specs.Spaced.{space_put, spaces_put, front_text, SpacesComeFirst}
 
 before_append : (ps qs : List Piece) → before (ps ++ qs) ≡ before ps ++ before qs
 before_append [] qs = refl
@@ -111,7 +111,6 @@ module _ (behind : Bool) (t : NewToken) (ts : List NewToken) where
   abbrev Goal : Type 0
   Goal = all_spaced behind (all_whole (t ∷ ts)) ≡ all_whole (spaces_put behind (t ∷ ts))
 
-
   apart_goal : all_spaced (keyword_behind behind t) (all_whole ts) ≡ all_whole (spaces_put (keyword_behind behind t) ts) → joins t (all_whole ts) ≡ false → all_spaced behind (all_whole (t ∷ ts)) ≡ all_whole (spaces_put behind (t ∷ ts))
   apart_goal ih h =
       let bare : joins t (all_spaced (keyword_behind behind t) (all_whole ts)) ≡ false = joins_spaced t (keyword_behind behind t) (all_whole ts) ∙ h in
@@ -128,16 +127,16 @@ module _ (behind : Bool) (t : NewToken) (ts : List NewToken) where
       let there : joins t (all_whole ts) ≡ true = ap (joins t) e ∙ h in
       let one : before_all t (u ∷ us) ≡ one_name t u ∷ us = rw h refl in
       let left : all_spaced behind (all_whole (t ∷ ts)) ≡ given (wants behind t true) (one_name t u) ∷ all_spaced false us =
-          ap (λ (l : List NewToken). all_spaced behind (before_all t l)) e
-          ∙ ap (all_spaced behind) one
-          ∙ ap (λ (x : NewToken). x ∷ all_spaced (keyword_behind behind (one_name t u)) us) (space_is behind t u text)
-          ∙ ap (λ (b : Bool). given (wants behind t true) (one_name t u) ∷ all_spaced b us) (behind_name behind t u text) in
+      ap (λ (l : List NewToken). all_spaced behind (before_all t l)) e
+      ∙ ap (all_spaced behind) one
+      ∙ ap (λ (x : NewToken). x ∷ all_spaced (keyword_behind behind (one_name t u)) us) (space_is behind t u text)
+      ∙ ap (λ (b : Bool). given (wants behind t true) (one_name t u) ∷ all_spaced b us) (behind_name behind t u text) in
       let next : all_spaced flag (u ∷ us) ≡ given spaced u ∷ all_spaced false us =
-          ap (λ (b : Bool). given spaced u ∷ all_spaced b us) (behind_part flag t u h (not_it (is_nothing (before u.text)) first)) in
+      ap (λ (b : Bool). given spaced u ∷ all_spaced b us) (behind_part flag t u h (not_it (is_nothing (before u.text)) first)) in
       let met : is_one (given (wants behind t true) t) (given spaced u) ≡ true = given_one t (given spaced u) (wants behind t true) ∙ one_given t u spaced ∙ h in
       let right : before_all (given (wants behind t true) t) (given spaced u ∷ all_spaced false us) ≡ given (wants behind t true) (one_name t u) ∷ all_spaced false us =
-          ap (λ (b : Bool). cond b (one_name (given (wants behind t true) t) (given spaced u) ∷ all_spaced false us) (given (wants behind t true) t ∷ given spaced u ∷ all_spaced false us)) met
-          ∙ ap (λ (x : NewToken). x ∷ all_spaced false us) (name_given (given (wants behind t true) t) u spaced ∙ given_name t u (wants behind t true)) in
+      ap (λ (b : Bool). cond b (one_name (given (wants behind t true) t) (given spaced u) ∷ all_spaced false us) (given (wants behind t true) t ∷ given spaced u ∷ all_spaced false us)) met
+      ∙ ap (λ (x : NewToken). x ∷ all_spaced false us) (name_given (given (wants behind t true) t) u spaced ∙ given_name t u (wants behind t true)) in
       left ∙ sym right
       ∙ ap (λ (l : List NewToken). before_all (given (wants behind t true) t) l) (sym next ∙ ap (all_spaced flag) (sym e) ∙ ih)
       ∙ ap (λ (b : Bool). before_all (space_put behind t b) (all_whole (spaces_put flag ts))) (sym there)

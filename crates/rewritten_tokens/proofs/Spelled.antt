@@ -1,20 +1,20 @@
 -- The tokens of a row with whole names are whole names.
 use Rattle.std.proofs.Common.{◌≡◌, ℕ, Bool, true, false, cond, not, ◌&&◌, ◌||◌, nat_eq, List, [], ◌∷◌, ◌++◌, Option, Some, None, codes, refl, sym, ap, ◌∙◌, subst}
 use Rattle.std.specs.Str.{bytes_eq}
-use Rattle.std.proofs.lemmas.Bool.{eqb-true, and_parts}
-use Rattle.php_tree.specs.declared.version.Version.TheVariants.{V74, V83}
+use Rattle.std.proofs.lemmas.Bool.{and_parts}
+use Rattle.php_tree.specs.declared.version.Version.TheVariants.{V83}
 use Rattle.php_tree.specs.declared.token.TokenKind.{TokenKind}
 use Rattle.php_tree.specs.declared.token.TokenKind.TheVariants as token
 use Rattle.php_spellings.specs.declared.table.Kind.{Kind}
 use Rattle.php_spellings.specs.declared.table.Kind.TheVariants.{Space, Comment, Tag, Word, Label, Keyword, Name, Op, Decimal, Octal, Hexadecimal, Binary}
-use Rattle.php_spellings.specs.Bytes.{is_empty, begins_by}
+use Rattle.php_spellings.specs.Bytes.{is_empty}
 use Rattle.php_spellings.specs.Words.{token_of, is_keyword}
-use Rattle.php_lexer.specs.Lexed.{Lexeme, Stack, Lexed}
+use Rattle.php_lexer.specs.Lexed.{Lexeme, Lexed}
 use Rattle.php_relexing.specs.Tiles.{Tile, tile, joined}
-use Rattle.php_relexing.specs.Spelled.{Steps, lexeme_with, spelled}
+use Rattle.php_relexing.specs.Spelled.{lexeme_with, spelled}
 use Rattle.php_relexing.proofs.Spelling.{tiles_are_tokens}
-use Rattle.rewritten_tokens.specs.Names.{goes_on_root, is_rooted, are_one, in_front, whole_names, all_common, is_unnamed}
-use Rattle.rewritten_tokens.specs.Whole.{is_label_kind, is_name_kind, is_keyword_kind, is_op_kind, is_namespace, begins_label, is_backslash, goes_on_name, is_one, before_tokens, whole_tokens, begins_other, begins_rooted, is_apart, all_apart, TokensInNewer}
+use Rattle.rewritten_tokens.specs.Names.{goes_on_root, are_one, in_front, whole_names}
+use Rattle.rewritten_tokens.specs.Whole.{is_label_kind, is_name_kind, is_keyword_kind, is_op_kind, is_namespace, begins_label, is_backslash, is_one, before_tokens, whole_tokens, begins_other, is_apart, all_apart, TokensInNewer}
 use Rattle.rewritten_tokens.proofs.Newer.{names_joined}
 use Rattle.rewritten_tokens.proofs.Uncut.{same_in_newer}
 

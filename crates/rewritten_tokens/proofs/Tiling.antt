@@ -9,7 +9,7 @@ use Rattle.php_lexer.specs.Modes.{IsLongest}
 use Rattle.php_lexer.specs.Lexed.{Lexeme, Stack, Lexed, ends, trivia, token, after}
 use Rattle.php_lexer.proofs.Longest.{longest_some}
 use Rattle.php_relexing.specs.Tiles.{Tile, tile, joined}
-use Rattle.php_relexing.specs.Spelled.{Steps, done, step, spelled}
+use Rattle.php_relexing.specs.Spelled.{Steps, done, step}
 use Rattle.rewritten_tokens.specs.Tokens.{InARow, TokensAreTiles}
 
 take_size : (m : ℕ) (bs : List ℕ) → m ≤ length bs → length (take m bs) ≡ m

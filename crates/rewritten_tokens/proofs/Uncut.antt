@@ -1,5 +1,5 @@
 -- Bytes that 8.3 takes as 7.4 does have its tokens and trivia, with each name one token.
-use Rattle.std.proofs.Common.{◌≡◌, ℕ, zero, suc, ◌+◌, Bool, true, false, cond, not, ◌&&◌, ◌||◌, nat_eq, List, [], ◌∷◌, ◌++◌, length, take, drop, refl, sym, ap, ◌∙◌, subst, arith}
+use Rattle.std.proofs.Common.{◌≡◌, ℕ, suc, Bool, true, false, not, ◌||◌, nat_eq, List, [], ◌∷◌, ◌++◌, length, refl, sym, ap, ◌∙◌, subst, arith}
 use Rattle.std.proofs.lemmas.Bool.{eqb-true, and_parts}
 use Rattle.std.proofs.lemmas.Bool.Decides.{nat_tests}
 use Rattle.std.proofs.Math.Seq.{drop-append_seam}
@@ -9,16 +9,15 @@ use Rattle.php_spellings.specs.declared.table.Kind.{Kind}
 use Rattle.php_spellings.specs.declared.table.Kind.TheVariants.{Comment, Variable, Word, Name, Op, Piece, DollarBrace}
 use Rattle.php_spellings.specs.declared.table.Mark.{Mark}
 use Rattle.php_spellings.specs.Bytes.{is_letter, is_label_byte, begins, begins_by}
-use Rattle.php_lexer.specs.Modes.{Mode, html, code, named, quoted, offset, property, begins_arrow, begins_property, part_turn, IsLongest}
+use Rattle.php_lexer.specs.Modes.{Mode, html, code, named, quoted, offset, property, begins_arrow, part_turn, IsLongest}
 use Rattle.php_lexer.specs.Lexed.{Stack, turned_by, after}
 use Rattle.php_relexing.specs.Tiles.{Tile, tile, joined}
 use Rattle.php_relexing.specs.Spelled.{Steps, done, step}
 use Rattle.php_relexing.specs.Newer.{begins_deeper, goes_deeper, begins_name, ends_name}
-use Rattle.php_relexing.specs.Labels.{is_label, is_name}
 use Rattle.php_relexing.proofs.Newer.{same_in_newer_code, same_in_newer_texts}
 use Rattle.php_relexing.proofs.Names.{names_are_tokens}
 use Rattle.php_relexing.proofs.Labels.{words_are_labels, labels_begin_no_name, labels_join}
-use Rattle.rewritten_tokens.specs.Names.{goes_on_root, is_rooted, are_one, in_front, whole_names, begins_word, begins_nullsafe, is_common, all_common, is_named, is_unnamed, SameInNewer}
+use Rattle.rewritten_tokens.specs.Names.{goes_on_root, in_front, whole_names, begins_word, begins_nullsafe, is_common, all_common, is_named, is_unnamed, SameInNewer}
 use Rattle.rewritten_tokens.proofs.Modes.{is_variable, SameProperty, is_quoted, is_dollar_brace, same_after, unnamed_after, unnamed_top, property_stays, piece_is, no_word, no_root, no_name_kind}
 use Rattle.rewritten_tokens.proofs.Follows.{word_ends, word_first, root_kind, root_alone, hash_kind, hash_stays}
 use Rattle.rewritten_tokens.proofs.Newer.{names_joined, label_name, root_name, name_is, meets, apart, together, rooted_first, goes_first, word_goes}

@@ -1,17 +1,14 @@
 -- A rewritten file has its tokens where a row of 7.4 has them but for names.
-use Rattle.std.proofs.Common.{◌≡◌, ℕ, true, List, [], map, refl, sym, ◌∙◌, subst}
-use Rattle.php_tree.specs.declared.version.Version.TheVariants.{V74, V83}
-use Rattle.php_tree.specs.declared.token.Token.{Token}
-use Rattle.php_tree.specs.Tree.{File, tokens_bytes, file_leaves, file_printed}
-use Rattle.php_tree.specs.Places.{ArePlaced}
+use Rattle.std.proofs.Common.{ℕ, List, [], map, refl, sym, ◌∙◌, subst}
+use Rattle.php_tree.specs.declared.version.Version.TheVariants.{V83}
+use Rattle.php_tree.specs.Tree.{file_leaves}
 use Rattle.php_lexer.specs.Lexed.{Lexeme, Lexed, start, lexeme, TokensOf}
 use Rattle.php_lexer.proofs.LawProofs.{no_byte_lost}
-use Rattle.php_relexing.specs.Tiles.{Tile, joined}
-use Rattle.php_relexing.specs.Spelled.{Steps, spelled}
-use Rattle.tracked_changes.specs.Draft.{FileDraft, rewritten, rewritten_token, rewritten_file}
-use Rattle.rewritten_tokens.specs.Names.{all_common}
-use Rattle.rewritten_tokens.specs.Whole.{whole_tokens, all_apart}
-use Rattle.rewritten_tokens.specs.Written.{new_lexeme, file_tokens, HasTokens, RowsAreWritten}
+use Rattle.php_relexing.specs.Tiles.{joined}
+use Rattle.php_relexing.specs.Spelled.{spelled}
+use Rattle.tracked_changes.specs.Draft.{rewritten, rewritten_token, rewritten_file}
+use Rattle.rewritten_tokens.specs.Whole.{whole_tokens}
+use Rattle.rewritten_tokens.specs.Written.{RowsAreWritten}
 use Rattle.rewritten_tokens.proofs.Placing.{file_placed, file_bytes, rewritten_has_tokens}
 use Rattle.rewritten_tokens.proofs.Spelled.{tokens_in_newer}
 

@@ -1,5 +1,5 @@
 -- A draft's tokens with the trivia inside names deleted, each name still in parts: as 7.4 has them.
-use Rattle.std.specs.Prelude.{◌≡◌, Bool, true, false, if◌then◌else◌, List, [], ◌∷◌, map}
+use Rattle.std.specs.Prelude.{◌≡◌, true, false, if◌then◌else◌, List, [], ◌∷◌, map}
 use Rattle.php_spellings.specs.Bytes.{is_empty, begins_by}
 use Rattle.tracked_changes.specs.Pieces.{before, after}
 use Rattle.tracked_changes.specs.Draft.{NewToken}

@@ -1,11 +1,11 @@
 -- A draft's tokens with a space before each name that stands directly behind a keyword, names still in parts.
-use Rattle.std.specs.Prelude.{◌≡◌, Bool, true, false, not, ◌&&◌, ◌||◌, if◌then◌else◌, List, [], ◌∷◌, ◌++◌, map, codes}
+use Rattle.std.specs.Prelude.{◌≡◌, ℕ, Bool, true, false, not, ◌&&◌, ◌||◌, if◌then◌else◌, List, [], ◌∷◌, ◌++◌, map, codes}
 use Rattle.php_tree.specs.declared.version.Version.TheVariants.{V74}
-use Rattle.php_tree.specs.declared.token.TokenKind.TheVariants as token
 use Rattle.php_tree.specs.Tree.{File}
 use Rattle.php_lexer.specs.Lexed.{start}
 use Rattle.php_relexing.specs.Tiles.{Tile}
 use Rattle.php_relexing.specs.Spelled.{Steps, spelled}
+use Rattle.php_reading.specs.Reading.{Reads}
 use Rattle.tracked_changes.specs.Pieces.{changed, before}
 use Rattle.tracked_changes.specs.Draft.{NewToken, FileDraft}
 use Rattle.tracked_changes.specs.Walk.{drafted_file}
@@ -58,12 +58,12 @@ nameless_draft f = drafted_file (rewriting (all_on (patches f.statements))) f
 abbrev pub in_parts : File → List NewToken
 in_parts f = spaces_put false (draft_tokens (nameless_draft f).statements)
 
--- A rewritten file has its tokens in 8.3, where 7.4 has the row of its tokens and trivia with names in parts, and 8.3
--- takes this row as 7.4 does.
+-- A file that 7.4 reads, rewritten, has its tokens in 8.3, where 7.4 has the row of these tokens and trivia with names
+-- in parts, and 8.3 takes this row as 7.4 does.
 abbrev pub PartsAreWritten : Type 0
 PartsAreWritten =
-    (f : File) (us : List Tile) →
-    f.end.kind ≡ token.End →
+    (bytes : List ℕ) (f : File) (us : List Tile) →
+    Reads V74 bytes f →
     names_within (nameless_draft f).statements ≡ true →
     PartsHaveText (draft_tokens (nameless_draft f).statements) →
     NamesStay (in_parts f) →

@@ -5,7 +5,7 @@ use Rattle.php_tree.specs.declared.version.Version.TheVariants.{V74, V83}
 use Rattle.php_tree.specs.declared.token.TokenKind.{TokenKind}
 use Rattle.php_tree.specs.declared.token.TokenKind.TheVariants as token
 use Rattle.php_spellings.specs.declared.table.Kind.{Kind}
-use Rattle.php_spellings.specs.declared.table.Kind.TheVariants.{Word, Label, Keyword, Name, Op}
+use Rattle.php_spellings.specs.declared.table.Kind.TheVariants.{Word, Label, Keyword, Op}
 use Rattle.php_spellings.specs.Bytes.{is_empty, begins_by}
 use Rattle.php_spellings.specs.Words.{is_keyword}
 use Rattle.php_lexer.specs.Lexed.{Lexeme, Stack, Lexed}

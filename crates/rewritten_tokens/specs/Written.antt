@@ -11,10 +11,8 @@ use Rattle.php_lexer.specs.Modes.{begins_arrow}
 use Rattle.php_lexer.specs.Lexed.{Lexeme, start, lexeme, TokensOf}
 use Rattle.php_relexing.specs.Tiles.{Tile}
 use Rattle.php_relexing.specs.Spelled.{Steps, spelled}
-use Rattle.php_reading.specs.Reading.{Reads}
 use Rattle.tracked_changes.specs.Pieces.{after}
 use Rattle.tracked_changes.specs.Draft.{NewToken, Draft, no_more, new_leaf, new_node, FileDraft, rewritten_file}
-use Rattle.syntax_rules.specs.Rewritten.{rewritten}
 use Rattle.rewritten_tokens.specs.Names.{all_common}
 use Rattle.rewritten_tokens.specs.Whole.{whole_tokens, all_apart}
 

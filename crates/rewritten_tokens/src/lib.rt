@@ -54,8 +54,8 @@ pub fn spaces_come_first()
     ensures { SpacesComeFirst }
 {}
 
-/// A rewritten file has its tokens in 8.3, where 7.4 has the row of its tokens and trivia with names
-/// in parts, and 8.3 takes this row as 7.4 does.
+/// A file that 7.4 reads, rewritten, has its tokens in 8.3, where 7.4 has the row of these tokens and
+/// trivia with names in parts, and 8.3 takes this row as 7.4 does.
 pub fn parts_are_written()
     ensures { PartsAreWritten }
 {}
