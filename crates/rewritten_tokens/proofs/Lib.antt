@@ -2,6 +2,7 @@ pub mod Tiling
 pub mod Modes
 pub mod Follows
 pub mod Newer
+pub mod Kept
 pub mod Uncut
 pub mod Spelled
 pub mod Placing
