@@ -12,3 +12,4 @@ pub mod Parted
 pub mod Spaced
 pub mod Ending
 pub mod Parts
+pub mod Levels

@@ -5,3 +5,4 @@ pub mod Written
 pub mod Drafted
 pub mod Parted
 pub mod Spaced
+pub mod Levels

@@ -8,6 +8,7 @@ ghost use Rattle.rewritten_tokens.specs.Written.{RewrittenHasTokens, RowsAreWrit
 ghost use Rattle.rewritten_tokens.specs.Drafted.{NamesInOrder};
 ghost use Rattle.rewritten_tokens.specs.Parted.{WholeOfParts};
 ghost use Rattle.rewritten_tokens.specs.Spaced.{SpacesComeFirst, PartsAreWritten};
+ghost use Rattle.rewritten_tokens.specs.Levels.{LevelsPass};
 
 /// The tokens of any bytes stand in a row with their trivia, each the longest of the mode that those
 /// before leave.
@@ -60,6 +61,11 @@ pub fn parts_are_written()
     ensures { PartsAreWritten }
 {}
 
+/// Tokens and trivia that open and close in pairs pass over any modes, which they leave as they are.
+pub fn levels_pass()
+    ensures { LevelsPass }
+{}
+
 #[cfg(test)]
 mod tests {
     use super::*;
@@ -75,5 +81,6 @@ mod tests {
         whole_of_parts();
         spaces_come_first();
         parts_are_written();
+        levels_pass();
     }
 }
