@@ -1,5 +1,5 @@
 -- Words that 8.3 refuses where 7.4 takes them as labels: `match`, `readonly`, `mixed`, `never` and, before a word, `enum`. (PHP
--- manual, "List of Keywords" and "List of other reserved words"; RFCs "Match expression v2" and "Enumerations"; UPGRADING 8.0,
+-- manual, "List of Keywords" and "List of other reserved words"; RFCs on match expressions and on enumerations; UPGRADING 8.0,
 -- 8.1 and 8.3.)
 use Rattle.std.specs.Prelude.{ℕ, Bool, true, false, not, ◌==◌, ◌&&◌, ◌||◌, if◌then◌else◌, List, [], ◌∷◌, ◌++◌, Option, Some, None, codes}
 use Rattle.rule_tables.specs.declared.cause.Cause.TheVariants.{Always}
