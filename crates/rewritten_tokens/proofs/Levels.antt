@@ -74,10 +74,10 @@ passed (flat {v} {rest} {m} {n} to kind b a ts h turn more) below depth =
 passed (deep {v} {rest} {m} {n} up under low kind b a ts k c e us h turn inner close out same more) below depth =
     let d : ℕ = deeper (effect m (enter up under)) depth in
     let last : Pass v rest (stack_of under below (deeper (effect low leave) (deeper (effect m (enter up under)) depth))) us (stack_of n below depth) =
-        subst (λ (x : ℕ). Pass v rest (stack_of under below x) us (stack_of n below depth)) (sym (same_depth m up under low depth same)) (passed more below depth) in
+    subst (λ (x : ℕ). Pass v rest (stack_of under below x) us (stack_of n below depth)) (sym (same_depth m up under low depth same)) (passed more below depth) in
     let shut : Pass v rest (stack_of low (under ∷ below) (deeper (effect m (enter up under)) depth)) (tile k c e ∷ us) (stack_of n below depth) =
-        then k c e us close
-        (subst (λ (t : Turn). Pass v rest (turned_by t (stack_of low (under ∷ below) (deeper (effect m (enter up under)) depth))) us (stack_of n below depth)) (sym out) last) in
+    then k c e us close
+    (subst (λ (t : Turn). Pass v rest (turned_by t (stack_of low (under ∷ below) (deeper (effect m (enter up under)) depth))) us (stack_of n below depth)) (sym out) last) in
     let whole = passes_join.join v rest (stack_of up (under ∷ below) (deeper (effect m (enter up under)) depth)) (stack_of low (under ∷ below) (deeper (effect m (enter up under)) depth)) (stack_of n below depth) ts (tile k c e ∷ us) (passed inner (under ∷ below) (deeper (effect m (enter up under)) depth)) shut in
     then kind b a (ts ++ tile k c e ∷ us) h
     (subst (λ (t : Turn). Pass v rest (turned_by t (stack_of m below depth)) (ts ++ tile k c e ∷ us) (stack_of n below depth)) (sym turn) whole)
