@@ -2,6 +2,7 @@
 //! file.
 #![tactic(auto)]
 
+ghost use Rattle.grouped_reading.specs.AllRules.{AllRulesGroup};
 ghost use Rattle.grouped_reading.specs.GroupedReading.{GroupedIsRead, GroupedIsReadAsPhp};
 
 /// The bytes of a file that 7.4 reads, with its nested ternaries in parentheses, are read by 8.3 as that rewritten file,
@@ -9,4 +10,10 @@ ghost use Rattle.grouped_reading.specs.GroupedReading.{GroupedIsRead, GroupedIsR
 pub fn grouped_files_are_read()
     ensures form { GroupedIsRead }
     ensures php { GroupedIsReadAsPhp }
+{}
+
+/// Of a file that 7.4 reads by the form, all rules on syntax together make the file with its nested ternaries in
+/// parentheses, and their edits replace no byte.
+pub fn all_rules_group()
+    ensures { AllRulesGroup }
 {}
