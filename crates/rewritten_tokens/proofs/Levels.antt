@@ -1,13 +1,12 @@
 -- Tiles that open and close in pairs leave the modes below as they are.
-use Rattle.std.proofs.Common.{◌≡◌, ℕ, suc, Bool, true, false, cond, List, [], ◌∷◌, ◌++◌, length, refl, sym, ap, ◌∙◌, subst}
+use Rattle.std.proofs.Common.{◌≡◌, ℕ, suc, Bool, true, false, cond, List, ◌∷◌, ◌++◌, refl, sym, ap, ◌∙◌, subst}
 use Rattle.php_tree.specs.declared.version.Version.{Version}
-use Rattle.php_spellings.specs.declared.table.Kind.{Kind}
-use Rattle.php_lexer.specs.Modes.{Mode, html, code, named, quoted, offset, property, Turn, stay, enter, leave, turn_of}
-use Rattle.php_lexer.specs.Lexed.{Stack, effect, deeper, less_one, turned_by}
-use Rattle.php_relexing.specs.Tiles.{Tile, tile, joined}
+use Rattle.php_lexer.specs.Modes.{Mode, html, code, named, quoted, offset, property, Turn, enter, leave}
+use Rattle.php_lexer.specs.Lexed.{effect, deeper, less_one, turned_by}
+use Rattle.php_relexing.specs.Tiles.{Tile, tile}
 use Rattle.php_relexing.specs.Passes.{Pass, nothing, then}
 use Rattle.php_relexing.proofs.Passes.{passes_join}
-use Rattle.rewritten_tokens.specs.Levels.{is_quoted, Comes, Level, none, flat, deep, stack_of, LevelsPass}
+use Rattle.rewritten_tokens.specs.Levels.{is_quoted, Level, none, flat, deep, stack_of, LevelsPass}
 
 entered : (top up under : Mode) (n : ℕ) → deeper (effect top (enter up under)) n ≡ cond (is_quoted up) (suc n) n
 entered html html under n = refl

@@ -13,3 +13,4 @@ pub mod Spaced
 pub mod Ending
 pub mod Parts
 pub mod Levels
+pub mod Enclosed

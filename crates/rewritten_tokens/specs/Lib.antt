@@ -6,3 +6,4 @@ pub mod Drafted
 pub mod Parted
 pub mod Spaced
 pub mod Levels
+pub mod Enclosed

@@ -9,6 +9,7 @@ ghost use Rattle.rewritten_tokens.specs.Drafted.{NamesInOrder};
 ghost use Rattle.rewritten_tokens.specs.Parted.{WholeOfParts};
 ghost use Rattle.rewritten_tokens.specs.Spaced.{SpacesComeFirst, PartsAreWritten};
 ghost use Rattle.rewritten_tokens.specs.Levels.{LevelsPass};
+ghost use Rattle.rewritten_tokens.specs.Enclosed.{LevelsJoin, SquaresStandRound, RoundsStandRound};
 
 /// The tokens of any bytes stand in a row with their trivia, each the longest of the mode that those
 /// before leave.
@@ -66,6 +67,21 @@ pub fn levels_pass()
     ensures { LevelsPass }
 {}
 
+/// Such rows join.
+pub fn levels_join()
+    ensures { LevelsJoin }
+{}
+
+/// Tokens of code that are such a row before `]` are one between `[` and `]`.
+pub fn squares_stand_round()
+    ensures { SquaresStandRound }
+{}
+
+/// Those before `)` are one between `(` and `)`, where they don't make a cast of it.
+pub fn rounds_stand_round()
+    ensures { RoundsStandRound }
+{}
+
 #[cfg(test)]
 mod tests {
     use super::*;
@@ -82,5 +98,8 @@ mod tests {
         spaces_come_first();
         parts_are_written();
         levels_pass();
+        levels_join();
+        squares_stand_round();
+        rounds_stand_round();
     }
 }
