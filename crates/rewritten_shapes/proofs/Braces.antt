@@ -292,11 +292,11 @@ cast_fits : (c : Forest) → Fits V74 (rules.cast V74) c → AreSpelled c → is
 cast_fits c (is_both (is_first (is_word {x} p)) (is_place {k = i} {c = e} m n) h) s u w =
     let at = subst AreSpelled h s in
     subst (λ (c : Forest). Good Cast c (changed_tree Cast c)) (sym h)
-    (cast_at x i e (is_first (is_word p)) at.0 (ap (λ (y : Forest). is_undecided (Cast, y)) (sym h) ∙ u) m n (subst AllGood h w))
+    (cast_at x i e (is_first (is_word p)) at.0.0 (ap (λ (y : Forest). is_undecided (Cast, y)) (sym h) ∙ u) m n (subst AllGood h w))
 cast_fits c (is_both (is_second (is_word {x} p)) (is_place {k = i} {c = e} m n) h) s u w =
     let at = subst AreSpelled h s in
     subst (λ (c : Forest). Good Cast c (changed_tree Cast c)) (sym h)
-    (cast_at x i e (is_second (is_word p)) at.0 (ap (λ (y : Forest). is_undecided (Cast, y)) (sym h) ∙ u) m n (subst AllGood h w))
+    (cast_at x i e (is_second (is_word p)) at.0.0 (ap (λ (y : Forest). is_undecided (Cast, y)) (sym h) ∙ u) m n (subst AllGood h w))
 
 pub good_cast : (a : Option Around) (c : Forest) → AreSpelled c → is_undecided (Cast, c) ≡ false → AllGood c → IsNode V74 Cast c → Good Cast c (new_tree a Cast c)
 good_cast a c s u w (is_node f near fine) = subst (Good Cast c) (sym (unwrapped_tree a Cast c refl)) (cast_fits c f s u w)

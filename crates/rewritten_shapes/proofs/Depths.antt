@@ -205,7 +205,7 @@ spelled_plain _ text e d = cc
 
 are_plain : (a : Bool → Option Around) (b : Bool) (f : Forest) → AreSpelled f → ArePlain (written a b f)
 are_plain a b none h = tt
-are_plain a b (leaf x f) h = (spelled_plain x.kind x.text h.0, are_plain a false f h.1)
+are_plain a b (leaf x f) h = (spelled_plain x.kind x.text h.0.0, are_plain a false f h.1)
 are_plain a b (node k c f) h = are_plain a false f h.1
 
 deep_wrappings : (ws : List Wrapping) (t : NewTree) → deep (in_wrappings ws t).1 ≡ length ws + deep t.1

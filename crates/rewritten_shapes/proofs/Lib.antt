@@ -15,6 +15,11 @@ pub mod Operands
 pub mod Binaries
 pub mod Unaries
 pub mod Braces
+pub mod QuotedLines
+pub mod QuotedParts
+pub mod QuotedPieces
+pub mod QuotedBraces
+pub mod QuotedTexts
 pub mod NameParts
 pub mod Units
 pub mod Bilingual
@@ -22,7 +27,11 @@ pub mod Own
 pub mod Named
 pub mod Marked
 pub mod Classes
+pub mod UsesNames
+pub mod UsesTokens
 pub mod Wholly
 pub mod Qualified
 pub mod Spaces
 pub mod Traits
+pub mod UsesItems
+pub mod Uses

@@ -32,10 +32,10 @@ root_token x e =
 abbrev asks_label : Terminal → Bool
 asks_label own = is_any_label own || same_class t.AnyLabel own
 
-clash : {b : Bool} → b ≡ false → b ≡ true → ⊥
+pub clash : {b : Bool} → b ≡ false → b ≡ true → ⊥
 clash e d = let z : false ≡ true = sym e ∙ d in cc
 
-cond_not : (p : Terminal → Bool) (b : Bool) (x y : Terminal) → p x ≡ false → p y ≡ false → p (cond b x y) ≡ false
+pub cond_not : (p : Terminal → Bool) (b : Bool) (x y : Terminal) → p x ≡ false → p y ≡ false → p (cond b x y) ≡ false
 cond_not p true x y e d = e
 cond_not p false x y e d = d
 
@@ -104,7 +104,7 @@ equal_is (a ∷ w) (b ∷ bs) e =
     two true b e = e
     two false b e = cc
 
-or_none : (b : Bool) → (b || false) ≡ true → b ≡ true
+pub or_none : (b : Bool) → (b || false) ≡ true → b ≡ true
 or_none true e = refl
 or_none false e = e
 

@@ -1,13 +1,13 @@
 -- The class of a name whose first part is a label.
 use Rattle.std.proofs.Common.{◌≡◌, ◌==◌, ℕ, Bool, true, false, not, cond, ◌&&◌, nat_eq, codes, List, [], ◌∷◌, ◌++◌, length, take, refl, sym, ap, ◌∙◌}
 use Rattle.std.specs.Char.{to_ascii_lowercase}
-use Rattle.std.specs.Str.{bytes_eq, str_to_ascii_lowercase}
+use Rattle.std.specs.Str.{str_to_ascii_lowercase}
 use Rattle.std.proofs.lemmas.Bool.{eqb-true}
 use Rattle.std.proofs.lemmas.Slice.Eq.{bytes_eq-Decides}
 use Rattle.php_terminals.specs.declared.terminal.Terminal.TheVariants as t
 use Rattle.php_terminals.specs.Classify.{name}
 use Rattle.php_terminals.specs.Words.{front, is_word}
-use Rattle.rewritten_shapes.specs.Laws.{has_no_root, is_label_text}
+use Rattle.rewritten_shapes.specs.Laws.{has_no_root, is_label_text, is_namespace_word}
 use Rattle.rewritten_shapes.proofs.OperatorWords.{low_word}
 use Rattle.rewritten_shapes.proofs.Sides.{and_left, and_right}
 
@@ -56,24 +56,23 @@ same_front (a ∷ w) (b ∷ l) rest p q e =
 
 label_no_root : (l : List ℕ) → is_label_text l ≡ true → has_no_root l ≡ true
 label_no_root [] e = absurd cc
-label_no_root (b ∷ bs) e = and_left (has_no_root (b ∷ bs)) (not (bytes_eq (str_to_ascii_lowercase (b ∷ bs)) (codes "namespace"))) e
-
-label_no_space : (l : List ℕ) → is_label_text l ≡ true → bytes_eq (str_to_ascii_lowercase l) (codes "namespace") ≡ true → ⊥
-label_no_space [] e d = cc
-label_no_space (b ∷ bs) e d = not_both (bytes_eq (str_to_ascii_lowercase (b ∷ bs)) (codes "namespace")) d (and_right (has_no_root (b ∷ bs)) (not (bytes_eq (str_to_ascii_lowercase (b ∷ bs)) (codes "namespace"))) e)
+label_no_root (b ∷ bs) e = e
 
 not_full : (l rest : List ℕ) → is_label_text l ≡ true → is_word (codes "\\") (front 1 (l ++ 92 ∷ rest)) ≡ false
 not_full [] rest e = absurd cc
 not_full (b ∷ l) rest e = by_test (is_word (codes "\\") (front 1 ((b ∷ l) ++ 92 ∷ rest))) (λ d.
     let z : 92 ≡ b = root_byte b (and_left (nat_eq 92 (to_ascii_lowercase b)) (begins [] (l ++ 92 ∷ rest)) (sym (begins_is (codes "\\") ((b ∷ l) ++ 92 ∷ rest)) ∙ d)) in
-    not_both (b == 92) (ap (λ x. x == 92) (sym z)) (and_left (not (b == 92)) (has_no_root l) (label_no_root (b ∷ l) e)))
+    not_both (b == 92) (ap (λ x. x == 92) (sym z)) (and_left (not (b == 92)) (has_no_root l) e))
 
-not_relative : (l rest : List ℕ) → is_label_text l ≡ true → is_word (codes "namespace\\") (front 10 (l ++ 92 ∷ rest)) ≡ false
-not_relative l rest e = by_test (is_word (codes "namespace\\") (front 10 (l ++ 92 ∷ rest))) (λ d.
-    label_no_space l e ((bytes_eq-Decides (str_to_ascii_lowercase l) (codes "namespace")).1
+differ : {b : Bool} → b ≡ false → b ≡ true → ⊥
+differ e d = let z : false ≡ true = sym e ∙ d in cc
+
+not_relative : (l rest : List ℕ) → is_label_text l ≡ true → is_namespace_word l ≡ false → is_word (codes "namespace\\") (front 10 (l ++ 92 ∷ rest)) ≡ false
+not_relative l rest e n = by_test (is_word (codes "namespace\\") (front 10 (l ++ 92 ∷ rest))) (λ d.
+    differ n ((bytes_eq-Decides (str_to_ascii_lowercase l) (codes "namespace")).1
     (same_front (codes "namespace") l rest refl (label_no_root l e) (sym (begins_is (codes "namespace\\") (l ++ 92 ∷ rest)) ∙ d))))
 
-pub qualified_is : (l rest : List ℕ) → is_label_text l ≡ true → name (l ++ 92 ∷ rest) ≡ t.QualifiedName
-qualified_is l rest e =
+pub qualified_is : (l rest : List ℕ) → is_label_text l ≡ true → is_namespace_word l ≡ false → name (l ++ 92 ∷ rest) ≡ t.QualifiedName
+qualified_is l rest e n =
     ap (λ (b : Bool). cond b t.FullName (cond (is_word (codes "namespace\\") (front 10 (l ++ 92 ∷ rest))) t.RelativeName t.QualifiedName)) (not_full l rest e)
-    ∙ ap (λ (b : Bool). cond b t.RelativeName t.QualifiedName) (not_relative l rest e)
+    ∙ ap (λ (b : Bool). cond b t.RelativeName t.QualifiedName) (not_relative l rest e n)

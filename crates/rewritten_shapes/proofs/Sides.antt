@@ -101,11 +101,11 @@ join_none none h e = (refl, e)
 join_none (leaf x g) h e = absurd cc
 join_none (node k c g) h e = absurd cc
 
-or_left : (a b : Bool) → a ≡ true → (a || b) ≡ true
+pub or_left : (a b : Bool) → a ≡ true → (a || b) ≡ true
 or_left true b e = refl
 or_left false b e = cc
 
-or_right : (a b : Bool) → b ≡ true → (a || b) ≡ true
+pub or_right : (a b : Bool) → b ≡ true → (a || b) ≡ true
 or_right true b e = refl
 or_right false b e = e
 
@@ -189,7 +189,7 @@ after_first b (node k c f) = refl
 abbrev made : Option Around → NodeKind → Forest → NewTree
 made a k c = in_wrappings (all.wrapping a (k, c)) (changed (k, c) (k, written (within k c) true c))
 
-written_none : (a : Bool → Option Around) (b : Bool) (g h : Forest) → written a b (g +++ h) ≡ (written a b g then written a (still_first b g) h)
+pub written_none : (a : Bool → Option Around) (b : Bool) (g h : Forest) → written a b (g +++ h) ≡ (written a b g then written a (still_first b g) h)
 written_none a b none h = refl
 written_none a b (leaf x g) h =
     ap (new_leaf (hash_comment x)) (written_none a false g h ∙ ap (λ (z : Bool). written a false g then written a z h) (after_first b g))

@@ -17,7 +17,7 @@ use Rattle.tracked_changes.specs.Draft as draft
 use Rattle.syntax_rules.specs.Around.{Around}
 use Rattle.syntax_rules.specs.HashComment.{hash_comment}
 use Rattle.syntax_rules.specs.SplitName.{begins_root, deleted, in_front, is_backslash, is_label, is_name, is_namespace, is_one, one_name}
-use Rattle.rewritten_shapes.specs.Laws.{AreSpelled, has_no_root, is_label_text, is_spelled_by}
+use Rattle.rewritten_shapes.specs.Laws.{AreSpelled, begins_odd, has_no_root, is_label_text, is_namespace_word, is_odd_label, is_spelled_by}
 use Rattle.rewritten_shapes.proofs.NameParts.{label_token, root_token, space_token}
 use Rattle.rewritten_shapes.proofs.OperatorWords.{backslash_is}
 use Rattle.rewritten_shapes.proofs.Shown.{names_whole}
@@ -67,7 +67,7 @@ not_true false e = refl
 no_root_front : (text rest : List ℕ) → is_label_text text ≡ true → begins_root (text ++ rest) ≡ false
 no_root_front [] rest e = absurd cc
 no_root_front (b ∷ bs) rest e =
-    not_true (b == 92) (and_left (not (b == 92)) (has_no_root bs) (and_left (has_no_root (b ∷ bs)) _ e))
+    not_true (b == 92) (and_left (not (b == 92)) (has_no_root bs) e)
 
 label_spelled : (sort : TokenKind) (text : List ℕ) → sort ≡ token.Label → is_spelled_by sort text ≡ true → is_label_text text ≡ true
 label_spelled sort text e s = ap (λ (k : TokenKind). is_spelled_by k text) (sym e) ∙ s
@@ -120,7 +120,7 @@ more_is no_more s a b = inl refl
 more_is (once_more {f} {h} (is_both (is_word {x} p) (is_word {x = y} q) e) rest d) s a b =
     let same : f ≡ leaf x (leaf y h) = d ∙ ap (λ (g : Forest). g +++ h) e in
     let sp = subst AreSpelled same s in
-    let l = label_more y (names_whole (written a false h)) (label_token y q) (label_spelled y.kind y.text (label_token y q) sp.1.0) (more_is rest sp.1.1 a false) in
+    let l = label_more y (names_whole (written a false h)) (label_token y q) (label_spelled y.kind y.text (label_token y q) sp.1.0.0) (more_is rest sp.1.1 a false) in
     let r = root_more x y l.0 p (label_token y q) l.1 in
     inr (r.0, r.1, ap (λ (g : Forest). names_whole (written a b g)) same ∙ ap (in_front true (hash_comment x)) l.2 ∙ r.2)
 
@@ -138,18 +138,18 @@ pub name_is : (f : Forest) → Fits V74 (name V74) f → AreSpelled f → (a : B
 name_is f (is_both (is_first is_nothing) (is_both {h = h} (is_word {x = y} q) m e) d) s a b =
     let same : f ≡ leaf y h = d ∙ e in
     let sp = subst AreSpelled same s in
-    let l = label_more y (names_whole (written a false h)) (label_token y q) (label_spelled y.kind y.text (label_token y q) sp.0) (more_is m sp.1 a false) in
+    let l = label_more y (names_whole (written a false h)) (label_token y q) (label_spelled y.kind y.text (label_token y q) sp.0.0) (more_is m sp.1 a false) in
     whole_of y l.0 (names_whole (written a b f)) q (ap (λ (g : Forest). names_whole (written a b g)) same ∙ l.2) l.1.kind
 name_is f (is_both (is_second (is_first (is_word {x} p))) (is_both {h = h} (is_word {x = y} q) m e) d) s a b =
     let same : f ≡ leaf x (leaf y h) = d ∙ ap (leaf x) e in
     let sp = subst AreSpelled same s in
-    let l = label_more y (names_whole (written a false h)) (label_token y q) (label_spelled y.kind y.text (label_token y q) sp.1.0) (more_is m sp.1.1 a false) in
+    let l = label_more y (names_whole (written a false h)) (label_token y q) (label_spelled y.kind y.text (label_token y q) sp.1.0.0) (more_is m sp.1.1 a false) in
     let r = root_more x y l.0 p (label_token y q) l.1 in
     inr (r.0, r.1.kind, ap (λ (g : Forest). names_whole (written a b g)) same ∙ ap (in_front true (hash_comment x)) l.2 ∙ r.2)
 name_is f (is_both {h = k} (is_second (is_second (is_both (is_word {x = n} o) (is_word {x} p) c))) (is_both {h = h} (is_word {x = y} q) m e) d) s a b =
     let same : f ≡ leaf n (leaf x (leaf y h)) = d ∙ ap (λ (g : Forest). g +++ k) c ∙ ap (λ (g : Forest). leaf n (leaf x g)) e in
     let sp = subst AreSpelled same s in
-    let l = label_more y (names_whole (written a false h)) (label_token y q) (label_spelled y.kind y.text (label_token y q) sp.1.1.0) (more_is m sp.1.1.1 a false) in
+    let l = label_more y (names_whole (written a false h)) (label_token y q) (label_spelled y.kind y.text (label_token y q) sp.1.1.0.0) (more_is m sp.1.1.1 a false) in
     let r = root_more x y l.0 p (label_token y q) l.1 in
     inr (
       one_name (hash_comment n) r.0,
@@ -159,10 +159,21 @@ name_is f (is_both {h = k} (is_second (is_second (is_both (is_word {x = n} o) (i
     )
 
 -- a name without a lead: a label, or one that doesn't begin with `\`
-pub plain_is : (f : Forest) → Fits V74 (word t.AnyLabel ~ more_of_name) f → AreSpelled f → (a : Bool → Option Around) (b : Bool)
-    → (y : Token) × (accepts V74 t.AnyLabel y ≡ true) × (is_label_text y.text ≡ true) × (u : NewToken) × Bare y u × (names_whole (written a b f) ≡ new_leaf u draft.no_more)
-plain_is f (is_both {h = h} (is_word {x = y} q) m d) s a b =
+pub plain_is : (f : Forest) → Fits V74 (word t.AnyLabel ~ more_of_name) f → AreSpelled f → begins_odd f ≡ false → (a : Bool → Option Around) (b : Bool)
+    → (y : Token) × (accepts V74 t.AnyLabel y ≡ true) × ((is_label_text y.text ≡ true) × (is_namespace_word y.text ≡ false)) × (u : NewToken) × Bare y u × (names_whole (written a b f) ≡ new_leaf u draft.no_more)
+plain_is f (is_both {h = h} (is_word {x = y} q) m d) s o a b =
     let sp = subst AreSpelled d s in
     let k = label_token y q in
-    let l = label_more y (names_whole (written a false h)) k (label_spelled y.kind y.text k sp.0) (more_is m sp.1 a false) in
-    (y, q, label_spelled y.kind y.text k sp.0, l.0, l.1, ap (λ (g : Forest). names_whole (written a b g)) d ∙ l.2)
+    let word_ = label_spelled y.kind y.text k sp.0.0 in
+    let l = label_more y (names_whole (written a false h)) k word_ (more_is m sp.1 a false) in
+    (y, q, (word_, ap (λ (sort : TokenKind). is_odd_label sort y.text) (sym k) ∙ ap begins_odd (sym d) ∙ o), l.0, l.1, ap (λ (g : Forest). names_whole (written a b g)) d ∙ l.2)
+
+-- a name behind `\`
+pub full_is : (x : Token) (g f : Forest) → f ≡ leaf x g → accepts V74 t.Backslash x ≡ true → Fits V74 (word t.AnyLabel ~ more_of_name) g → AreSpelled g → (a : Bool → Option Around) (b : Bool)
+    → (v : NewToken) × Root v × (names_whole (written a b f) ≡ new_leaf v draft.no_more)
+full_is x g f c p (is_both {h = h} (is_word {x = y} q) m d) s a b =
+    let sp = subst AreSpelled d s in
+    let k = label_token y q in
+    let l = label_more y (names_whole (written a false h)) k (label_spelled y.kind y.text k sp.0.0) (more_is m sp.1 a false) in
+    let r = root_more x y l.0 p k l.1 in
+    (r.0, r.1, ap (λ (z : Forest). names_whole (written a b z)) (c ∙ ap (leaf x) d) ∙ ap (in_front true (hash_comment x)) l.2 ∙ r.2)

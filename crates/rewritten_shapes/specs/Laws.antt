@@ -2,6 +2,7 @@
 use Rattle.std.specs.Prelude.{◌≡◌, ℕ, ◌≤◌, Bool, true, false, not, ◌==◌, ◌&&◌, ◌||◌, List, [], ◌∷◌}
 use Rattle.std.specs.Str.{bytes_eq, str_to_ascii_lowercase}
 use Rattle.std.specs.Prelude.{codes}
+use Rattle.php_tree.specs.declared.token.Token.{Token}
 use Rattle.php_tree.specs.declared.token.TokenKind.{TokenKind}
 use Rattle.php_tree.specs.declared.token.TokenKind.TheVariants as token
 use Rattle.php_tree.specs.declared.version.Version.TheVariants.{V74, V83}
@@ -20,27 +21,53 @@ abbrev pub has_no_root : List ℕ → Bool
 has_no_root [] = true
 has_no_root (b ∷ bs) = not (b == 92) && has_no_root bs
 
--- whether a text could be a label's: some bytes, no `\` among them, and not the word `namespace`, without ASCII case
+-- whether a text could be a label's: some bytes, and no `\` among them
 abbrev pub is_label_text : List ℕ → Bool
 is_label_text [] = false
-is_label_text (b ∷ bs) =
-    has_no_root (b ∷ bs) && not (bytes_eq (str_to_ascii_lowercase (b ∷ bs)) (codes "namespace"))
+is_label_text (b ∷ bs) = has_no_root (b ∷ bs)
+
+-- whether a text is the word `namespace`, without ASCII case
+abbrev pub is_namespace_word : List ℕ → Bool
+is_namespace_word text = bytes_eq (str_to_ascii_lowercase text) (codes "namespace")
 
 -- whether a cast is of a class that 8.3 lacks
 abbrev pub is_old : Terminal → Bool
 is_old t.OldCast = true
 is_old _ = false
 
+-- whether a label, a cast or a `${` has a text as the tokens of a source have it
 abbrev pub is_spelled_by : TokenKind → List ℕ → Bool
 is_spelled_by token.Label text = is_label_text text
 is_spelled_by token.Cast text = not (is_old (cast text)) || (bytes_eq (bare text) (codes "(real)") || bytes_eq (bare text) (codes "(unset)"))
 is_spelled_by token.DollarBrace text = bytes_eq text (codes "${")
 is_spelled_by _ text = true
 
+-- whether a token is a keyword, `\`, `,` or `{`: it stands in code, where the word `namespace` is no label
+abbrev pub is_in_code : TokenKind → List ℕ → Bool
+is_in_code token.Keyword text = true
+is_in_code token.Op text = bytes_eq text (codes "\\") || (bytes_eq text (codes ",") || bytes_eq text (codes "{"))
+is_in_code _ text = false
+
+-- whether a label is spelled `namespace`, as the name of a property in a quoted text may be
+abbrev pub is_odd_label : TokenKind → List ℕ → Bool
+is_odd_label token.Label text = is_namespace_word text
+is_odd_label _ text = false
+
+-- whether parts begin with such a label
+abbrev pub begins_odd : Forest → Bool
+begins_odd none = false
+begins_odd (leaf y f) = is_odd_label y.kind y.text
+begins_odd (node k c f) = false
+
+-- A token before some parts is spelled as a source has it: its own text is, and no label `namespace` stands directly behind it
+-- in code.
+abbrev pub IsSpelled : Token → Forest → Type 0
+IsSpelled x f = (is_spelled_by x.kind x.text ≡ true) × (is_in_code x.kind x.text ≡ true → begins_odd f ≡ false)
+
 -- Each label, each `${` and each cast that 8.3 lacks has a text as the tokens of a source have it.
 abbrev pub AreSpelled : Forest → Type 0
 AreSpelled none = Unit {0}
-AreSpelled (leaf x f) = (is_spelled_by x.kind x.text ≡ true) × AreSpelled f
+AreSpelled (leaf x f) = IsSpelled x f × AreSpelled f
 AreSpelled (node k c f) = AreSpelled c × AreSpelled f
 
 -- No cast `(unset)` is undecided, and no node has a word that 8.3 refuses there.

@@ -2,5 +2,7 @@
 #![tactic(auto)]
 
 mod shallow;
+mod shape;
 
 pub use shallow::rewritten_is_shallow;
+pub use shape::rewritten_has_shape;
