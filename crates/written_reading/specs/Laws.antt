@@ -1,0 +1,95 @@
+-- The reading of rewritten files.
+use Rattle.std.specs.Prelude.{◌≡◌, ℕ, Bool, false, true, ◌&&◌, ◌||◌, List, [], ◌∷◌, codes}
+use Rattle.std.specs.Str.{bytes_eq, str_to_ascii_lowercase}
+use Rattle.php_tree.specs.declared.token.Token.{Token}
+use Rattle.php_tree.specs.declared.token.TokenKind.{TokenKind}
+use Rattle.php_tree.specs.declared.token.TokenKind.TheVariants as token
+use Rattle.php_tree.specs.declared.version.Version.{Version}
+use Rattle.php_tree.specs.declared.version.Version.TheVariants.{V74, V83}
+use Rattle.php_tree.specs.Tree.{Forest, none, leaf, node, File, file_leaves, file_printed}
+use Rattle.php_lexer.specs.Lexed.{TokensOf}
+use Rattle.php_shapes.specs.Shapes.{Shape}
+use Rattle.php_reading.specs.Reading.{Reads}
+use Rattle.syntax_rules.specs.Rewritten.{rewritten}
+use Rattle.rewritten_shapes.specs.Laws.{AreSpelled, NoneReported, RewrittenHasShape}
+use Rattle.rewritten_tokens.specs.Written.{NoNullsafeText, HasTokens}
+
+-- ---- the texts of tokens
+
+-- whether a token is a label that is spelled `namespace`, in any case
+abbrev pub is_namespace_label : TokenKind → List ℕ → Bool
+is_namespace_label token.Label text = bytes_eq (str_to_ascii_lowercase text) (codes "namespace")
+is_namespace_label _ text = false
+
+-- Whether no label is spelled `namespace`. Only a simple property or offset of a quoted text can be, as in `"$a->namespace"`.
+abbrev pub NoNamespaceLabel : Forest → Type 0
+NoNamespaceLabel none = Unit {0}
+NoNamespaceLabel (leaf t f) = (is_namespace_label t.kind t.text ≡ false) × NoNamespaceLabel f
+NoNamespaceLabel (node k c f) = NoNamespaceLabel c × NoNamespaceLabel f
+
+-- The labels, casts and `${` of a file have the texts that the tokens of its bytes have.
+abbrev pub SourcesAreSpelled : Type 0
+SourcesAreSpelled =
+    (v : Version) (bytes : List ℕ) (f : File) →
+    TokensOf v bytes (file_leaves f) →
+    NoNamespaceLabel f.statements →
+    AreSpelled f.statements
+
+-- whether a name may begin behind a token: a keyword, `\`, `,` or `{`
+abbrev pub opens_name : TokenKind → List ℕ → Bool
+opens_name token.Keyword text = true
+opens_name token.Op text = bytes_eq text (codes "\\") || (bytes_eq text (codes ",") || bytes_eq text (codes "{"))
+opens_name _ text = false
+
+abbrev pub begins_namespace : List Token → Bool
+begins_namespace [] = false
+begins_namespace (t ∷ ts) = is_namespace_label t.kind t.text
+
+-- Directly behind no such token stands a label that is spelled `namespace`.
+abbrev pub NoneBehind : List Token → Type 0
+NoneBehind [] = Unit {0}
+NoneBehind (t ∷ ts) = ((opens_name t.kind t.text && begins_namespace ts) ≡ false) × NoneBehind ts
+
+-- Where a name may begin, no label of a source is spelled `namespace`: the word is a keyword there.
+abbrev pub NoNameIsNamespace : Type 0
+NoNameIsNamespace = (v : Version) (bytes : List ℕ) (ts : List Token) → TokensOf v bytes ts → NoneBehind ts
+
+-- ---- rewritten files
+
+-- A file is what a version reads from its bytes, and nothing else is.
+pub record IsRead (v : Version) (f : File) : Type 0 where
+  pub reads : Reads v (file_printed f) f
+  pub only : (g : File) → Reads v (file_printed f) g → g ≡ f
+
+-- A file that 7.4 reads is read by 8.3 once it is rewritten, where it then has the shape and the tokens of 8.3.
+abbrev pub ShapedIsRead : Type 0
+ShapedIsRead =
+    (bytes : List ℕ) (f : File) →
+    Reads V74 bytes f →
+    NoNamespaceLabel f.statements →
+    Shape V83 (rewritten f) →
+    HasTokens (rewritten f) →
+    IsRead V83 (rewritten f)
+
+-- A file that 7.4 reads has the tokens of 8.3 once it is rewritten, where the rules report nothing that stops compiling, and
+-- no simple variable of a quoted text stands directly before `?->` and a letter.
+abbrev pub RewrittenIsLexed : Type 0
+RewrittenIsLexed =
+    (bytes : List ℕ) (f : File) →
+    Reads V74 bytes f →
+    NoneReported f.statements →
+    NoNullsafeText f →
+    HasTokens (rewritten f)
+
+-- Where the rewriting keeps shapes and tokens, each file that 7.4 reads is read by 8.3 once it is rewritten, where the rules
+-- report nothing that stops compiling.
+abbrev pub RewrittenIsRead : Type 0
+RewrittenIsRead =
+    RewrittenHasShape →
+    RewrittenIsLexed →
+    (bytes : List ℕ) (f : File) →
+    Reads V74 bytes f →
+    NoneReported f.statements →
+    NoNullsafeText f →
+    NoNamespaceLabel f.statements →
+    IsRead V83 (rewritten f)

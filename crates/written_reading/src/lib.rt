@@ -1,0 +1,51 @@
+//! What PHP 8.3 reads from the bytes of a file that the rules on syntax rewrote.
+#![tactic(auto)]
+
+ghost use Rattle.written_reading.specs.Laws.{SourcesAreSpelled, NoNameIsNamespace, ShapedIsRead, RewrittenIsRead};
+ghost use Rattle.written_reading.specs.Parted.{RowsAreLexed};
+
+/// The labels, casts and `${` of a file have the texts that the tokens of its bytes have.
+pub fn sources_are_spelled()
+    ensures { SourcesAreSpelled }
+{}
+
+/// Where a name may begin, no label of a source is spelled `namespace`.
+pub fn no_name_is_namespace()
+    ensures { NoNameIsNamespace }
+{}
+
+/// Files that 7.4 has a row of tokens for, once they are rewritten but for the joining of names, have the
+/// tokens of 8.3 once they are rewritten.
+pub fn rows_are_lexed()
+    ensures { RowsAreLexed }
+{}
+
+/// A file that 7.4 reads is read by 8.3 from its bytes once it is rewritten, and no other file is, where
+/// it then has the shape and the tokens of 8.3.
+pub fn shaped_is_read()
+    ensures { ShapedIsRead }
+{
+    php_shapes::files_with_the_shape_are_read();
+}
+
+/// Where the rewriting keeps shapes and tokens, each file that 7.4 reads is read by 8.3 from its bytes
+/// once it is rewritten, and no other file is, where the rules report nothing that stops compiling.
+pub fn rewritten_is_read()
+    ensures { RewrittenIsRead }
+{
+    shaped_is_read();
+}
+
+#[cfg(test)]
+mod tests {
+    use super::*;
+
+    #[test]
+    fn laws_can_be_called() {
+        sources_are_spelled();
+        no_name_is_namespace();
+        rows_are_lexed();
+        shaped_is_read();
+        rewritten_is_read();
+    }
+}
