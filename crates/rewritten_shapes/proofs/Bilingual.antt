@@ -17,7 +17,7 @@ use Rattle.php_shapes.specs.Notation.{Rule, nothing, word, ◌~◌, ◌|||◌, m
 use Rattle.php_shapes.specs.Shapes.{Fits, is_nothing, is_word, is_both, is_first, is_second, no_more, once_more, is_kind, is_place, is_inside, is_tokens}
 use Rattle.syntax_rules.specs.Around.{Around}
 use Rattle.syntax_rules.specs.HashComment.{hash_comment}
-use Rattle.rewritten_shapes.specs.Laws.{AreSpelled, begins_odd}
+use Rattle.rewritten_shapes.specs.Laws.{AreSpelled, begins_namespace, opens_name}
 use Rattle.rewritten_shapes.specs.RefusedWords.{has, is_any_of_them, is_keyword_now, is_match}
 use Rattle.rewritten_shapes.proofs.Calm.{shown_accepts, shown_is}
 use Rattle.rewritten_shapes.proofs.Kept.{AllGood, Kept, good_front, good_rest, kept, kept_first, kept_join, kept_many, kept_second, steady}
@@ -319,14 +319,23 @@ pub right_false : (a b : Bool) → (a || b) ≡ false → b ≡ false
 right_false true b e = absurd cc
 right_false false b e = e
 
-pub odd_front : (g h : Forest) → begins_odd (g +++ h) ≡ false → begins_odd g ≡ false
-odd_front none h e = refl
-odd_front (leaf x g) h e = e
-odd_front (node k c g) h e = refl
+pub front_namespace : (g h : Forest) → begins_namespace (g +++ h) ≡ false → begins_namespace g ≡ false
+front_namespace none h e = refl
+front_namespace (leaf x g) h e = e
+front_namespace (node k c g) h e = refl
+
+front_spelled : (a : Bool) (g h : Forest) → (a && begins_namespace (g +++ h)) ≡ false → (a && begins_namespace g) ≡ false
+front_spelled true g h e = front_namespace g h e
+front_spelled false g h e = refl
+
+-- behind a token that a name may follow stands no label `namespace`
+pub no_namespace : (a b : Bool) → (a && b) ≡ false → a ≡ true → b ≡ false
+no_namespace true b e d = e
+no_namespace false b e d = absurd cc
 
 pub spelled_front : (g h : Forest) → AreSpelled (g +++ h) → AreSpelled g
 spelled_front none h p = tt
-spelled_front (leaf x g) h p = ((p.0.0, λ e. odd_front g h (p.0.1 e)), spelled_front g h p.1)
+spelled_front (leaf x g) h p = ((p.0.0, front_spelled (opens_name x.kind x.text) g h p.0.1), spelled_front g h p.1)
 spelled_front (node k c g) h p = (p.0, spelled_front g h p.1)
 
 pub spelled_rest : (g h : Forest) → AreSpelled (g +++ h) → AreSpelled h

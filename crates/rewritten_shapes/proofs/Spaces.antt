@@ -22,8 +22,8 @@ use Rattle.tracked_changes.specs.Draft.{NewToken, Draft, new_leaf, ◌then◌}
 use Rattle.syntax_rules.specs.Around.{Around, within}
 use Rattle.syntax_rules.specs.HashComment.{hash_comment}
 use Rattle.syntax_rules.specs.SplitName.{begins_root, in_front, is_backslash, is_keyword, is_label, is_name, is_namespace, is_one, is_op}
-use Rattle.rewritten_shapes.specs.Laws.{AreSpelled, begins_odd, is_label_text, is_namespace_word, is_in_code}
-use Rattle.rewritten_shapes.proofs.Bilingual.{label_any, like_word, name_quiet, no_else, odd_front, quiet_label, shown_terminal, spelled_front}
+use Rattle.rewritten_shapes.specs.Laws.{AreSpelled, begins_namespace, is_label_text, is_namespace_word, opens_name}
+use Rattle.rewritten_shapes.proofs.Bilingual.{label_any, like_word, name_quiet, no_else, front_namespace, no_namespace, quiet_label, shown_terminal, spelled_front}
 use Rattle.rewritten_shapes.proofs.Calm.{shown_accepts, steady_shown}
 use Rattle.rewritten_shapes.proofs.Kept.{AllGood, Good, Kept, good_rest, kept, kept_both, kept_first, kept_join, kept_second}
 use Rattle.rewritten_shapes.proofs.Like.{like_leaf}
@@ -67,7 +67,7 @@ takes_qualified y u p s n b = go b.text
         let own : terminal (shown_token u) ≡ t.QualifiedName = ap (λ (sort : TokenKind). terminal_by sort (after u.text)) r.0 ∙ ap (λ (text : List ℕ). terminal_by token.Name text) r.2 ∙ qualified_is y.text r.1 s n in
         ap (λ (x : Terminal). (is_any_label x || is_qualified x) || same_class t.NamespaceToken x) own
 
-of_code : (sort : TokenKind) (text : List ℕ) → (is_keyword sort && bytes_eq (str_to_ascii_lowercase text) (codes "namespace")) ≡ true → is_in_code sort text ≡ true
+of_code : (sort : TokenKind) (text : List ℕ) → (is_keyword sort && bytes_eq (str_to_ascii_lowercase text) (codes "namespace")) ≡ true → opens_name sort text ≡ true
 of_code token.Keyword text e = refl
 of_code _ text e = absurd cc
 
@@ -85,7 +85,7 @@ quiet y u p (inl e) = subst (λ (z : NewToken). Quiet (shown_token z)) (sym e) (
 )
 quiet y u p (inr e) = name_quiet (shown_token u) e
 
-unit_kept : (g : Forest) → Fits V74 (namespace_name V74) g → AreSpelled g → begins_odd g ≡ false → (a : Bool → Option Around) (b : Bool) → Kept (word t.NamespaceToken) g (new_parts a b g)
+unit_kept : (g : Forest) → Fits V74 (namespace_name V74) g → AreSpelled g → begins_namespace g ≡ false → (a : Bool → Option Around) (b : Bool) → Kept (word t.NamespaceToken) g (new_parts a b g)
 unit_kept g p s o a b =
     let r = plain_is g p s o a b in
     let u = shown_token r.3 in
@@ -97,7 +97,7 @@ unit_kept g p s o a b =
     })
 
 -- the keyword stays apart from the name
-behind_space : (n : Token) (g h : Forest) (a : Bool → Option Around) (b : Bool) → accepts V74 t.Namespace n ≡ true → Fits V74 (namespace_name V74) g → Fits V74 tail_rule h → AreSpelled g → begins_odd g ≡ false
+behind_space : (n : Token) (g h : Forest) (a : Bool → Option Around) (b : Bool) → accepts V74 t.Namespace n ≡ true → Fits V74 (namespace_name V74) g → Fits V74 tail_rule h → AreSpelled g → begins_namespace g ≡ false
     → new_parts a b (leaf n (g +++ h)) ≡ leaf (shown_token (hash_comment n)) (new_parts a false (g +++ h))
 behind_space n g h a b o p q s odd =
     let r = plain_is g p s odd a false in
@@ -117,7 +117,7 @@ space_kept c (is_both {h = f} (is_word {x = n} o) (is_second (is_both {g} {h} p 
     let same : c ≡ leaf n (g +++ h) = d ∙ ap (leaf n) e in
     let sp = subst AreSpelled same s in
     let s1 = sp.1 in
-    let odd = odd_front g h (sp.0.1 (of_code n.kind n.text (space_by n.kind n.text o))) in
+    let odd = front_namespace g h (no_namespace (opens_name n.kind n.text) (begins_namespace (g +++ h)) sp.0.1 (of_code n.kind n.text (space_by n.kind n.text o))) in
     let w1 : AllGood (g +++ h) = subst AllGood same w in
     let name = unit_kept g p (spelled_front g h s1) odd a false in
     let rest : Kept (word t.NamespaceToken ~ tail_rule) (g +++ h) (new_parts a false (g +++ h)) =

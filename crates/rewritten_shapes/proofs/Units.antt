@@ -17,7 +17,7 @@ use Rattle.tracked_changes.specs.Draft as draft
 use Rattle.syntax_rules.specs.Around.{Around}
 use Rattle.syntax_rules.specs.HashComment.{hash_comment}
 use Rattle.syntax_rules.specs.SplitName.{begins_root, deleted, in_front, is_backslash, is_label, is_name, is_namespace, is_one, one_name}
-use Rattle.rewritten_shapes.specs.Laws.{AreSpelled, begins_odd, has_no_root, is_label_text, is_namespace_word, is_odd_label, is_spelled_by}
+use Rattle.rewritten_shapes.specs.Laws.{AreSpelled, begins_namespace, has_no_root, is_label_text, is_namespace_word, is_namespace_label, is_spelled_by}
 use Rattle.rewritten_shapes.proofs.NameParts.{label_token, root_token, space_token}
 use Rattle.rewritten_shapes.proofs.OperatorWords.{backslash_is}
 use Rattle.rewritten_shapes.proofs.Shown.{names_whole}
@@ -159,14 +159,14 @@ name_is f (is_both {h = k} (is_second (is_second (is_both (is_word {x = n} o) (i
     )
 
 -- a name without a lead: a label, or one that doesn't begin with `\`
-pub plain_is : (f : Forest) → Fits V74 (word t.AnyLabel ~ more_of_name) f → AreSpelled f → begins_odd f ≡ false → (a : Bool → Option Around) (b : Bool)
+pub plain_is : (f : Forest) → Fits V74 (word t.AnyLabel ~ more_of_name) f → AreSpelled f → begins_namespace f ≡ false → (a : Bool → Option Around) (b : Bool)
     → (y : Token) × (accepts V74 t.AnyLabel y ≡ true) × ((is_label_text y.text ≡ true) × (is_namespace_word y.text ≡ false)) × (u : NewToken) × Bare y u × (names_whole (written a b f) ≡ new_leaf u draft.no_more)
 plain_is f (is_both {h = h} (is_word {x = y} q) m d) s o a b =
     let sp = subst AreSpelled d s in
     let k = label_token y q in
     let word_ = label_spelled y.kind y.text k sp.0.0 in
     let l = label_more y (names_whole (written a false h)) k word_ (more_is m sp.1 a false) in
-    (y, q, (word_, ap (λ (sort : TokenKind). is_odd_label sort y.text) (sym k) ∙ ap begins_odd (sym d) ∙ o), l.0, l.1, ap (λ (g : Forest). names_whole (written a b g)) d ∙ l.2)
+    (y, q, (word_, ap (λ (sort : TokenKind). is_namespace_label sort y.text) (sym k) ∙ ap begins_namespace (sym d) ∙ o), l.0, l.1, ap (λ (g : Forest). names_whole (written a b g)) d ∙ l.2)
 
 -- a name behind `\`
 pub full_is : (x : Token) (g f : Forest) → f ≡ leaf x g → accepts V74 t.Backslash x ≡ true → Fits V74 (word t.AnyLabel ~ more_of_name) g → AreSpelled g → (a : Bool → Option Around) (b : Bool)

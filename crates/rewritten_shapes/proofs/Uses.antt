@@ -19,9 +19,9 @@ use Rattle.tracked_changes.specs.Draft.{Draft, new_leaf}
 use Rattle.syntax_rules.specs.Around.{Around, within}
 use Rattle.syntax_rules.specs.HashComment.{hash_comment}
 use Rattle.syntax_rules.specs.SplitName.{in_front, is_label, is_name}
-use Rattle.rewritten_shapes.specs.Laws.{AreSpelled, begins_odd}
+use Rattle.rewritten_shapes.specs.Laws.{AreSpelled, begins_namespace, opens_name}
 use Rattle.rewritten_shapes.specs.RefusedWords.{has_refused, in_use, in_uses, is_as, is_comma, is_of_code, is_renamed, is_root}
-use Rattle.rewritten_shapes.proofs.Bilingual.{odd_front, shown_terminal, spelled_front, spelled_rest}
+use Rattle.rewritten_shapes.proofs.Bilingual.{front_namespace, no_namespace, shown_terminal, spelled_front, spelled_rest}
 use Rattle.rewritten_shapes.proofs.Calm.{calm_asked, calm_fresh, calm_shut}
 use Rattle.rewritten_shapes.proofs.Kept.{AllGood, Good, Kept, good_front, good_rest, kept, kept_both, kept_first, kept_join, kept_second}
 use Rattle.rewritten_shapes.proofs.OperatorWords.{op_kind}
@@ -77,14 +77,14 @@ abbrev Named : Forest → Type 0
 Named new = (z : Token) × (rest : Forest) × (new ≡ leaf z rest) × (is_of_code (terminal z) ≡ false)
 
 group_kept : (u : Bool) (r r2 : Rule) → stay_apart (commas r) (maybe (word t.Comma)) ≡ true → stay_apart (commas_last r) (word t.CloseBrace) ≡ true → Item u u (commas r) (commas r2)
-    → (f : Forest) → Fits V74 (in_group V74 r) f → AreSpelled f → begins_odd f ≡ false → AllGood f → (a : Bool → Option Around) (b : Bool) (rest : Forest)
+    → (f : Forest) → Fits V74 (in_group V74 r) f → AreSpelled f → begins_namespace f ≡ false → AllGood f → (a : Bool → Option Around) (b : Bool) (rest : Forest)
     → Named (new_parts a b f) × (in_use u u (new_parts a b f +++ rest) ≡ false → Kept (in_group V83 r2) f (new_parts a b f))
 group_kept u r r2 e1 e2 items f (is_both {g = g1} nm (is_both (is_word {x = s} ps) (is_both {h = h3} (is_word {x = o} po) (is_both {g = g4} (is_both {g = g5} {h = h5} ls mb d5) (is_word {x = cl} pc) d4) d3) d2) d1) sp odd w a b rest =
     let tail = leaf s (leaf o h3) in
     let same0 : f ≡ g1 +++ tail = d1 ∙ ap (λ (v : Forest). g1 +++ v) (d2 ∙ ap (leaf s) d3) in
     let sp0 = subst AreSpelled same0 sp in
     let sp1 = (spelled_rest g1 tail sp0).1 in
-    let i = imported_names g1 nm (spelled_front g1 tail sp0) (odd_front g1 tail (ap begins_odd (sym same0) ∙ odd)) a b in
+    let i = imported_names g1 nm (spelled_front g1 tail sp0) (front_namespace g1 tail (ap begins_namespace (sym same0) ∙ odd)) a b in
     let s2 = kept_token s in
     let o2 = kept_token o in
     let c2 = kept_token cl in
@@ -111,7 +111,7 @@ group_kept u r r2 e1 e2 items f (is_both {g = g1} nm (is_both (is_word {x = s} p
           let w4 = good_front g4 (leaf cl none) (subst AllGood d4 w3) in
           let w5 = subst AllGood d5 w4 in
           let sp4 = spelled_front g4 (leaf cl none) (subst AreSpelled d4 sp1.1) in
-          let odd5 = odd_front g5 h5 (ap begins_odd (sym d5) ∙ odd_front g4 (leaf cl none) (ap begins_odd (sym d4) ∙ sp1.0.1 (brace_code o po))) in
+          let odd5 = front_namespace g5 h5 (ap begins_namespace (sym d5) ∙ front_namespace g4 (leaf cl none) (ap begins_namespace (sym d4) ∙ no_namespace (opens_name o.kind o.text) (begins_namespace h3) sp1.0.1 (brace_code o po))) in
           let plain : is_renamed (leaf c2 rest) ≡ false = ap (λ (own : Terminal). is_as own || is_root own) (shown_terminal cl) ∙ close_by (terminal cl) pc in
           let t1 = items g5 ls (spelled_front g5 h5 (subst AreSpelled d5 sp4)) odd5 (good_front g5 h5 w5) a false (m5 +++ leaf c2 rest) (comma_or_not h5 mb a (still_first false g5) (leaf c2 rest) plain) (ap (in_use u u) (sym all) ∙ inner) in
           let k4 = kept_join a false (commas r) (maybe (word t.Comma)) (commas r2) (maybe (word t.Comma)) g4 g5 h5 d5 ls mb e1 t1.0 (kept mb refl (good_rest g5 h5 w5) a (still_first false g5)) in
@@ -161,7 +161,7 @@ grouped_items u =
 abbrev keyed : Version → Rule
 keyed v = commas (imported v) ||| in_group v (grouped_of_kind v)
 
-keyed_kept : (f : Forest) → Fits V74 (keyed V74) f → AreSpelled f → begins_odd f ≡ false → AllGood f → (a : Bool → Option Around) (b : Bool) (rest : Forest) → is_renamed rest ≡ false → in_use false false (new_parts a b f +++ rest) ≡ false → Kept (keyed V83) f (new_parts a b f)
+keyed_kept : (f : Forest) → Fits V74 (keyed V74) f → AreSpelled f → begins_namespace f ≡ false → AllGood f → (a : Bool → Option Around) (b : Bool) (rest : Forest) → is_renamed rest ≡ false → in_use false false (new_parts a b f +++ rest) ≡ false → Kept (keyed V83) f (new_parts a b f)
 keyed_kept f (is_first x) s o w a b rest q m =
     kept_first (commas (imported V83)) (in_group V83 (grouped_of_kind V83)) f (new_parts a b f)
     (list_item false (imported V74) (imported V83) refl refl (imported_item false) f x s o w a b rest q m).0
@@ -192,27 +192,27 @@ const_by : (own : Terminal) → same_class t.Const own ≡ true → is_of_code o
 const_by t.Const e = refl
 const_by _ e = absurd cc
 
-imported_first : (f : Forest) → Fits V74 (imported_as_class V74) f → AreSpelled f → begins_odd f ≡ false → (a : Bool → Option Around) (b : Bool) → Named (new_parts a b f)
+imported_first : (f : Forest) → Fits V74 (imported_as_class V74) f → AreSpelled f → begins_namespace f ≡ false → (a : Bool → Option Around) (b : Bool) → Named (new_parts a b f)
 imported_first f (is_first x) s o a b =
     let i = imported_names f x s o a b in
     (i.one, none, i.same, i.no_code)
 imported_first f (is_second (is_both {g} {h} x y d)) s o a b =
-    let i = imported_names g x (spelled_front g h (subst AreSpelled d s)) (odd_front g h (ap begins_odd (sym d) ∙ o)) a b in
+    let i = imported_names g x (spelled_front g h (subst AreSpelled d s)) (front_namespace g h (ap begins_namespace (sym d) ∙ o)) a b in
     let h2 = new_parts a (still_first b g) h in
     (i.one, h2, ap (new_parts a b) d ∙ apart_parts a b g h (are_apart x y refl) ∙ ap (λ (z : Forest). z +++ h2) i.same, i.no_code)
 
-classes_first : (f : Forest) → Fits V74 (commas (imported_as_class V74)) f → AreSpelled f → begins_odd f ≡ false → (a : Bool → Option Around) (b : Bool) → Named (new_parts a b f)
+classes_first : (f : Forest) → Fits V74 (commas (imported_as_class V74)) f → AreSpelled f → begins_namespace f ≡ false → (a : Bool → Option Around) (b : Bool) → Named (new_parts a b f)
 classes_first f (is_both {g} {h} x y d) s o a b =
-    let i = imported_first g x (spelled_front g h (subst AreSpelled d s)) (odd_front g h (ap begins_odd (sym d) ∙ o)) a b in
+    let i = imported_first g x (spelled_front g h (subst AreSpelled d s)) (front_namespace g h (ap begins_namespace (sym d) ∙ o)) a b in
     let h2 = new_parts a (still_first b g) h in
     (i.0, i.1 +++ h2, ap (new_parts a b) d ∙ apart_parts a b g h (are_apart x y refl) ∙ ap (λ (z : Forest). z +++ h2) i.2, i.3)
 
-used_kept : (x : Token) (f : Forest) → Fits V74 (used V74) f → AreSpelled f → begins_odd f ≡ false → AllGood f → (a : Bool → Option Around) (b : Bool) (rest : Forest) → is_renamed rest ≡ false → in_uses (leaf x (new_parts a b f +++ rest)) ≡ false → Kept (used V83) f (new_parts a b f)
+used_kept : (x : Token) (f : Forest) → Fits V74 (used V74) f → AreSpelled f → begins_namespace f ≡ false → AllGood f → (a : Bool → Option Around) (b : Bool) (rest : Forest) → is_renamed rest ≡ false → in_uses (leaf x (new_parts a b f +++ rest)) ≡ false → Kept (used V83) f (new_parts a b f)
 used_kept x f (is_first (is_both {h} (is_first (is_word {x = z} p)) y d)) s o w a b rest q m =
     let sp = subst AreSpelled d s in
     let same : new_parts a b f ≡ leaf (kept_token z) (new_parts a false h) = ap (new_parts a b) d ∙ alone a b t.Function z h refl p in
     let n = keyed_by x (kept_token z) (new_parts a false h +++ rest) (ap is_of_code (shown_terminal z) ∙ function_by (terminal z) p) (ap (λ (v : Forest). in_uses (leaf x (v +++ rest))) (sym same) ∙ m) in
-    let inner = keyed_kept h y sp.1 (sp.0.1 (function_code z p)) (subst AllGood d w) a false rest q n in
+    let inner = keyed_kept h y sp.1 (no_namespace (opens_name z.kind z.text) (begins_namespace h) sp.0.1 (function_code z p)) (subst AllGood d w) a false rest q n in
     kept_first ((word t.Function ||| word t.Const) ~ keyed V83) (commas (imported_as_class V83) ||| in_group V83 (grouped_as_class V83)) f (new_parts a b f)
     (kept_join a b (word t.Function ||| word t.Const) (keyed V74) (word t.Function ||| word t.Const) (keyed V83) f (leaf z none) h d (is_first (is_word p)) y refl
     (kept_first (word t.Function) (word t.Const) (leaf z none) (leaf (kept_token z) none) (word_steady t.Function z refl p)) inner)
@@ -220,7 +220,7 @@ used_kept x f (is_first (is_both {h} (is_second (is_word {x = z} p)) y d)) s o w
     let sp = subst AreSpelled d s in
     let same : new_parts a b f ≡ leaf (kept_token z) (new_parts a false h) = ap (new_parts a b) d ∙ alone a b t.Const z h refl p in
     let n = keyed_by x (kept_token z) (new_parts a false h +++ rest) (ap is_of_code (shown_terminal z) ∙ const_by (terminal z) p) (ap (λ (v : Forest). in_uses (leaf x (v +++ rest))) (sym same) ∙ m) in
-    let inner = keyed_kept h y sp.1 (sp.0.1 (const_code z p)) (subst AllGood d w) a false rest q n in
+    let inner = keyed_kept h y sp.1 (no_namespace (opens_name z.kind z.text) (begins_namespace h) sp.0.1 (const_code z p)) (subst AllGood d w) a false rest q n in
     kept_first ((word t.Function ||| word t.Const) ~ keyed V83) (commas (imported_as_class V83) ||| in_group V83 (grouped_as_class V83)) f (new_parts a b f)
     (kept_join a b (word t.Function ||| word t.Const) (keyed V74) (word t.Function ||| word t.Const) (keyed V83) f (leaf z none) h d (is_second (is_word p)) y refl
     (kept_second (word t.Function) (word t.Const) (leaf z none) (leaf (kept_token z) none) (word_steady t.Const z refl p)) inner)
@@ -244,7 +244,7 @@ use_kept c (is_both {h = i} (is_word {x} p) (is_both {g} y (is_word {x = z} v) e
     let sp = subst AreSpelled d s in
     let w1 = good_front g (leaf z none) (subst AllGood e (subst AllGood d w)) in
     let sp1 = spelled_front g (leaf z none) (subst AreSpelled e sp.1) in
-    let odd = odd_front g (leaf z none) (ap begins_odd (sym e) ∙ sp.0.1 (use_code x p)) in
+    let odd = front_namespace g (leaf z none) (ap begins_namespace (sym e) ∙ no_namespace (opens_name x.kind x.text) (begins_namespace i) sp.0.1 (use_code x p)) in
     let body : Fits V74 (used V74 ~ word t.Semi) i = is_both y (is_word v) e in
     let tail : new_parts a false i ≡ new_parts a false g +++ leaf z2 none = ap (new_parts a false) e ∙ apart_parts a false g (leaf z none) (are_apart y (is_word {c = t.Semi} {x = z} v) refl) in
     let same : new_parts a b c ≡ leaf x2 (new_parts a false g +++ leaf z2 none) = ap (new_parts a b) d ∙ alone a b t.Use x i refl p ∙ ap (leaf x2) tail in

@@ -13,9 +13,9 @@ use Rattle.php_shapes.specs.Notation.{Rule, nothing, word, ◌~◌, ◌|||◌, m
 use Rattle.php_shapes.specs.Shapes.{Fits, is_nothing, is_word, is_both, is_first, is_second, no_more, once_more}
 use Rattle.syntax_rules.specs.Around.{Around}
 use Rattle.syntax_rules.specs.HashComment.{hash_comment}
-use Rattle.rewritten_shapes.specs.Laws.{AreSpelled, begins_odd, is_in_code}
+use Rattle.rewritten_shapes.specs.Laws.{AreSpelled, begins_namespace, opens_name}
 use Rattle.rewritten_shapes.specs.RefusedWords.{in_use, is_any_of_them, is_as, is_comma, is_keyword_now, is_of_code, is_renamed, is_root, is_type_now}
-use Rattle.rewritten_shapes.proofs.Bilingual.{all_four, keywords, label_kept, left_false, odd_front, or_false, shown_terminal, spelled_front, spelled_rest}
+use Rattle.rewritten_shapes.proofs.Bilingual.{all_four, keywords, label_kept, left_false, front_namespace, no_namespace, or_false, shown_terminal, spelled_front, spelled_rest}
 use Rattle.rewritten_shapes.proofs.Calm.{asks_calm, calm_asked, calm_shut, is_steady, shown_accepts, steady_shown}
 use Rattle.rewritten_shapes.proofs.Kept.{AllGood, Kept, good_front, good_rest, kept_first, kept_join, kept_many, kept_second}
 use Rattle.rewritten_shapes.proofs.Like.{like_leaf, like_none}
@@ -54,7 +54,7 @@ comma_plain x p = ap (λ (own : Terminal). is_as own || is_root own) (shown_term
 -- What a use asks of parts, behind which no alias and no braces stand: where they have no refused word, they are kept, and what
 -- stands behind them has none.
 abbrev pub Item : Bool → Bool → Rule → Rule → Type 0
-Item u c r r2 = (f : Forest) → Fits V74 r f → AreSpelled f → begins_odd f ≡ false → AllGood f → (a : Bool → Option Around) (b : Bool) (rest : Forest) → is_renamed rest ≡ false
+Item u c r r2 = (f : Forest) → Fits V74 r f → AreSpelled f → begins_namespace f ≡ false → AllGood f → (a : Bool → Option Around) (b : Bool) (rest : Forest) → is_renamed rest ≡ false
     → in_use u c (new_parts a b f +++ rest) ≡ false → Kept r2 f (new_parts a b f) × (d : Bool) × (in_use u d rest ≡ false)
 
 alias_kept : (u c : Bool) (f : Forest) → Fits V74 alias f → (a : Bool → Option Around) (b : Bool) (rest : Forest) → in_use u c (new_parts a b f +++ rest) ≡ false
@@ -76,7 +76,7 @@ alias_kept u c f (is_second (is_both (is_word {x} p) (is_word {x = l} q) d)) a b
 -- a name and an alias, or none
 pub named_item : (u c : Bool) (r : Rule) (n k : Terminal) → stay_apart r alias ≡ true → Names r n k → Item u c (r ~ alias) (word n ~ alias)
 named_item u c r n k e names f (is_both {g} {h} x y d) s o w a b rest q m =
-    let i = names g x (spelled_front g h (subst AreSpelled d s)) (odd_front g h (ap begins_odd (sym d) ∙ o)) a b in
+    let i = names g x (spelled_front g h (subst AreSpelled d s)) (front_namespace g h (ap begins_namespace (sym d) ∙ o)) a b in
     let h2 = new_parts a (still_first b g) h in
     let same : new_parts a b f ≡ leaf i.one h2 = ap (new_parts a b) d ∙ apart_parts a b g h (are_apart x y e) ∙ ap (λ (z : Forest). z +++ h2) i.same in
     let s1 = use_step u c i.one (h2 +++ rest) (ap (λ (z : Forest). in_use u c (z +++ rest)) (sym same) ∙ m) in
@@ -93,7 +93,7 @@ class_item u r n k names f x s o w a b rest q m =
 -- a name, and an alias for a class
 pub renamed_item : (u : Bool) (r : Rule) (n k : Terminal) → stay_apart r (word t.As ~ word t.ClassLabel) ≡ true → Names r n k → Item u true (r ~ word t.As ~ word t.ClassLabel) (word n ~ word t.As ~ word t.ClassLabel)
 renamed_item u r n k e names f (is_both {g} {h} x (is_both (is_word {x = y} p) (is_word {x = l} v) d2) d) s o w a b rest q m =
-    let i = names g x (spelled_front g h (subst AreSpelled d s)) (odd_front g h (ap begins_odd (sym d) ∙ o)) a b in
+    let i = names g x (spelled_front g h (subst AreSpelled d s)) (front_namespace g h (ap begins_namespace (sym d) ∙ o)) a b in
     let tail : Fits V74 (word t.As ~ word t.ClassLabel) h = is_both (is_word p) (is_word v) d2 in
     let b2 = still_first b g in
     let y2 = kept_token y in
@@ -115,14 +115,14 @@ renamed_item u r n k e names f (is_both {g} {h} x (is_both (is_word {x = y} p) (
     )
 
 -- an item behind `function` or `const`
-pub marked_item : (u c : Bool) (key : Terminal) (r r2 : Rule) → is_steady key ≡ true → asks_calm key ≡ true → stay_apart (word key) r ≡ true → ((x : Token) → accepts V74 key x ≡ true → is_in_code x.kind x.text ≡ true)
+pub marked_item : (u c : Bool) (key : Terminal) (r r2 : Rule) → is_steady key ≡ true → asks_calm key ≡ true → stay_apart (word key) r ≡ true → ((x : Token) → accepts V74 key x ≡ true → opens_name x.kind x.text ≡ true)
     → ((c : Bool) → Item u c r r2) → Item u c (word key ~ r) (word key ~ r2)
 marked_item u c key r r2 st calm e code item f (is_both {h} (is_word {x} p) y d) s o w a b rest q m =
     let sp = subst AreSpelled d s in
     let x2 = kept_token x in
     let same : new_parts a b f ≡ leaf x2 (new_parts a false h) = ap (new_parts a b) d ∙ alone a b key x h calm p in
     let s1 = use_step u c x2 (new_parts a false h +++ rest) (ap (λ (z : Forest). in_use u c (z +++ rest)) (sym same) ∙ m) in
-    let t1 = item (flag_after u c x2) h y sp.1 (sp.0.1 (code x p)) (subst AllGood d w) a false rest q s1.2 in
+    let t1 = item (flag_after u c x2) h y sp.1 (no_namespace (opens_name x.kind x.text) (begins_namespace h) sp.0.1 (code x p)) (subst AllGood d w) a false rest q s1.2 in
     (kept_join a b (word key) r (word key) r2 f (leaf x none) h d (is_word p) y e (word_steady key x st p) t1.0, t1.1, t1.2)
 
 pub either_item : (u c : Bool) (r s r2 s2 : Rule) → Item u c r r2 → Item u c s s2 → Item u c (r ||| s) (r2 ||| s2)
@@ -160,7 +160,7 @@ more_kept u r r2 e item f (once_more {g} {h} (is_both {h = i} (is_word {x} p) y 
     let st = use_step u c x2 ((i2 +++ h2) +++ rest) (ap (λ (v : Forest). in_use u c (v +++ rest)) (sym same) ∙ m) in
     let flag : flag_after u c x2 ≡ u = comma_flag u c x2 (ap is_comma (shown_terminal x) ∙ (comma_by (terminal x) p).1) in
     let n1 : in_use u u (i2 +++ (h2 +++ rest)) ≡ false = ap (in_use u u) (sym (forest_assoc i2 h2 rest)) ∙ ap (λ (v : Bool). in_use u v ((i2 +++ h2) +++ rest)) (sym flag) ∙ st.2 in
-    let t1 = item i y (spelled_front i h s1.1) (odd_front i h (s1.0.1 (comma_code x p))) (good_front i h w1) a false (h2 +++ rest) (many_plain r h z a b2 rest q) n1 in
+    let t1 = item i y (spelled_front i h s1.1) (front_namespace i h (no_namespace (opens_name x.kind x.text) (begins_namespace (i +++ h)) s1.0.1 (comma_code x p))) (good_front i h w1) a false (h2 +++ rest) (many_plain r h z a b2 rest q) n1 in
     let t2 = more_kept u r r2 e item h z (spelled_rest i h s1.1) (good_rest i h w1) a b2 rest q t1.1 t1.2 in
     let first = kept_join a b (word t.Comma) r (word t.Comma) r2 g (leaf x none) i d1 (is_word p) y refl (word_steady t.Comma x refl p) t1.0 in
     (kept_many a b (word t.Comma ~ r) (word t.Comma ~ r2) f g h d one z e first t2.0, t2.1, t2.2)
@@ -175,6 +175,6 @@ list_item u r r2 e1 e item f (is_both {g} {h} x y d) s o w a b rest q m =
     let h2 = new_parts a b2 h in
     let same : new_parts a b f ≡ g2 +++ h2 = ap (new_parts a b) d ∙ apart_parts a b g h (are_apart x y e1) in
     let n1 : in_use u u (g2 +++ (h2 +++ rest)) ≡ false = ap (in_use u u) (sym (forest_assoc g2 h2 rest)) ∙ ap (λ (v : Forest). in_use u u (v +++ rest)) (sym same) ∙ m in
-    let t1 = item g x (spelled_front g h sp) (odd_front g h (ap begins_odd (sym d) ∙ o)) (good_front g h al) a b (h2 +++ rest) (many_plain r h y a b2 rest q) n1 in
+    let t1 = item g x (spelled_front g h sp) (front_namespace g h (ap begins_namespace (sym d) ∙ o)) (good_front g h al) a b (h2 +++ rest) (many_plain r h y a b2 rest q) n1 in
     let t2 = more_kept u r r2 e item h y (spelled_rest g h sp) (good_rest g h al) a b2 rest q t1.1 t1.2 in
     (kept_join a b r (many (word t.Comma ~ r)) r2 (many (word t.Comma ~ r2)) f g h d x y e1 t1.0 t2.0, t2.1, t2.2)

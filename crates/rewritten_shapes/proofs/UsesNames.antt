@@ -17,7 +17,7 @@ use Rattle.tracked_changes.specs.Pieces.{after}
 use Rattle.tracked_changes.specs.Draft.{NewToken}
 use Rattle.syntax_rules.specs.Around.{Around}
 use Rattle.syntax_rules.specs.HashComment.{hash_comment}
-use Rattle.rewritten_shapes.specs.Laws.{AreSpelled, begins_odd, is_label_text, is_namespace_word}
+use Rattle.rewritten_shapes.specs.Laws.{AreSpelled, begins_namespace, is_label_text, is_namespace_word}
 use Rattle.rewritten_shapes.specs.RefusedWords.{is_comma, is_keyword_now, is_of_code, is_type_name, is_type_now}
 use Rattle.rewritten_shapes.proofs.Bilingual.{label_any, like_word, no_else, of_name, shown_terminal}
 use Rattle.rewritten_shapes.proofs.Kept.{Kept}
@@ -118,7 +118,7 @@ pub record Imported (n k : Terminal) (f new : Forest) : Type 0 where
 
 -- names of a rule become such tokens
 abbrev pub Names : Rule → Terminal → Terminal → Type 0
-Names r n k = (f : Forest) → Fits V74 r f → AreSpelled f → begins_odd f ≡ false → (a : Bool → Option Around) (b : Bool) → Imported n k f (new_parts a b f)
+Names r n k = (f : Forest) → Fits V74 r f → AreSpelled f → begins_namespace f ≡ false → (a : Bool → Option Around) (b : Bool) → Imported n k f (new_parts a b f)
 
 imported_from : (n k : Terminal) (r : Rule) (f new : Forest) (u : Token) → Fits V74 r f → of_name r ≡ true → may_be_empty r ≡ false → new ≡ leaf u none → is_name_of true (terminal u) ≡ true
     → (is_keyword_now (terminal u) ≡ false → accepts V83 n u ≡ true) → (is_keyword_now (terminal u) ≡ false → is_type_name u ≡ false → accepts V83 k u ≡ true) → Imported n k f new
@@ -162,7 +162,7 @@ imported_token f u a b x same own =
 
 pub imported_names : Names (imported_name V74) t.ImportedName t.ImportedClass
 imported_names f (is_both {h = h} (is_first is_nothing) x d) s o a b =
-    let r = plain_is h x (subst AreSpelled d s) (ap begins_odd (sym d) ∙ o) a b in
+    let r = plain_is h x (subst AreSpelled d s) (ap begins_namespace (sym d) ∙ o) a b in
     let same : new_parts a b f ≡ leaf (shown_token r.3) none = ap (new_parts a b) d ∙ ap shown r.5 in
     imported_token f (shown_token r.3) a b (is_both (is_first is_nothing) x d) same (to_full (terminal (shown_token r.3)) (plain_class r.0 r.3 r.1 r.2.0 r.2.1 r.4))
 imported_names f (is_both {h = h} (is_second (is_word {x = y} p)) x d) s o a b =

@@ -11,7 +11,7 @@ use Rattle.php_terminals.specs.Classify.{cast, cast_letter, name, opening, termi
 use Rattle.php_terminals.specs.Words.{front, is_word, label, labels, operator, operators}
 use Rattle.php_grammar.specs.Accepts.{same_class}
 use Rattle.syntax_rules.specs.Around.{Around}
-use Rattle.rewritten_shapes.specs.Laws.{is_in_code}
+use Rattle.rewritten_shapes.specs.Laws.{opens_name}
 use Rattle.rewritten_shapes.specs.RefusedWords.{in_use, in_uses, is_comma, is_keyword_now, is_of_code, is_renamed, is_type_name, named}
 use Rattle.rewritten_shapes.proofs.NameParts.{clash, cond_not, or_none}
 use Rattle.rewritten_shapes.proofs.OperatorWords.{found, low_word, op_kind, open_brace_is, rows_not}
@@ -43,7 +43,7 @@ operator_no_key : (text : List ℕ) → asks_key (operator text) ≡ false
 unfolding operators
 operator_no_key text = rows_not asks_key t.OtherOp operators text refl refl
 
-key_by : (sort : TokenKind) (text : List ℕ) → asks_key (terminal_by sort text) ≡ true → is_in_code sort text ≡ true
+key_by : (sort : TokenKind) (text : List ℕ) → asks_key (terminal_by sort text) ≡ true → opens_name sort text ≡ true
 key_by token.Keyword text e = refl
 key_by token.Label text e = absurd (clash (label_no_key text) e)
 key_by token.Op text e = absurd (clash (operator_no_key text) e)
@@ -51,13 +51,13 @@ key_by token.Cast text e = absurd (clash (cast_not asks_key text refl refl) e)
 key_by token.Name text e = absurd (clash (name_not asks_key text refl refl refl) e)
 key_by _ text e = absurd cc
 
-pub use_code : (x : Token) → same_class t.Use (terminal x) ≡ true → is_in_code x.kind x.text ≡ true
+pub use_code : (x : Token) → same_class t.Use (terminal x) ≡ true → opens_name x.kind x.text ≡ true
 use_code x e = key_by x.kind x.text (or_left (same_class t.Use (terminal x)) _ e)
 
-pub function_code : (x : Token) → same_class t.Function (terminal x) ≡ true → is_in_code x.kind x.text ≡ true
+pub function_code : (x : Token) → same_class t.Function (terminal x) ≡ true → opens_name x.kind x.text ≡ true
 function_code x e = key_by x.kind x.text (or_right (same_class t.Use (terminal x)) _ (or_left (same_class t.Function (terminal x)) _ e))
 
-pub const_code : (x : Token) → same_class t.Const (terminal x) ≡ true → is_in_code x.kind x.text ≡ true
+pub const_code : (x : Token) → same_class t.Const (terminal x) ≡ true → opens_name x.kind x.text ≡ true
 const_code x e = key_by x.kind x.text (or_right (same_class t.Use (terminal x)) _ (or_right (same_class t.Function (terminal x)) _ e))
 
 abbrev asks_comma : Terminal → Bool
@@ -67,11 +67,11 @@ label_no_comma : (text : List ℕ) → asks_comma (label text) ≡ false
 unfolding labels
 label_no_comma text = rows_not asks_comma t.Label labels text refl refl
 
-comma_word : (text : List ℕ) → asks_comma (operator text) ≡ true → is_in_code token.Op text ≡ true
+comma_word : (text : List ℕ) → asks_comma (operator text) ≡ true → opens_name token.Op text ≡ true
 unfolding operators
-comma_word text e = ap (is_in_code token.Op) (low_word (codes ",") text refl (or_none (is_word (codes ",") text) (found t.Comma t.OtherOp operators text refl e)))
+comma_word text e = ap (opens_name token.Op) (low_word (codes ",") text refl (or_none (is_word (codes ",") text) (found t.Comma t.OtherOp operators text refl e)))
 
-comma_by : (sort : TokenKind) (text : List ℕ) → asks_comma (terminal_by sort text) ≡ true → is_in_code sort text ≡ true
+comma_by : (sort : TokenKind) (text : List ℕ) → asks_comma (terminal_by sort text) ≡ true → opens_name sort text ≡ true
 comma_by token.Keyword text e = refl
 comma_by token.Label text e = absurd (clash (label_no_comma text) e)
 comma_by token.Op text e = comma_word text e
@@ -79,11 +79,11 @@ comma_by token.Cast text e = absurd (clash (cast_not asks_comma text refl refl) 
 comma_by token.Name text e = absurd (clash (name_not asks_comma text refl refl refl) e)
 comma_by _ text e = absurd cc
 
-pub comma_code : (x : Token) → same_class t.Comma (terminal x) ≡ true → is_in_code x.kind x.text ≡ true
+pub comma_code : (x : Token) → same_class t.Comma (terminal x) ≡ true → opens_name x.kind x.text ≡ true
 comma_code x e = comma_by x.kind x.text e
 
-pub brace_code : (x : Token) → same_class t.OpenBrace (terminal x) ≡ true → is_in_code x.kind x.text ≡ true
-brace_code x e = ap (λ (sort : TokenKind). is_in_code sort x.text) (op_kind x.kind t.OpenBrace x.text refl e) ∙ ap (is_in_code token.Op) (open_brace_is x e)
+pub brace_code : (x : Token) → same_class t.OpenBrace (terminal x) ≡ true → opens_name x.kind x.text ≡ true
+brace_code x e = ap (λ (sort : TokenKind). opens_name sort x.text) (op_kind x.kind t.OpenBrace x.text refl e) ∙ ap (opens_name token.Op) (open_brace_is x e)
 
 -- ---- one token of a use
 

@@ -42,29 +42,29 @@ is_spelled_by token.Cast text = not (is_old (cast text)) || (bytes_eq (bare text
 is_spelled_by token.DollarBrace text = bytes_eq text (codes "${")
 is_spelled_by _ text = true
 
--- whether a token is a keyword, `\`, `,` or `{`: it stands in code, where the word `namespace` is no label
-abbrev pub is_in_code : TokenKind → List ℕ → Bool
-is_in_code token.Keyword text = true
-is_in_code token.Op text = bytes_eq text (codes "\\") || (bytes_eq text (codes ",") || bytes_eq text (codes "{"))
-is_in_code _ text = false
-
--- whether a label is spelled `namespace`, as the name of a property in a quoted text may be
-abbrev pub is_odd_label : TokenKind → List ℕ → Bool
-is_odd_label token.Label text = is_namespace_word text
-is_odd_label _ text = false
+-- whether a token is a label that is spelled `namespace`
+abbrev pub is_namespace_label : TokenKind → List ℕ → Bool
+is_namespace_label token.Label text = is_namespace_word text
+is_namespace_label _ text = false
 
 -- whether parts begin with such a label
-abbrev pub begins_odd : Forest → Bool
-begins_odd none = false
-begins_odd (leaf y f) = is_odd_label y.kind y.text
-begins_odd (node k c f) = false
+abbrev pub begins_namespace : Forest → Bool
+begins_namespace none = false
+begins_namespace (leaf y f) = is_namespace_label y.kind y.text
+begins_namespace (node k c f) = false
 
--- A token before some parts is spelled as a source has it: its own text is, and no label `namespace` stands directly behind it
--- in code.
+-- whether a name may begin behind a token: a keyword, `\`, `,` or `{`
+abbrev pub opens_name : TokenKind → List ℕ → Bool
+opens_name token.Keyword text = true
+opens_name token.Op text = bytes_eq text (codes "\\") || (bytes_eq text (codes ",") || bytes_eq text (codes "{"))
+opens_name _ text = false
+
+-- A token before some parts is spelled as in a source: its text is, and where a name may begin behind it, no label `namespace`
+-- stands there. Only a simple property or offset of a quoted text is such a label, as in `"$a->namespace"`.
 abbrev pub IsSpelled : Token → Forest → Type 0
-IsSpelled x f = (is_spelled_by x.kind x.text ≡ true) × (is_in_code x.kind x.text ≡ true → begins_odd f ≡ false)
+IsSpelled x f = (is_spelled_by x.kind x.text ≡ true) × ((opens_name x.kind x.text && begins_namespace f) ≡ false)
 
--- Each label, each `${` and each cast that 8.3 lacks has a text as the tokens of a source have it.
+-- Each token is spelled as in a source.
 abbrev pub AreSpelled : Forest → Type 0
 AreSpelled none = Unit {0}
 AreSpelled (leaf x f) = IsSpelled x f × AreSpelled f
