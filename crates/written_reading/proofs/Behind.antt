@@ -18,7 +18,8 @@ use Rattle.php_lexer.specs.Heredocs.{led}
 use Rattle.php_lexer.specs.Rules.{Row, rule, is_tail, kind_by}
 use Rattle.php_lexer.specs.Modes.{Mode, html, code, named, quoted, offset, property, rows_of, label_in, kind_of, code_turn, turn_of}
 use Rattle.php_lexer.specs.Lexed.{Lexeme, Stack, Lexed, ends, trivia, token, turned_by, lexeme}
-use Rattle.written_reading.specs.Laws.{is_namespace_label, opens_name, begins_namespace, NoneBehind, NoNameIsNamespace}
+use Rattle.rewritten_shapes.specs.Laws.{is_namespace_label, opens_name}
+use Rattle.written_reading.specs.Laws.{begins_namespace, NoneBehind, NoNameIsNamespace}
 use Rattle.written_reading.proofs.Texts.{no_namespace}
 
 -- ---- what all rows of a list have

@@ -10,26 +10,26 @@ use Rattle.php_shapes.proofs.Walked.{file_has_shape}
 use Rattle.php_reading.specs.Reading.{Reads}
 use Rattle.php_reading.proofs.Trees.{one_tree}
 use Rattle.syntax_rules.specs.Rewritten.{rewritten}
-use Rattle.rewritten_shapes.specs.Laws.{AreSpelled}
+use Rattle.rewritten_shapes.specs.Laws.{AreSpelled, RewrittenHasShape}
 use Rattle.rewritten_shapes.proofs.Depths.{rewritten_is_shallow}
-use Rattle.written_reading.specs.Laws.{NoNamespaceLabel, ShapedIsRead, RewrittenIsRead}
+use Rattle.written_reading.specs.Laws.{ShapedIsRead, RewrittenIsRead}
 use Rattle.written_reading.proofs.Sources.{sources_are_spelled}
 
 -- the texts of a file that 7.4 reads
-spelled : (bytes : List ℕ) (f : File) → Reads V74 bytes f → NoNamespaceLabel f.statements → AreSpelled f.statements
-spelled bytes f r n = sources_are_spelled V74 bytes f (subst (TokensOf V74 bytes) r.parsed.text r.lexed) n
+spelled : (bytes : List ℕ) (f : File) → Reads V74 bytes f → AreSpelled f.statements
+spelled bytes f r = sources_are_spelled V74 bytes f (subst (TokensOf V74 bytes) r.parsed.text r.lexed)
 
 -- that files with the shape are read
 abbrev pub AreRead : Type 0
 AreRead = (v : Version) (f : File) → Shape v f → depth f.statements ≤ bound v → ReadsFile v (file_leaves f) f
 
 pub shaped_is_read : AreRead → ShapedIsRead
-shaped_is_read file_is_read bytes f r n shape tokens =
-    let low : depth (rewritten f).statements ≤ 1500 = rewritten_is_shallow f (spelled bytes f r n) r.parsed.low in
+shaped_is_read file_is_read bytes f r shape tokens =
+    let low : depth (rewritten f).statements ≤ 1500 = rewritten_is_shallow f (spelled bytes f r) r.parsed.low in
     let parsed : ReadsFile V83 (file_leaves (rewritten f)) (rewritten f) = file_is_read V83 (rewritten f) shape low in
     let reads : Reads V83 (file_printed (rewritten f)) (rewritten f) = record { tokens = file_leaves (rewritten f); lexed = tokens; parsed = parsed } in
     record { reads = reads; only = λ g h. one_tree V83 (file_printed (rewritten f)) g (rewritten f) h reads }
 
-pub rewritten_is_read : ShapedIsRead → RewrittenIsRead
-rewritten_is_read shaped_is_read shapes lexes bytes f r reported safe n =
-    shaped_is_read bytes f r n (shapes f (file_has_shape V74 r.tokens f r.parsed).0 (spelled bytes f r n) reported) (lexes bytes f r reported safe)
+pub rewritten_is_read : ShapedIsRead → RewrittenHasShape → RewrittenIsRead
+rewritten_is_read shaped_is_read shapes lexes bytes f r reported safe =
+    shaped_is_read bytes f r (shapes f (file_has_shape V74 r.tokens f r.parsed).0 (spelled bytes f r) reported) (lexes bytes f r reported safe)

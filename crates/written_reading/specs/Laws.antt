@@ -1,46 +1,26 @@
 -- The reading of rewritten files.
-use Rattle.std.specs.Prelude.{◌≡◌, ℕ, Bool, false, true, ◌&&◌, ◌||◌, List, [], ◌∷◌, codes}
-use Rattle.std.specs.Str.{bytes_eq, str_to_ascii_lowercase}
+use Rattle.std.specs.Prelude.{◌≡◌, ℕ, Bool, false, ◌&&◌, List, [], ◌∷◌}
 use Rattle.php_tree.specs.declared.token.Token.{Token}
-use Rattle.php_tree.specs.declared.token.TokenKind.{TokenKind}
-use Rattle.php_tree.specs.declared.token.TokenKind.TheVariants as token
 use Rattle.php_tree.specs.declared.version.Version.{Version}
 use Rattle.php_tree.specs.declared.version.Version.TheVariants.{V74, V83}
-use Rattle.php_tree.specs.Tree.{Forest, none, leaf, node, File, file_leaves, file_printed}
+use Rattle.php_tree.specs.Tree.{File, file_leaves, file_printed}
 use Rattle.php_lexer.specs.Lexed.{TokensOf}
 use Rattle.php_shapes.specs.Shapes.{Shape}
 use Rattle.php_reading.specs.Reading.{Reads}
 use Rattle.syntax_rules.specs.Rewritten.{rewritten}
-use Rattle.rewritten_shapes.specs.Laws.{AreSpelled, NoneReported, RewrittenHasShape}
+use Rattle.rewritten_shapes.specs.Laws.{AreSpelled, NoneReported, is_namespace_label, opens_name}
 use Rattle.rewritten_tokens.specs.Written.{NoNullsafeText, HasTokens}
 
 -- ---- the texts of tokens
-
--- whether a token is a label that is spelled `namespace`, in any case
-abbrev pub is_namespace_label : TokenKind → List ℕ → Bool
-is_namespace_label token.Label text = bytes_eq (str_to_ascii_lowercase text) (codes "namespace")
-is_namespace_label _ text = false
-
--- Whether no label is spelled `namespace`. Only a simple property or offset of a quoted text can be, as in `"$a->namespace"`.
-abbrev pub NoNamespaceLabel : Forest → Type 0
-NoNamespaceLabel none = Unit {0}
-NoNamespaceLabel (leaf t f) = (is_namespace_label t.kind t.text ≡ false) × NoNamespaceLabel f
-NoNamespaceLabel (node k c f) = NoNamespaceLabel c × NoNamespaceLabel f
 
 -- The labels, casts and `${` of a file have the texts that the tokens of its bytes have.
 abbrev pub SourcesAreSpelled : Type 0
 SourcesAreSpelled =
     (v : Version) (bytes : List ℕ) (f : File) →
     TokensOf v bytes (file_leaves f) →
-    NoNamespaceLabel f.statements →
     AreSpelled f.statements
 
--- whether a name may begin behind a token: a keyword, `\`, `,` or `{`
-abbrev pub opens_name : TokenKind → List ℕ → Bool
-opens_name token.Keyword text = true
-opens_name token.Op text = bytes_eq text (codes "\\") || (bytes_eq text (codes ",") || bytes_eq text (codes "{"))
-opens_name _ text = false
-
+-- whether a label that is spelled `namespace` comes first
 abbrev pub begins_namespace : List Token → Bool
 begins_namespace [] = false
 begins_namespace (t ∷ ts) = is_namespace_label t.kind t.text
@@ -66,7 +46,6 @@ abbrev pub ShapedIsRead : Type 0
 ShapedIsRead =
     (bytes : List ℕ) (f : File) →
     Reads V74 bytes f →
-    NoNamespaceLabel f.statements →
     Shape V83 (rewritten f) →
     HasTokens (rewritten f) →
     IsRead V83 (rewritten f)
@@ -81,15 +60,13 @@ RewrittenIsLexed =
     NoNullsafeText f →
     HasTokens (rewritten f)
 
--- Where the rewriting keeps shapes and tokens, each file that 7.4 reads is read by 8.3 once it is rewritten, where the rules
--- report nothing that stops compiling.
+-- Where rewritten files have their tokens, each file that 7.4 reads is read by 8.3 once it is rewritten, where the rules report
+-- nothing that stops compiling.
 abbrev pub RewrittenIsRead : Type 0
 RewrittenIsRead =
-    RewrittenHasShape →
     RewrittenIsLexed →
     (bytes : List ℕ) (f : File) →
     Reads V74 bytes f →
     NoneReported f.statements →
     NoNullsafeText f →
-    NoNamespaceLabel f.statements →
     IsRead V83 (rewritten f)

@@ -28,12 +28,13 @@ pub fn shaped_is_read()
     php_shapes::files_with_the_shape_are_read();
 }
 
-/// Where the rewriting keeps shapes and tokens, each file that 7.4 reads is read by 8.3 from its bytes
-/// once it is rewritten, and no other file is, where the rules report nothing that stops compiling.
+/// Where rewritten files have their tokens, each file that 7.4 reads is read by 8.3 from its bytes once
+/// it is rewritten, and no other file is, where the rules report nothing that stops compiling.
 pub fn rewritten_is_read()
     ensures { RewrittenIsRead }
 {
     shaped_is_read();
+    rewritten_shapes::rewritten_has_shape();
 }
 
 #[cfg(test)]
