@@ -14,3 +14,4 @@ pub mod Ending
 pub mod Parts
 pub mod Levels
 pub mod Enclosed
+pub mod Stays

@@ -7,3 +7,4 @@ pub mod Parted
 pub mod Spaced
 pub mod Levels
 pub mod Enclosed
+pub mod Stays

@@ -10,6 +10,7 @@ ghost use Rattle.rewritten_tokens.specs.Parted.{WholeOfParts};
 ghost use Rattle.rewritten_tokens.specs.Spaced.{SpacesComeFirst, PartsAreWritten};
 ghost use Rattle.rewritten_tokens.specs.Levels.{LevelsPass};
 ghost use Rattle.rewritten_tokens.specs.Enclosed.{LevelsJoin, SquaresStandRound, RoundsStandRound};
+ghost use Rattle.rewritten_tokens.specs.Stays.{CodeStays};
 
 /// The tokens of any bytes stand in a row with their trivia, each the longest of the mode that those
 /// before leave.
@@ -82,6 +83,11 @@ pub fn rounds_stand_round()
     ensures { RoundsStandRound }
 {}
 
+/// Each token and trivia of code that may stand before other bytes stays so, where these go on alike.
+pub fn code_stays()
+    ensures { CodeStays }
+{}
+
 #[cfg(test)]
 mod tests {
     use super::*;
@@ -101,5 +107,6 @@ mod tests {
         levels_join();
         squares_stand_round();
         rounds_stand_round();
+        code_stays();
     }
 }
