@@ -14,4 +14,5 @@ pub mod Ending
 pub mod Parts
 pub mod Levels
 pub mod Enclosed
+pub mod NearStays
 pub mod Stays
