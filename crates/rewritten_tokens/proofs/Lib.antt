@@ -12,6 +12,9 @@ pub mod Parted
 pub mod Spaced
 pub mod Ending
 pub mod Parts
+pub mod Texts
+pub mod TextsDrafted
+pub mod TextsRead
 pub mod Levels
 pub mod Enclosed
 pub mod NearStays

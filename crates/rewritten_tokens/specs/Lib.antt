@@ -8,3 +8,4 @@ pub mod Spaced
 pub mod Levels
 pub mod Enclosed
 pub mod Stays
+pub mod Texts

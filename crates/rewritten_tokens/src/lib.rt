@@ -8,6 +8,7 @@ ghost use Rattle.rewritten_tokens.specs.Written.{RewrittenHasTokens, RowsAreWrit
 ghost use Rattle.rewritten_tokens.specs.Drafted.{NamesInOrder};
 ghost use Rattle.rewritten_tokens.specs.Parted.{WholeOfParts};
 ghost use Rattle.rewritten_tokens.specs.Spaced.{SpacesComeFirst, PartsAreWritten};
+ghost use Rattle.rewritten_tokens.specs.Texts.{PartsHaveTexts};
 ghost use Rattle.rewritten_tokens.specs.Levels.{LevelsPass};
 ghost use Rattle.rewritten_tokens.specs.Enclosed.{LevelsJoin, SquaresStandRound, RoundsStandRound};
 ghost use Rattle.rewritten_tokens.specs.Stays.{CodeStays};
@@ -63,6 +64,11 @@ pub fn parts_are_written()
     ensures { PartsAreWritten }
 {}
 
+/// In each file that 7.4 reads, once edited, parts of names have a text in the source.
+pub fn parts_have_texts()
+    ensures { PartsHaveTexts }
+{}
+
 /// Tokens and trivia that open and close in pairs pass over any modes, which they leave as they are.
 pub fn levels_pass()
     ensures { LevelsPass }
@@ -103,6 +109,7 @@ mod tests {
         whole_of_parts();
         spaces_come_first();
         parts_are_written();
+        parts_have_texts();
         levels_pass();
         levels_join();
         squares_stand_round();
