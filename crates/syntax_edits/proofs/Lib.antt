@@ -10,3 +10,6 @@ pub mod WholeFile
 pub mod Unset
 pub mod TextsWalk
 pub mod Own
+pub mod Fronts
+pub mod Stepping
+pub mod Bare

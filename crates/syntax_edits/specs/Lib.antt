@@ -8,3 +8,5 @@ pub mod Texts
 pub mod Inside
 pub mod Splicing
 pub mod Heads
+pub mod Steps
+pub mod Roles

@@ -5,10 +5,13 @@ mod casts;
 mod dot_precedence;
 mod hash_comment;
 mod laws;
+mod names_walked;
 mod nested_ternary;
 mod recorder;
 mod splicing;
 mod split_name;
+mod steps;
+mod texts;
 mod writer;
 
 pub use laws::{edits_are_written, insides_are_written, names_are_walked, nodes_are_written};

@@ -2,11 +2,15 @@
 //
 // Before: return\ A \B;
 // After:  return \A\B;
-ghost use Rattle.std.specs.Prelude.{◌≡◌, ◌||◌, Bool, suc, codes, Option, IfOk};
+ghost use Rattle.std.specs.Prelude.{◌≡◌, ◌≤◌, ◌||◌, Bool, List, ℕ, suc, codes, Option, IfOk, drop, length};
 ghost use Rattle.std.specs.Str.{bytes_eq};
-ghost use Rattle.php_tree.specs.Tree.{forest_of};
-ghost use Rattle.syntax_rules.specs.SplitName.{begins_root as root, is_backslash as backslash, is_keyword as keyword, is_label as label, is_name as name, is_namespace as namespace, is_nothing as nothing, is_one as one, is_op as op, one_name};
-ghost use Rattle.syntax_edits.specs.Heads.{own_of, shown, shown_if_any};
+ghost use Rattle.php_tree.specs.Tree.{Forest, forest_of, part_before};
+ghost use Rattle.tracked_changes.specs.Tokens.{retexted};
+ghost use Rattle.syntax_rules.specs.DollarBrace.{dollar_name};
+ghost use Rattle.syntax_rules.specs.HashComment.{hash_comment};
+ghost use Rattle.syntax_rules.specs.SplitName.{begins_root as root, is_backslash as backslash, is_keyword as keyword, keyword_behind as keyword_after, is_label as label, is_name as name, is_namespace as namespace, is_nothing as nothing, is_one as one, is_op as op, one_name};
+ghost use Rattle.syntax_edits.specs.Heads.{alone_first, may_go_on as goes_on, own_of, shown, shown_if_any};
+ghost use Rattle.syntax_edits.specs.Written.{wants_space as wants};
 ghost use Rattle.syntax_edits.specs.NamesWalked.{Head, begins as head, head_of};
 
 use php_tree::{Part, Token, TokenKind};
@@ -22,6 +26,26 @@ pub(crate) struct Ahead {
     pub(crate) empty: bool,
     lead_rooted: bool,
     lead_empty: bool,
+}
+
+impl Ahead {
+    /// Whether a space is wanted before it, behind a keyword or not.
+    pub(crate) fn wants_space(self, behind: bool) -> bool
+        ensures { (h : Head) → self ≡ shown h → result ≡ wants behind h.token }
+    {
+        behind && is_name(self.kind) && self.rooted && self.lead_empty
+    }
+
+    /// Whether a keyword stands directly behind it, where one stood before it or not.
+    pub(crate) fn keyword_behind(self, behind: bool) -> bool
+        ensures { (h : Head) → self ≡ shown h → result ≡ keyword_after behind h.token }
+    {
+        if self.empty {
+            behind && self.lead_empty
+        } else {
+            is_keyword(self.kind)
+        }
+    }
 }
 
 fn begins_root(text: &[u8]) -> bool
@@ -59,8 +83,8 @@ fn kind_in(braces: bool, token: &Token) -> TokenKind
     }
 }
 
-// A token alone.
-fn alone(braces: bool, token: &Token) -> Ahead
+/// A token alone.
+pub(crate) fn alone(braces: bool, token: &Token) -> Ahead
     ensures { result ≡ shown (record { more = 0; token = own_of braces token.now }) }
 {
     let lead = token.lead.as_slice();
@@ -157,4 +181,94 @@ fn joined(token: &Token, ahead: Ahead) -> Result<Ahead, AllocError>
         lead_rooted: begins_root(lead),
         lead_empty: is_nothing(lead),
     })
+}
+
+// Whether a token may be one with what is behind it.
+fn may_go_on(braces: bool, token: &Token) -> bool
+    ensures { result ≡ goes_on (own_of braces token.now) }
+{
+    is_backslash(braces, token) || begins_name(braces, token)
+}
+
+// How many parts from the first on are tokens that may be one with what is behind them.
+fn run(braces: bool, parts: &[Part]) -> usize
+    ensures within { result ≤ length parts.now }
+    ensures ended { head (own_of braces) (forest_of (drop result parts.now)) ≡ alone_first (own_of braces) (forest_of (drop result parts.now)) }
+{
+    let mut count = 0;
+    for part in parts {
+        match part {
+            Part::Leaf(token) => {
+                if !may_go_on(braces, token) {
+                    return count;
+                }
+            }
+            Part::Child(_) => return count,
+        }
+        count += 1;
+    }
+    count
+}
+
+// The token that these parts begin with, alone, if any.
+fn first(braces: bool, parts: &[Part]) -> Option<Ahead>
+    ensures { result ≡ shown_if_any (alone_first (own_of braces) (forest_of parts.now)) }
+{
+    for part in parts {
+        match part {
+            Part::Leaf(token) => return Some(alone(braces, token)),
+            Part::Child(_) => return None,
+        }
+    }
+    None
+}
+
+// What a part begins with, in front of what is ahead. The only error is want of memory.
+fn before(braces: bool, part: &Part, ahead: Option<Ahead>) -> Result<Option<Ahead>, AllocError>
+    ensures { (f : Forest) → ahead ≡ shown_if_any (head (own_of braces) f) →
+        IfOk result (λ a. a ≡ shown_if_any (head (own_of braces) (part_before part.now f))) }
+{
+    match part {
+        Part::Leaf(token) => Ok(Some(in_front(braces, token, ahead)?)),
+        Part::Child(_) => Ok(None),
+    }
+}
+
+/// What these parts begin with: a token, or a whole name. None where they begin with a node, or are none. The only error is
+/// want of memory.
+pub(crate) fn begins(braces: bool, parts: &[Part]) -> Result<Option<Ahead>, AllocError>
+    ensures { IfOk result (λ a. a ≡ shown_if_any (head (own_of braces) (forest_of parts.now))) }
+{
+    let mut left = run(braces, parts);
+    let mut ahead = first(braces, &parts[left..]);
+    while left > 0 {
+        left -= 1;
+        ahead = before(braces, &parts[left], ahead)?;
+    }
+    Ok(ahead)
+}
+
+/// A token alone that becomes one of another kind.
+pub(crate) fn as_kind(kind: TokenKind, token: &Token) -> Ahead
+    ensures { (text : List ℕ) → result ≡ shown (record { more = 0; token = retexted kind text (hash_comment token.now) }) }
+{
+    let own = alone(false, token);
+    Ahead { kind, ..own }
+}
+
+/// The name behind `${`, which becomes a variable.
+pub(crate) fn as_dollar_name(token: &Token) -> Ahead
+    ensures { result ≡ shown (record { more = 0; token = dollar_name (hash_comment token.now) }) }
+{
+    let lead = token.lead.as_slice();
+    let text = token.text.as_slice();
+    let bare = is_nothing(lead);
+    Ahead {
+        kind: TokenKind::Variable,
+        more: 0,
+        rooted: begins_root(lead) || (bare && begins_root(text)),
+        empty: bare && is_nothing(text),
+        lead_rooted: false,
+        lead_empty: true,
+    }
 }

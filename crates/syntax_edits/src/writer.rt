@@ -1,10 +1,16 @@
 // Tokens, written one after another.
 ghost use Rattle.std.specs.Prelude.{◌≡◌, ◌+◌, suc, length, IfOk, OnOk};
 ghost use Rattle.syntax_edits.specs.Writing.{all_edits, also_next, changed_next, front, kept_next, pieces_next};
-ghost use Rattle.syntax_edits.specs.Written.{at_front, opens_next, unwrapped, wrapped};
+ghost use Rattle.syntax_edits.specs.Written.{at_front, opens_next, space_next, unwrapped, wrapped};
+ghost use Rattle.syntax_rules.specs.HashComment.{outside, spaced as spaced_pieces};
+ghost use Rattle.syntax_rules.specs.SplitName.{deleted as deleted_pieces};
+ghost use Rattle.syntax_edits.specs.Heads.{shown};
+ghost use Rattle.syntax_edits.specs.NamesWalked.{Head};
+ghost use Rattle.syntax_edits.specs.Steps.{begun_next, recorded_next};
 
 use crate::hash_comment::spaced;
 use crate::recorder::Recorder;
+use crate::split_name::Ahead;
 use php_tree::TokenKind;
 use span_edits::Edit;
 use std::alloc::{AllocError, Global};
@@ -54,6 +60,64 @@ impl Writer {
         self.recorder.changed(0, b")")
     }
 
+    /// Before the text of what a token begins with: its trivia, the parentheses, a space.
+    pub(crate) fn begin(&mut self, lead: &[u8], ahead: Ahead) -> Result<(), AllocError>
+        ensures { (h : Head) → ahead ≡ shown h → OnOk result (self.new ≡ begun_next h (spaced_pieces outside lead.now) self.old) }
+    {
+        let wants_space = ahead.wants_space(self.behind_keyword);
+        let behind = ahead.keyword_behind(self.behind_keyword);
+        spaced(&mut self.recorder, lead)?;
+        self.open_parens()?;
+        space_if(&mut self.recorder, wants_space)?;
+        self.behind_keyword = behind;
+        Ok(())
+    }
+
+    /// The next bytes stay, so many.
+    pub(crate) fn kept(&mut self, bytes: usize) -> Result<(), AllocError>
+        ensures { OnOk result (self.new ≡ recorded_next (kept_next bytes) self.old) }
+    {
+        self.recorder.kept(bytes)
+    }
+
+    /// A text comes in the place of the next bytes, so many.
+    pub(crate) fn changed(&mut self, bytes: usize, text: &[u8]) -> Result<(), AllocError>
+        ensures { OnOk result (self.new ≡ recorded_next (changed_next bytes text.now) self.old) }
+    {
+        self.recorder.changed(bytes, text)
+    }
+
+    /// A text goes on with the edit just before.
+    pub(crate) fn also(&mut self, text: &[u8]) -> Result<(), AllocError>
+        ensures { OnOk result (self.new ≡ recorded_next (also_next text.now) self.old) }
+    {
+        self.recorder.also(text)
+    }
+
+    /// Trivia inside a token.
+    pub(crate) fn trivia(&mut self, lead: &[u8]) -> Result<(), AllocError>
+        ensures { OnOk result (self.new ≡ recorded_next (pieces_next (spaced_pieces outside lead.now)) self.old) }
+    {
+        spaced(&mut self.recorder, lead)
+    }
+
+    /// Trivia that are deleted: one edit, where there are any.
+    pub(crate) fn deleted(&mut self, lead: &[u8]) -> Result<(), AllocError>
+        ensures { OnOk result (self.new ≡ recorded_next (pieces_next (deleted_pieces lead.now)) self.old) }
+    {
+        match lead {
+            [] => Ok(()),
+            [_, ..] => self.recorder.changed(lead.len(), b""),
+        }
+    }
+
+    /// The edits, in order.
+    pub(crate) fn into_edits(self) -> Result<Vec<Edit>, AllocError>
+        ensures { IfOk result (λ v. v.items ≡ all_edits self.recorded) }
+    {
+        self.recorder.into_edits()
+    }
+
     fn open_parens(&mut self) -> Result<(), AllocError>
         ensures recorded { OnOk result (self.new.recorded ≡ opens_next self.old.parens self.old.recorded) }
         ensures behind { OnOk result (self.new.behind ≡ self.old.behind) }
@@ -65,4 +129,14 @@ impl Writer {
         }
         Ok(())
     }
+}
+
+// A space, if one is wanted.
+fn space_if(recorder: &mut Recorder, is_wanted: bool) -> Result<(), AllocError>
+    ensures { OnOk result (recorder.new ≡ space_next is_wanted recorder.old) }
+{
+    if is_wanted {
+        recorder.changed(0, b" ")?;
+    }
+    Ok(())
 }
