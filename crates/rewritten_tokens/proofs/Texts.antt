@@ -144,6 +144,8 @@ row_texts no_token = tt
 row_texts (a_token {t} {ts} p r) = (λ h. (joined_text t (all_whole ts) p h, joined_front t (all_whole ts) (front_fine r) h), row_texts r)
 row_texts (a_null {p} {q} {ts} x y r) = (
   no_join p (all_whole (null ∷ q ∷ ts)) (quiet_joins p (all_whole (null ∷ q ∷ ts)) x),
-  (no_join null (all_whole (q ∷ ts)) (null_joins q (all_whole ts) y),
-  (no_join q (all_whole ts) (quiet_joins q (all_whole ts) y), row_texts r)),
+  (
+    no_join null (all_whole (q ∷ ts)) (null_joins q (all_whole ts) y),
+    (no_join q (all_whole ts) (quiet_joins q (all_whole ts) y), row_texts r),
+  ),
 )
