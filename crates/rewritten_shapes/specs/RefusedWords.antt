@@ -1,5 +1,5 @@
 -- Words that 8.3 refuses where 7.4 takes them as labels: `match`, `readonly`, `mixed` and `never` (PHP manual, "List of Keywords"
--- and "List of other reserved words"; the RFC "Match expression v2"; UPGRADING 8.0, 8.1 and 8.3).
+-- and "List of other reserved words"; the RFC on match expressions; UPGRADING 8.0, 8.1 and 8.3).
 use Rattle.std.specs.Prelude.{Bool, true, false, ◌&&◌, ◌||◌, if◌then◌else◌}
 use Rattle.php_tree.specs.declared.token.Token.{Token}
 use Rattle.php_tree.specs.declared.kind.NodeKind.{NodeKind}
