@@ -5,6 +5,7 @@ pub mod InContext
 pub mod NamesWalked
 pub mod Laws
 pub mod Texts
+pub mod Quotable
 pub mod Inside
 pub mod Splicing
 pub mod Heads
