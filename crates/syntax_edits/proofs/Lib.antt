@@ -13,3 +13,6 @@ pub mod Own
 pub mod Fronts
 pub mod Stepping
 pub mod Bare
+pub mod Nulls
+pub mod Starts
+pub mod Walking

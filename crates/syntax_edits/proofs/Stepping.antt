@@ -4,7 +4,7 @@ use Rattle.php_tree.specs.declared.token.Token.{Token}
 use Rattle.php_tree.specs.declared.token.TokenKind.{TokenKind}
 use Rattle.php_tree.specs.declared.token.TokenKind.TheVariants as token
 use Rattle.tracked_changes.specs.Pieces.{Piece, before, kept}
-use Rattle.tracked_changes.specs.Draft.{NewToken}
+use Rattle.tracked_changes.specs.Draft.{NewToken, token_pieces}
 use Rattle.tracked_changes.specs.Tokens.{retexted, put_also}
 use Rattle.syntax_rules.specs.DollarBrace.{dollar_name}
 use Rattle.syntax_rules.specs.HashComment.{hash_comment, outside, spaced}
@@ -14,6 +14,7 @@ use Rattle.syntax_edits.specs.Written.{Written, token_next}
 use Rattle.syntax_edits.specs.Heads.{own_of}
 use Rattle.syntax_edits.specs.NamesWalked.{Head, first_next, inner_next}
 use Rattle.syntax_edits.specs.Steps.{begun_next, recorded_next}
+use Rattle.syntax_edits.specs.UnsetCast.{null_token, taken_out}
 use Rattle.syntax_edits.proofs.Own.{own_lead}
 use Rattle.syntax_edits.proofs.Tokens.{pieces_append}
 
@@ -50,3 +51,17 @@ name_steps t w =
     let b = begun_next (record { more = 0; token = dollar_name (hash_comment t) }) [] w in
     ap (λ (r : Recorded). recorded_next (λ x. r) b)
     (sym (pieces_append (spaced outside t.lead) (kept t.text ∷ []) (also_next (codes "$") b.recorded)))
+
+-- the token at the end of a file
+pub end_steps : (t : Token) (w : Written)
+    → recorded_next (kept_next (length t.text)) (recorded_next (pieces_next (spaced outside t.lead)) w)
+    ≡ recorded_next (pieces_next (token_pieces (hash_comment t))) w
+end_steps t w =
+    ap (λ (r : Recorded). recorded_next (λ x. r) w) (sym (pieces_append (spaced outside t.lead) (kept t.text ∷ []) w.recorded))
+
+-- one token in the place of a cast and a variable
+pub null_steps : (x v : Token) (w : Written)
+    → recorded_next (also_next (codes ")")) (recorded_next (also_next (codes "null")) (recorded_next (changed_next (length (taken_out x v)) (codes "("))
+    (begun_next (record { more = 0; token = null_token x v }) (spaced outside x.lead) w)))
+    ≡ token_next (null_token x v) w
+null_steps x v w = refl

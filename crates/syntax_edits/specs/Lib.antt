@@ -11,3 +11,5 @@ pub mod Splicing
 pub mod Heads
 pub mod Steps
 pub mod Roles
+pub mod UnsetCast
+pub mod Progress

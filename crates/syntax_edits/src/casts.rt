@@ -4,6 +4,7 @@ ghost use Rattle.std.specs.Str.{bytes_eq};
 ghost use Rattle.php_tree.specs.Tree.{forest_of, tree};
 ghost use Rattle.syntax_rules.specs.Casts.{bare, first_text as text_first, is_cast as cast, is_cast_by as cast_by};
 ghost use Rattle.syntax_rules.specs.RealCast.{is_real_cast as real_cast};
+ghost use Rattle.syntax_rules.specs.UnsetCast.{is_unset_cast as unset_cast};
 
 use php_tree::{Node, NodeKind, Part};
 
@@ -55,4 +56,11 @@ pub(crate) fn is_real_cast(node: &Node) -> bool
     ensures { result ≡ real_cast (tree node.now) }
 {
     is_cast_by(node, b"(real)")
+}
+
+/// Whether a node is a cast `(unset)`.
+pub(crate) fn is_unset_cast(node: &Node) -> bool
+    ensures { result ≡ unset_cast (tree node.now) }
+{
+    is_cast_by(node, b"(unset)")
 }
