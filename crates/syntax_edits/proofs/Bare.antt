@@ -1,6 +1,5 @@
 -- Whether a text ends in a bare `$`, byte by byte.
-use Rattle.std.proofs.Common.{◌≡◌, ℕ, ◌<◌, if◌then◌else◌, Option, Some, None, zero, suc, ◌+◌, ◌-◌, ◌==◌, ◌&&◌, Bool, true, false, not, List, [], ◌∷◌, ◌++◌, length, refl, ap, sym, ◌∙◌, arith, append-nil, codes}
-use Rattle.std.proofs.lemmas.Bool.{false≢true}
+use Rattle.std.proofs.Common.{◌≡◌, ℕ, ◌<◌, if◌then◌else◌, Some, None, suc, ◌+◌, ◌-◌, ◌==◌, ◌&&◌, Bool, true, false, not, List, [], ◌∷◌, ◌++◌, length, refl, ap, sym, ◌∙◌, arith, append-nil, codes}
 use Rattle.tracked_changes.specs.Pieces.{Piece, before, kept}
 use Rattle.php_tree.specs.declared.token.Token.{Token}
 use Rattle.tracked_changes.specs.Draft.{NewToken}

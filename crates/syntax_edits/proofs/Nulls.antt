@@ -1,5 +1,5 @@
 -- A cast `(unset)` of a plain variable, by its two tokens.
-use Rattle.std.proofs.Common.{◌≡◌, ℕ, ◌<◌, Bool, true, false, ◌&&◌, if◌then◌else◌, List, [], ◌∷◌, ◌++◌, length, Option, Some, None, refl, ap, sym, ◌∙◌, subst, codes, arith, append-nil}
+use Rattle.std.proofs.Common.{◌≡◌, ℕ, ◌<◌, Bool, true, false, ◌&&◌, if◌then◌else◌, List, [], ◌∷◌, ◌++◌, length, Option, Some, None, refl, ap, sym, ◌∙◌, codes, arith, append-nil}
 use Rattle.std.specs.Str.{bytes_eq}
 use Rattle.std.proofs.lemmas.Bool.{false≢true}
 use Rattle.std.proofs.lemmas.Option.{none-some}
@@ -10,7 +10,7 @@ use Rattle.php_tree.specs.declared.token.TokenKind.TheVariants as token
 use Rattle.php_tree.specs.declared.kind.NodeKind.{NodeKind}
 use Rattle.php_tree.specs.declared.kind.NodeKind.TheVariants as kind
 use Rattle.php_tree.specs.Tree.{Forest, none, leaf, node, Tree}
-use Rattle.tracked_changes.specs.Pieces.{Piece, kept, changed, also, before}
+use Rattle.tracked_changes.specs.Pieces.{kept, changed, also, before}
 use Rattle.tracked_changes.specs.Draft.{NewToken}
 use Rattle.tracked_changes.specs.Tokens.{retexted}
 use Rattle.tracked_changes.proofs.Joining.{before-append}
@@ -25,7 +25,7 @@ use Rattle.syntax_edits.specs.declared.split_name.Ahead.{Ahead}
 use Rattle.syntax_edits.specs.Heads.{shown}
 use Rattle.syntax_edits.specs.InContext.{draft_in}
 use Rattle.syntax_edits.specs.Inside.{inside_next, null_for}
-use Rattle.syntax_edits.specs.UnsetCast.{both, null_token, taken_out, tokens_in, unset_in, variable_in}
+use Rattle.syntax_edits.specs.UnsetCast.{both, null_token, tokens_in, unset_in, variable_in}
 use Rattle.syntax_edits.specs.Written.{Written, token_next}
 use Rattle.syntax_edits.proofs.Own.{before_spaced}
 use Rattle.syntax_edits.proofs.Tokens.{and_first, and_second}
@@ -97,12 +97,12 @@ first_of p (Some q) = q
 some_is : (p q : Token × Token) → Some p ≡ Some q → p ≡ q
 some_is p q h = ap (first_of p) h
 
-none_is : (x v : Token) {A : Type 0} → None ≡ Some (x, v) → A
-none_is x v h = absurd (none-some (x, v) h)
+none_is : (p : Token × Token) {A : Type 0} → None ≡ Some p → A
+none_is p h = absurd (none-some p h)
 
 shape_of_variable : (b : Bool) (y t : Token) (k : NodeKind) (x v : Token) → is_variable k t.kind ≡ b
     → both y (if b then Some t else None) ≡ Some (x, v) → leaf y (node k (leaf t none) none) ≡ these x v
-shape_of_variable false y t k x v e h = none_is x v h
+shape_of_variable false y t k x v e h = none_is (x, v) h
 shape_of_variable true y t k x v e h =
     let p : (y, t) ≡ (x, v) = some_is (y, t) (x, v) h in
     ap (λ (j : NodeKind). leaf y (node j (leaf t none) none)) (variable_kind k t.kind e)
@@ -110,25 +110,25 @@ shape_of_variable true y t k x v e h =
 
 shape_of_operand : (y : Token) (k : NodeKind) (c : Forest) (x v : Token) → both y (variable_in k c) ≡ Some (x, v)
     → leaf y (node k c none) ≡ these x v
-shape_of_operand y k none x v h = none_is x v h
+shape_of_operand y k none x v h = none_is (x, v) h
 shape_of_operand y k (leaf t none) x v h = shape_of_variable (is_variable k t.kind) y t k x v refl h
-shape_of_operand y k (leaf t (leaf u f)) x v h = none_is x v h
-shape_of_operand y k (leaf t (node j b f)) x v h = none_is x v h
-shape_of_operand y k (node j b f) x v h = none_is x v h
+shape_of_operand y k (leaf t (leaf u f)) x v h = none_is (x, v) h
+shape_of_operand y k (leaf t (node j b f)) x v h = none_is (x, v) h
+shape_of_operand y k (node j b f) x v h = none_is (x, v) h
 
 shape : (f : Forest) (x v : Token) → tokens_in f ≡ Some (x, v) → f ≡ these x v
-shape none x v h = none_is x v h
-shape (leaf y none) x v h = none_is x v h
-shape (leaf y (leaf u f)) x v h = none_is x v h
+shape none x v h = none_is (x, v) h
+shape (leaf y none) x v h = none_is (x, v) h
+shape (leaf y (leaf u f)) x v h = none_is (x, v) h
 shape (leaf y (node k c none)) x v h = shape_of_operand y k c x v h
-shape (leaf y (node k c (leaf u f))) x v h = none_is x v h
-shape (leaf y (node k c (node j b f))) x v h = none_is x v h
-shape (node k c f) x v h = none_is x v h
+shape (leaf y (node k c (leaf u f))) x v h = none_is (x, v) h
+shape (leaf y (node k c (node j b f))) x v h = none_is (x, v) h
+shape (node k c f) x v h = none_is (x, v) h
 
 cast_and : (b : Bool) (o : Option (Token × Token)) (x v : Token) → (if b then o else None) ≡ Some (x, v)
     → (b ≡ true) × (o ≡ Some (x, v))
 cast_and true o x v h = (refl, h)
-cast_and false o x v h = none_is x v h
+cast_and false o x v h = none_is (x, v) h
 
 -- ---- they are written by one token
 

@@ -1,18 +1,18 @@
 -- Tokens, written step by step.
-use Rattle.std.proofs.Common.{◌≡◌, ℕ, Bool, true, false, ◌&&◌, if◌then◌else◌, List, [], ◌∷◌, ◌++◌, length, codes, refl, ap, sym, ◌∙◌, append-nil}
+use Rattle.std.proofs.Common.{◌≡◌, ℕ, Bool, true, false, if◌then◌else◌, List, [], ◌∷◌, ◌++◌, length, codes, refl, ap, sym, ◌∙◌, append-nil}
 use Rattle.php_tree.specs.declared.token.Token.{Token}
 use Rattle.php_tree.specs.declared.token.TokenKind.{TokenKind}
 use Rattle.php_tree.specs.declared.token.TokenKind.TheVariants as token
-use Rattle.tracked_changes.specs.Pieces.{Piece, before, kept}
+use Rattle.tracked_changes.specs.Pieces.{kept}
 use Rattle.tracked_changes.specs.Draft.{NewToken, token_pieces}
-use Rattle.tracked_changes.specs.Tokens.{retexted, put_also}
+use Rattle.tracked_changes.specs.Tokens.{retexted}
 use Rattle.syntax_rules.specs.DollarBrace.{dollar_name}
 use Rattle.syntax_rules.specs.HashComment.{hash_comment, outside, spaced}
 use Rattle.syntax_rules.specs.SplitName.{deleted}
-use Rattle.syntax_edits.specs.Writing.{Recorded, piece_next, pieces_next, also_next, changed_next, kept_next}
+use Rattle.syntax_edits.specs.Writing.{Recorded, pieces_next, also_next, changed_next, kept_next}
 use Rattle.syntax_edits.specs.Written.{Written, token_next}
 use Rattle.syntax_edits.specs.Heads.{own_of}
-use Rattle.syntax_edits.specs.NamesWalked.{Head, first_next, inner_next}
+use Rattle.syntax_edits.specs.NamesWalked.{inner_next}
 use Rattle.syntax_edits.specs.Steps.{begun_next, recorded_next}
 use Rattle.syntax_edits.specs.UnsetCast.{null_token, taken_out}
 use Rattle.syntax_edits.proofs.Own.{own_lead}

@@ -1,12 +1,12 @@
 -- Parts and nodes that are written one after another.
-use Rattle.std.proofs.Common.{◌≡◌, ℕ, ◌+◌, ◌<◌, ◌≤◌, Bool, true, false, List, [], ◌∷◌, drop, length, Option, None, refl, ap, sym, ◌∙◌, subst, drop-drop, slice_index_or, get_or}
+use Rattle.std.proofs.Common.{◌≡◌, ℕ, ◌+◌, ◌<◌, ◌≤◌, Bool, true, false, List, [], ◌∷◌, drop, length, Option, None, refl, ap, sym, ◌∙◌, subst, slice_index_or, get_or}
 use Rattle.std.proofs.lemmas.List.{drop_all}
 use Rattle.php_tree.specs.declared.kind.NodeKind.{NodeKind}
 use Rattle.php_tree.specs.declared.token.Token.{Token}
 use Rattle.php_tree.specs.declared.node.Node.{Node}
 use Rattle.php_tree.specs.declared.node.Part.{Part}
 use Rattle.php_tree.specs.declared.node.Part.TheVariants as part
-use Rattle.php_tree.specs.Tree.{Forest, none, leaf, node, forest_of, nodes_forest, Tree, tree, alone}
+use Rattle.php_tree.specs.Tree.{Forest, none, leaf, node, forest_of, nodes_forest, Tree, tree}
 use Rattle.php_tree.proofs.Trees.{tree-fields, nodes_forest-drop}
 use Rattle.syntax_rules.specs.Around.{Around, at_top}
 use Rattle.syntax_rules.specs.DotPrecedence.{is_regrouped}
@@ -32,6 +32,19 @@ round_written a n w =
     (tree-fields n)
     ∙ sym (node_written a (pair n) w)
 
+-- the same, step by step
+pub child_written : (a b : Option Around) (n : Node) (w opened inner closed : Written) → a ≡ b
+    → opened ≡ wrapped_if (is_regrouped a (tree n)) (wrapped_if (is_nested a n.kind) w)
+    → inner ≡ draft_next (whole_names true (inside (pair n)).1) opened
+    → closed ≡ unwrapped_if (is_nested a n.kind) (unwrapped_if (is_regrouped a (tree n)) inner)
+    → closed ≡ draft_next (whole_names true (node_in b (pair n))) w
+child_written a b n w opened inner closed e h i j =
+    j
+    ∙ ap (λ (x : Written). unwrapped_if (is_nested a n.kind) (unwrapped_if (is_regrouped a (tree n)) x))
+    (i ∙ ap (draft_next (whole_names true (inside (pair n)).1)) h)
+    ∙ round_written a n w
+    ∙ ap (λ (x : Option Around). draft_next (whole_names true (node_in x (pair n))) w) e
+
 -- nothing is left
 pub none_left : (p : Progress) (around : Bool → Option Around) (i : Bool) (w : Written) → left_walked p around i none w ≡ w
 none_left (code.Names b n) around i w = refl
@@ -50,7 +63,7 @@ pub leaf_left : (p q : Progress) (around : Bool → Option Around) (i : Bool) (p
     (here rest : List Part) (w v u : Written) → k < length ps → slice_index_or ps k d ≡ part.Leaf t
     → here ≡ drop k ps → rest ≡ drop (k + 1) ps
     → (forest_of here ≡ leaf t (forest_of rest)
-        → left_walked q around false (forest_of rest) v ≡ left_walked p around i (leaf t (forest_of rest)) w)
+    → left_walked q around false (forest_of rest) v ≡ left_walked p around i (leaf t (forest_of rest)) w)
     → left_walked p around i (forest_of (drop k ps)) w ≡ u
     → left_walked q around false (forest_of (drop (k + 1) ps)) v ≡ u
 leaf_left p q around i ps k d t here rest w v u l e h r next left =

@@ -1,5 +1,5 @@
 -- Files whose quoted texts are all walked.
-use Rattle.std.specs.Prelude.{◌≡◌, Bool, true}
+use Rattle.std.specs.Prelude.{◌≡◌, true}
 use Rattle.php_tree.specs.Tree.{Forest, none, leaf, node}
 use Rattle.syntax_rules.specs.Together.{is_quoted}
 use Rattle.syntax_edits.specs.Texts.{anything, is_quotable}

@@ -1,5 +1,5 @@
 -- A token, written step by step.
-use Rattle.std.specs.Prelude.{ℕ, List}
+use Rattle.std.specs.Prelude.{List}
 use Rattle.tracked_changes.specs.Pieces.{Piece}
 use Rattle.syntax_rules.specs.SplitName.{keyword_behind}
 use Rattle.syntax_edits.specs.Writing.{Recorded, pieces_next}

@@ -47,7 +47,7 @@ fn is_quoted(kind: NodeKind) -> bool
 pub(crate) fn start(node: &Node) -> Progress
     ensures { (w : Written) → is_edited (node.now.kind, forest_of node.now.parts) ≡ false →
         left_walked result (within node.now.kind (forest_of node.now.parts)) true (forest_of node.now.parts) w
-            ≡ inside_next (node.now.kind, forest_of node.now.parts) w }
+        ≡ inside_next (node.now.kind, forest_of node.now.parts) w }
 {
     if is_brace_offset(node.kind) {
         return Progress::Names {
@@ -77,7 +77,7 @@ pub(crate) fn leaf(
 ) -> Result<Progress, AllocError>
     ensures { (around : Bool → Option Around) (i : Bool) → forest_of parts.now ≡ leaf_then token.now (forest_of behind.now) →
         IfOk result (λ p. left_walked p around false (forest_of behind.now) writer.new
-            ≡ left_walked progress around i (leaf_then token.now (forest_of behind.now)) writer.old) }
+        ≡ left_walked progress around i (leaf_then token.now (forest_of behind.now)) writer.old) }
 {
     match progress {
         Progress::Names { braces, inner } => {
@@ -102,7 +102,7 @@ pub(crate) fn leaf(
 pub(crate) fn behind_node(progress: Progress) -> Progress
     ensures { (around : Bool → Option Around) (i : Bool) (k : kinds.NodeKind) (c : Forest) (f : Forest) (w : Written) →
         left_walked result around false f (draft_next (whole_names true (node_in (around i) (k, c))) w)
-            ≡ left_walked progress around i (node_then k c f) w }
+        ≡ left_walked progress around i (node_then k c f) w }
 {
     match progress {
         Progress::Names { .. } => progress,

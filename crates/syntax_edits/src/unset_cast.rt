@@ -82,11 +82,7 @@ fn taken_out(cast: &Token, variable: &Token) -> Result<usize, AllocError>
 }
 
 /// `(null)` in the place of a cast and a variable.
-pub(crate) fn null(
-    writer: &mut Writer,
-    cast: &Token,
-    variable: &Token,
-) -> Result<(), AllocError>
+pub(crate) fn null(writer: &mut Writer, cast: &Token, variable: &Token) -> Result<(), AllocError>
     requires { 0 < length cast.now.text }
     ensures { OnOk result (writer.new ≡ token_next (null_token cast.now variable.now) writer.old) }
 {

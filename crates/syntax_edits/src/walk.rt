@@ -47,7 +47,10 @@ fn open_round(
     ensures { OnOk result (writer.new ≡ wrapped_if (regrouped (around_of (Some outer) operator.now is_first) (tree node.now))
         (wrapped_if (nested (around_of (Some outer) operator.now is_first) node.now.kind) writer.old)) }
 {
-    wrap_if(writer, is_nested(Some(outer), operator, is_first, node.kind))?;
+    wrap_if(
+        writer,
+        is_nested(Some(outer), operator, is_first, node.kind),
+    )?;
     wrap_if(writer, is_regrouped(Some(outer), operator, is_first, node))
 }
 
@@ -63,7 +66,10 @@ fn close_round(
         (unwrapped_if (regrouped (around_of (Some outer) operator.now is_first) (tree node.now)) writer.old)) }
 {
     unwrap_if(writer, is_regrouped(Some(outer), operator, is_first, node))?;
-    unwrap_if(writer, is_nested(Some(outer), operator, is_first, node.kind))
+    unwrap_if(
+        writer,
+        is_nested(Some(outer), operator, is_first, node.kind),
+    )
 }
 
 // The parts behind the first one.

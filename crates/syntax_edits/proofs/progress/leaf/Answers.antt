@@ -11,17 +11,17 @@ use Rattle.syntax_edits.proofs.progress.leaf.Goals as goal
 pub returns-in_ok-inner-in-Names : goal.returns-in_ok-inner-in-Names
 returns-in_ok-inner-in-Names c = λ around i h.
     let e : c.args.progress ≡ code.Names c.in-Names.braces c.in-Names.inner = c.in-Names.is in
-    rw e (c.in_ok-inner.ensures around i (forest_of c.args.behind.now) h)
+    rw e (c.in_ok-inner-in-Names.ensures around i (forest_of c.args.behind.now) h)
 
 pub returns-in_ok-replaced-in-Float : goal.returns-in_ok-replaced-in-Float
 returns-in_ok-replaced-in-Float c = λ around i h.
     let f = forest_of c.args.behind.now in
     let e : c.args.progress ≡ code.Float = c.in-Float.is in
     rw e
-    (ap (λ (w : Written). walked (own_of false) around false zero f w) c.in_ok-replaced.ensures
+    (ap (λ (w : Written). walked (own_of false) around false zero f w) c.in_ok-replaced-in-Float.ensures
     ∙ own_false around false f (token_next (float_token c.args.token.now) c.args.writer.now))
 
 pub returns-in_ok-role-in-Quoted : goal.returns-in_ok-role-in-Quoted
 returns-in_ok-role-in-Quoted c = λ around i h.
     let e : c.args.progress ≡ code.Quoted c.in-Quoted.role = c.in-Quoted.is in
-    rw e (c.in_ok-role.ensures around i)
+    rw e (c.in_ok-role-in-Quoted.ensures around i)

@@ -1,4 +1,4 @@
-use Rattle.std.proofs.Common.{◌≡◌, true, false, sym, ◌∙◌, ap, drop}
+use Rattle.std.proofs.Common.{sym, ◌∙◌}
 use Rattle.syntax_edits.specs.Heads.{own_of}
 use Rattle.syntax_edits.proofs.Fronts.{loose_first, node_first}
 use Rattle.syntax_edits.proofs.split_name.run.Goals as goal

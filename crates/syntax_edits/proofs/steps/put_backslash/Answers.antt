@@ -1,9 +1,8 @@
-use Rattle.std.proofs.Common.{◌≡◌, ◌<◌, arith, ◌-◌, ℕ, List, codes, length, OnOk, subst, ap, ◌∙◌}
+use Rattle.std.proofs.Common.{◌<◌, arith, ◌-◌, ℕ, List, codes, length, ap, ◌∙◌}
 use Rattle.syntax_rules.specs.HashComment.{hash_comment, outside, spaced}
 use Rattle.syntax_edits.specs.NamesWalked.{Head}
 use Rattle.syntax_edits.specs.Steps.{begun_next, recorded_next}
 use Rattle.syntax_edits.specs.Writing.{changed_next, kept_next}
-use Rattle.syntax_edits.specs.Written.{Written}
 use Rattle.syntax_edits.proofs.Bare.{backslash_steps}
 use Rattle.syntax_edits.proofs.steps.put_backslash.Goals as goal
 

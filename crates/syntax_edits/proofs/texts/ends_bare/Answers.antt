@@ -1,4 +1,4 @@
-use Rattle.std.proofs.Common.{◌≡◌, drop, ap, sym, ◌∙◌, arith}
+use Rattle.std.proofs.Common.{ap, sym, ◌∙◌, arith}
 use Rattle.std.proofs.lemmas.List.{drop_all}
 use Rattle.syntax_edits.proofs.Bare.{bare_all, bare_behind}
 use Rattle.syntax_edits.proofs.texts.ends_bare.Goals as goal
