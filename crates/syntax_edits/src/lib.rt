@@ -12,6 +12,8 @@ mod recorder;
 mod splicing;
 mod split_name;
 mod steps;
+#[cfg(test)]
+mod tests;
 mod texts;
 mod unset_cast;
 mod walk;
