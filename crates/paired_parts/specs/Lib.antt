@@ -1,0 +1,4 @@
+pub mod Laws
+pub mod Paired
+pub mod Tokens
+pub mod Traits
