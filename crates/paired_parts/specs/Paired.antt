@@ -1,14 +1,15 @@
 -- Trees whose braces stand in pairs and whose quoted texts are whole, part by part, as tokens are read in modes.
-use Rattle.std.specs.Prelude.{◌≡◌, ℕ, Bool, true, false, not, ◌&&◌, ◌||◌}
+use Rattle.std.specs.Prelude.{◌≡◌, Bool, true, false, not, ◌||◌}
 use Rattle.php_tree.specs.declared.kind.NodeKind.{NodeKind}
 use Rattle.php_tree.specs.declared.kind.NodeKind.TheVariants as k
 use Rattle.php_tree.specs.declared.token.Token.{Token}
 use Rattle.php_tree.specs.declared.token.TokenKind.TheVariants as token
-use Rattle.php_tree.specs.Tree.{Forest, none, leaf, node, leaves, ◌+++◌}
+use Rattle.php_tree.specs.Tree.{Forest, Tree, none, leaf, node, leaves, ◌+++◌}
 use Rattle.php_shapes.specs.Places.{is_expression}
 use Rattle.syntax_rules.specs.BraceOffset.{is_brace_offset}
+use Rattle.syntax_rules.specs.DotPrecedence.{is_dot}
 use Rattle.syntax_rules.specs.Together.{is_quoted}
-use Rattle.paired_parts.specs.Tokens.{is_code_token, is_mark, IsMark, opens_text, has_stop, begins_inside}
+use Rattle.paired_parts.specs.Tokens.{is_code_token, IsMark, opens_text, has_stop, begins_inside, ends_inside}
 
 -- whether a kind is that of a cast
 abbrev pub is_cast : NodeKind → Bool
@@ -18,6 +19,21 @@ is_cast _ = false
 -- whether the parts of a node of this kind may stand in any order: it is no quoted text, no offset in braces and no cast
 abbrev pub is_common : NodeKind → Bool
 is_common kind = not (is_quoted kind || (is_brace_offset kind || is_cast kind))
+
+abbrev pub is_ternary : NodeKind → Bool
+is_ternary k.Ternary = true
+is_ternary k.ShortTernary = true
+is_ternary _ = false
+
+-- whether the rules that group may put a node in parentheses
+abbrev pub may_be_grouped : Tree → Bool
+may_be_grouped t = is_ternary t.0 || is_dot t
+
+-- An expression begins and ends in code, and one that may be put in parentheses has an operator of its own.
+pub record IsStanding (j : NodeKind) (c : Forest) : Type 0 where
+  pub begins : is_expression j ≡ true → begins_inside (leaves c) ≡ true
+  pub ends : is_expression j ≡ true → ends_inside (leaves c) ≡ true
+  pub stops : may_be_grouped (j, c) ≡ true → has_stop c ≡ true
 
 -- ---- simple variables of quoted texts
 
@@ -41,21 +57,20 @@ pub data IsSimple : NodeKind → Forest → Type 0 where
 
 -- ---- parts
 
--- Paired f: parts that are read from code or inline HTML on. Each `{` has its `}` among the same parts, behind each `(`
--- stands another operator or bracket, and no expression begins with `?>`.
+-- Paired f: parts that are read from code or inline HTML on. Each `{` has its `}` among the same parts, and each `(` its
+-- `)`.
 -- Interpolated f: parts of a quoted text behind its opening token, up to its end.
 mutual
   pub data Paired : Forest → Type 0 where
     nothing : Paired none
-    token :
-        {t : Token} {f : Forest} → is_code_token t ≡ true → (is_mark 40 t ≡ true → has_stop f ≡ true) → Paired f →
+    token : {t : Token} {f : Forest} → is_code_token t ≡ true → Paired f → Paired (leaf t f)
+    rounds :
+        {t u : Token} {f g h : Forest} → IsMark 40 t → Paired g → IsMark 41 u → Paired h → f ≡ g +++ leaf u h →
         Paired (leaf t f)
     braces :
         {t u : Token} {f g h : Forest} → IsMark 123 t → Paired g → IsMark 125 u → Paired h → f ≡ g +++ leaf u h →
         Paired (leaf t f)
-    part :
-        {j : NodeKind} {c f : Forest} → is_common j ≡ true → (is_expression j ≡ true → begins_inside (leaves c) ≡ true) →
-        Paired c → Paired f → Paired (node j c f)
+    part : {j : NodeKind} {c f : Forest} → is_common j ≡ true → IsStanding j c → Paired c → Paired f → Paired (node j c f)
     offset :
         {i j : NodeKind} {t u : Token} {b c f : Forest} → Paired (node i b none) → IsMark 123 t → Paired (node j c none) →
         IsMark 125 u → Paired f → Paired (node k.BraceOffset (node i b (leaf t (node j c (leaf u none)))) f)

@@ -35,9 +35,11 @@ pub record IsMark (b : ℕ) (t : Token) : Type 0 where
   pub kind : t.kind ≡ token.Op
   pub text : t.text ≡ b ∷ []
 
--- whether the token is one of code or inline HTML that neither opens nor leaves a mode: `{` is 123, `}` 125
+-- whether the token is one of code or inline HTML, and neither a brace nor a round bracket: `(` is 40, `)` 41, `{` 123 and
+-- `}` 125
 abbrev pub is_code_token : Token → Bool
-is_code_token t = is_code_kind t.kind && not (is_mark 123 t || is_mark 125 t)
+is_code_token t =
+    is_code_kind t.kind && not (is_mark 40 t || (is_mark 41 t || (is_mark 123 t || is_mark 125 t)))
 
 -- whether a quoted text begins with a token of the kind
 abbrev pub opens_text : TokenKind → Bool
@@ -46,17 +48,26 @@ opens_text token.HeredocStart = true
 opens_text token.Backtick = true
 opens_text _ = false
 
--- whether one of the parts is an operator or a bracket
+-- whether one of these parts is an operator or a bracket
 abbrev pub has_stop : Forest → Bool
 has_stop none = false
 has_stop (leaf t f) = is_op t.kind || has_stop f
 has_stop (node k c f) = has_stop f
 
-abbrev pub is_close : TokenKind → Bool
-is_close token.Close = true
-is_close _ = false
+-- whether a token of the kind stands at an edge of code: it is inline HTML, `<?=` or `?>`
+abbrev pub is_edge : TokenKind → Bool
+is_edge token.InlineHtml = true
+is_edge token.OpenEcho = true
+is_edge token.Close = true
+is_edge _ = false
 
--- whether there are tokens, and the first isn't `?>`
+-- whether there are tokens, and the first is none of these
 abbrev pub begins_inside : List Token → Bool
 begins_inside [] = false
-begins_inside (t ∷ ts) = not (is_close t.kind)
+begins_inside (t ∷ ts) = not (is_edge t.kind)
+
+-- whether there are tokens, and the last is none of these
+abbrev pub ends_inside : List Token → Bool
+ends_inside [] = false
+ends_inside (t ∷ []) = not (is_edge t.kind)
+ends_inside (t ∷ u ∷ ts) = ends_inside (u ∷ ts)
