@@ -1,17 +1,11 @@
 //! What the shape of the 7.4 grammar says of braces, quoted texts and first tokens, part by part.
 #![tactic(auto)]
 
-ghost use Rattle.paired_parts.specs.Laws.{QuotedTextsAreWalked, ShapedFilesArePaired};
+ghost use Rattle.paired_parts.specs.Laws.{QuotedTextsAreWalked};
 
 /// In a file with the shape of the 7.4 grammar each `${` of a quoted text stands before a name or an expression and its `}`.
 pub fn quoted_texts_are_walked()
     ensures { QuotedTextsAreWalked }
-{}
-
-/// In a file with the shape of the 7.4 grammar braces stand in pairs and quoted texts are whole, where its uses of traits
-/// have neither between their own braces.
-pub fn shaped_files_are_paired()
-    ensures { ShapedFilesArePaired }
 {}
 
 #[cfg(test)]
@@ -21,6 +15,5 @@ mod tests {
     #[test]
     fn laws_can_be_called() {
         quoted_texts_are_walked();
-        shaped_files_are_paired();
     }
 }
