@@ -1,42 +1,58 @@
 -- From what a run did to the headline.
-use Rattle.std.proofs.Common.{◌≡◌, ℕ, Bool, true, false, List, [], ◌∷◌, ◌++◌, length, refl, ap, sym, ◌∙◌, add-zero}
-use Rattle.std.specs.Prelude.{Option, Some, None, IfSome, Result, Ok, Err}
+use Rattle.std.proofs.Common.{◌≡◌, ℕ, zero, suc, Bool, true, false, List, [], ◌∷◌, ◌++◌, length, All, refl, ap, sym, ◌∙◌, subst, arith}
+use Rattle.std.specs.Prelude.{Option, Some, None, IfSome, Result, Ok, Err, ◌==◌}
+use Rattle.span_edits.specs.EditList.{AreApart}
 use Rattle.span_edits.specs.Splice.{spliced}
 use Rattle.php_tree.specs.Tree.{File, file_printed}
-use Rattle.php_tree.specs.declared.version.Version.TheVariants.{V74}
-use Rattle.echo_form.specs.Form.{Reads}
-use Rattle.tree_patches.specs.Changes.{edits}
-use Rattle.tree_patches.proofs.Splicing.{spliced_is_rewritten}
-use Rattle.syntax_rules.specs.NestedTernary.{nested_ternary, grouped, program, all_grouped}
+use Rattle.php_tree.specs.declared.version.Version.TheVariants.{V74, V83}
+use Rattle.php_shapes.specs.Shapes.{Shape}
+use Rattle.php_reading.specs.Reading.{Reads}
+use Rattle.php_reading.proofs.Trees.{is_printed}
+use Rattle.php_meaning.specs.World.{Bytes}
 use Rattle.php_meaning.proofs.Silent.{inside_is_covered}
-use Rattle.syntax_rules.proofs.ParenLemmas.{grouping_keeps_meaning}
-use Rattle.grouped_reading.proofs.Shapes.{statements_tokens}
-use Rattle.echo_reader.proofs.Wired.{form_is_php}
+use Rattle.tracked_changes.proofs.Splicing.{edits_are_apart}
+use Rattle.syntax_rules.specs.NestedTernary.{program}
+use Rattle.syntax_rules.specs.Rewritten.{patches, draft_of, edits, rewritten}
+use Rattle.syntax_rules.specs.Together.{all_on}
+use Rattle.syntax_rules.specs.Keeps.{all_rewritten}
+use Rattle.syntax_rules.proofs.TogetherKeeps.{syntax_is_rewritten}
+use Rattle.syntax_edits.proofs.NextEdit.{makes_rewritten}
+use Rattle.rewriting_keeps.proofs.Single.{shaped_files_keep_meaning}
+use Rattle.grouped_reading.proofs.AllRules.{all_rules_group}
 use Rattle.grouped_reading.proofs.Whole.{grouped_is_php}
+use Rattle.written_reading.specs.Laws.{IsRead}
 use Rattle.io_ports.specs.Files as ports
-use Rattle.io_ports.specs.Files.{put_file}
 use Rattle.upgrade_cli.specs.declared.stop.Status.{Status}
 use Rattle.upgrade_cli.specs.declared.stop.Status.TheVariants as status
 use Rattle.upgrade_cli.specs.declared.stop.Stop.{Stop}
 use Rattle.upgrade_cli.specs.declared.stop.Stop.TheVariants as stop
 use Rattle.upgrade_cli.specs.declared.stop.Summary.{Summary}
 use Rattle.upgrade_cli.specs.Lines.{summary_line}
-use Rattle.upgrade_cli.specs.Outcome.{AreRead, target_after, summary, IsDone, IsOutcome}
-use Rattle.upgrade_cli.specs.Run.{of_stop, status_of, Answers, LinePut}
-use Rattle.upgrade_cli.specs.Headline.{Headline, IsWritten, AreWritten, with_written, by_path, counts}
-use Rattle.upgrade_cli.proofs.Writing.{written_is}
-use Rattle.upgrade_cli.proofs.FormAsksNothing.{files_ask_nothing}
-use Rattle.upgrade_cli.proofs.Counting.{length-edits, none_replaced, have_tokens}
+use Rattle.upgrade_cli.specs.Reports.{marks}
+use Rattle.upgrade_cli.specs.Outcome.{AreRead, counts, IsDone, IsOutcome}
+use Rattle.upgrade_cli.specs.Run.{of_stop, status_of, Answers, AllDone, LinePut}
+use Rattle.upgrade_cli.specs.Headline.{Headline, ReadsBack, IsWritten, AreWritten, by_path, MeansTheSame}
+use Rattle.upgrade_cli.proofs.Refusals.{shaped}
 
-file_written : (bytes : List ℕ) (t : File) → Reads V74 bytes t → IsWritten bytes t (file_printed (grouped t))
+-- ---- what is written
+
+read_back : (bytes : List ℕ) (t : File) → ReadsBack bytes t
+read_back bytes t r =
+    let is = grouped_is_php bytes t r in
+    subst (λ g. IsRead V83 g) (sym (all_rules_group bytes t r).same) (record { reads = is.reads; only = is.only })
+
+edits_apart : (t : File) → AreApart 0 (edits t) (length (file_printed t))
+edits_apart t =
+    subst (λ (bs : List ℕ). AreApart 0 (edits t) (length bs)) (syntax_is_rewritten.bytes (all_on (patches t.statements)) t)
+    (edits_are_apart (draft_of t))
+
+file_written : (bytes : List ℕ) (t : File) → Reads V74 bytes t → IsWritten bytes t (file_printed (rewritten t))
 file_written bytes t r = record {
-  source = form_is_php V74 bytes t r;
+  source = r;
   printed = refl;
-  spliced_in = sym (ap (λ bs. spliced bs (edits (nested_ternary t.statements) t)) (sym r.printed)
-      ∙ spliced_is_rewritten (nested_ternary t.statements) t r.placed (have_tokens (nested_ternary t.statements) 0 None t.statements (statements_tokens r.statements)));
-  kept = none_replaced t;
-  reads = (grouped_is_php bytes t r).reads;
-  only = (grouped_is_php bytes t r).only;
+  spliced_in = sym (makes_rewritten t) ∙ ap (λ bs. spliced bs (edits t)) (is_printed V74 bytes t r);
+  apart = subst (λ (bs : List ℕ). AreApart 0 (edits t) (length bs)) (is_printed V74 bytes t r) (edits_apart t);
+  reads_back = read_back bytes t;
 }
 
 are_written : (files : List ports.File) (trees : List File) → AreRead files trees → AreWritten files trees
@@ -47,69 +63,98 @@ are_written (f ∷ []) [] r = tt
 are_written (f ∷ []) (t ∷ u ∷ ts) r = absurd r
 are_written (f ∷ g ∷ fs) trees r = absurd r
 
-target_is : (files : List ports.File) (trees : List File) (before : List ports.File) → AreRead files trees → target_after files trees before ≡ with_written files trees before
-target_is [] trees before r = refl
-target_is (f ∷ []) (t ∷ []) before r = ap (λ bytes. put_file f.0 bytes before) (written_is t (statements_tokens r.reads.statements))
-target_is (f ∷ []) [] before r = absurd r
-target_is (f ∷ []) (t ∷ u ∷ ts) before r = absurd r
-target_is (f ∷ g ∷ fs) trees before r = absurd r
+-- ---- the meaning
 
-counted : (files : List ports.File) (trees : List File) → AreRead files trees → summary trees ≡ counts trees
-counted [] [] r = refl
-counted (f ∷ []) (t ∷ []) r = ap (λ n. record { files = 1; edits = n }) (sym (length-edits t) ∙ sym (add-zero (length (edits (nested_ternary t.statements) t))))
-counted [] (t ∷ ts) r = absurd r
-counted (f ∷ []) [] r = absurd r
-counted (f ∷ []) (t ∷ u ∷ ts) r = absurd r
-counted (f ∷ g ∷ fs) trees r = absurd r
+are_shaped : (files : List ports.File) (trees : List File) → AreRead files trees → All (λ f. Shape V74 f.1) (by_path files trees)
+are_shaped [] [] r = λ k d below. absurd (omega (arith, below))
+are_shaped (f ∷ []) (t ∷ []) r = λ k d below. one k d below
+  where
+    one : All (λ (g : Bytes × File). Shape V74 g.1) ((f.0, t) ∷ [])
+    one zero d below = shaped f.1 t r.reads
+    one (suc k) d below = absurd (omega (arith, below))
+are_shaped [] (t ∷ ts) r = absurd r
+are_shaped (f ∷ []) [] r = absurd r
+are_shaped (f ∷ []) (t ∷ u ∷ ts) r = absurd r
+are_shaped (f ∷ g ∷ fs) trees r = absurd r
+
+means_the_same : (files : List (Bytes × File)) → All (λ f. Shape V74 f.1) files → MeansTheSame files
+means_the_same files h =
+    let keeps = shaped_files_keep_meaning files None (marks files) h in
+    record {
+      meaning = keeps;
+      runs = λ asks. inside_is_covered (program files None) (program (all_rewritten files) None) (marks files) asks keeps;
+    }
+
+-- ---- all of it
 
 -- all was done, and the line was put
-done_headline : (files before : List ports.File) (after : Option (List ports.File)) (held held' : Option (List ℕ)) (s : Summary)
-    → IsDone files (Some before) after s → IfSome held (λ old. held' ≡ Some (old ++ summary_line s)) → Headline files before after held held'
-done_headline files before after held held' s d l = record {
+done_headline : (files before : List ports.File) (after : Option (List ports.File)) (held held' : Option (List ℕ)) (s : Summary) (result : Status)
+    → IsDone files (Some before) after s → result ≡ status_of (Ok s) → IfSome held (λ old. held' ≡ Some (old ++ summary_line s))
+    → Headline files before after held held' result
+done_headline files before after held held' s result d e l = record {
   trees = d.trees;
   read = d.read;
-  target = d.target ∙ ap Some (target_is files d.trees before d.read);
+  target = d.target;
   written = are_written files d.trees d.read;
   line = line_of held l;
-  means_the_same =
-      inside_is_covered (program (by_path files d.trees) None) (program (all_grouped (by_path files d.trees)) None) []
-      (files_ask_nothing files d.trees d.read) (grouping_keeps_meaning (by_path files d.trees) None []);
+  status = e ∙ ap (λ (x : Summary). status_of (Ok x)) d.counted;
+  means_the_same = means_the_same (by_path files d.trees) (are_shaped files d.trees d.read);
 }
   where
     line_of : (h : Option (List ℕ)) → IfSome h (λ old. held' ≡ Some (old ++ summary_line s)) → IfSome h (λ old. held' ≡ Some (old ++ summary_line (counts d.trees)))
     line_of None x = tt
-    line_of (Some old) x = x ∙ ap (λ n. Some (old ++ summary_line n)) (d.counted ∙ counted files d.trees d.read)
+    line_of (Some old) x = x ∙ ap (λ n. Some (old ++ summary_line n)) d.counted
 
-no_done : (e : Stop) → status.Done ≡ of_stop e → ⊥
-no_done stop.Usage q = cc
-no_done (stop.Files n) q = cc
-no_done stop.FileBytes q = cc
-no_done (stop.Source path) q = cc
-no_done stop.SourceFault q = cc
-no_done stop.TargetFault q = cc
-no_done stop.Memory q = cc
+not_done : (e : Stop) → AllDone (of_stop e) → ⊥
+not_done stop.Usage h = h
+not_done (stop.Files n) h = h
+not_done stop.FileBytes h = h
+not_done (stop.Source path) h = h
+not_done stop.SourceFault h = h
+not_done stop.TargetFault h = h
+not_done stop.Memory h = h
 
-came_headline : (files before : List ports.File) (after : Option (List ports.File)) (held held' : Option (List ℕ)) (o o' : ℕ) (came : Result Summary Stop)
-    → IsOutcome files (Some before) after came → status.Done ≡ status_of came → IfSome held (λ old. LinePut status.Done came old held' o o') → Headline files before after held held'
-came_headline files before after held held' o o' (Ok s) d q l = done_headline files before after held held' s d l
-came_headline files before after held held' o o' (Err e) d q l = absurd (no_done e q)
+came_headline : (files before : List ports.File) (after : Option (List ports.File)) (held held' : Option (List ℕ)) (came : Result Summary Stop) (result : Status)
+    → IsOutcome files (Some before) after came → AllDone result → result ≡ status_of came
+    → ((s : Summary) → came ≡ Ok s → IfSome held (λ old. held' ≡ Some (old ++ summary_line s)))
+    → Headline files before after held held' result
+came_headline files before after held held' (Ok s) result o a e l = done_headline files before after held held' s result o e (l s refl)
+came_headline files before after held held' (Err x) result o a e l = absurd (not_done x (subst (λ (y : Status). AllDone y) e a))
 
--- what a run came to, where its status is 0
+-- the line of what was done
+line_done : (result : Status) (came : Result Summary Stop) (held held' : Option (List ℕ)) (o o' : ℕ) → AllDone result
+    → IfSome held (λ old. LinePut result came old held' o o') → (s : Summary) → came ≡ Ok s → IfSome held (λ old. held' ≡ Some (old ++ summary_line s))
+line_done result came None held' o o' a l s e = tt
+line_done status.Done came (Some old) held' o o' a l s e = subst (λ (x : Result Summary Stop). LinePut status.Done x old held' o o') e l
+line_done status.Reported came (Some old) held' o o' a l s e = subst (λ (x : Result Summary Stop). LinePut status.Reported x old held' o o') e l
+line_done status.Usage came (Some old) held' o o' a l s e = absurd a
+line_done status.Source came (Some old) held' o o' a l s e = absurd a
+line_done status.Settings came (Some old) held' o o' a l s e = absurd a
+line_done status.Names came (Some old) held' o o' a l s e = absurd a
+line_done status.Limit came (Some old) held' o o' a l s e = absurd a
+line_done status.Fault came (Some old) held' o o' a l s e = absurd a
+line_done status.Memory came (Some old) held' o o' a l s e = absurd a
+
+-- the status where all was done is the one that is wanted
+wanted : (result w : Status) → AllDone result → Answers result w → result ≡ w
+wanted status.Done w a h = h
+wanted status.Reported w a h = h
+wanted status.Usage w a h = absurd a
+wanted status.Source w a h = absurd a
+wanted status.Settings w a h = absurd a
+wanted status.Names w a h = absurd a
+wanted status.Limit w a h = absurd a
+wanted status.Fault w a h = absurd a
+wanted status.Memory w a h = absurd a
+
+-- what a run came to, where all was done
 pub run_headline : (b : Bool) (fs ds after : Option (List ports.File)) (held held' : Option (List ℕ)) (o o' : ℕ) (came : Result Summary Stop) (result : Status)
     → (b ≡ false → came ≡ Err stop.Usage) → (b ≡ true → IfSome fs (λ f. IsOutcome f ds after came))
     → Answers result (status_of came) → IfSome held (λ old. LinePut result came old held' o o')
-    → IfSome fs (λ f. IfSome ds (λ d. result ≡ status.Done → Headline f d after held held'))
+    → IfSome fs (λ f. IfSome ds (λ d. AllDone result → Headline f d after held held' result))
 run_headline b None ds after held held' o o' came result usage told answer line = tt
 run_headline b (Some f) None after held held' o o' came result usage told answer line = tt
-run_headline true (Some f) (Some d) after held held' o o' came status.Done usage told answer line =
-    λ q. came_headline f d after held held' o o' came (told refl) answer line
-run_headline false (Some f) (Some d) after held held' o o' came status.Done usage told answer line =
-    λ q. absurd (no_done stop.Usage (answer ∙ ap status_of (usage refl)))
-run_headline b (Some f) (Some d) after held held' o o' came status.Reported usage told answer line = λ q. cc
-run_headline b (Some f) (Some d) after held held' o o' came status.Usage usage told answer line = λ q. cc
-run_headline b (Some f) (Some d) after held held' o o' came status.Source usage told answer line = λ q. cc
-run_headline b (Some f) (Some d) after held held' o o' came status.Settings usage told answer line = λ q. cc
-run_headline b (Some f) (Some d) after held held' o o' came status.Names usage told answer line = λ q. cc
-run_headline b (Some f) (Some d) after held held' o o' came status.Limit usage told answer line = λ q. cc
-run_headline b (Some f) (Some d) after held held' o o' came status.Fault usage told answer line = λ q. cc
-run_headline b (Some f) (Some d) after held held' o o' came status.Memory usage told answer line = λ q. cc
+run_headline true (Some f) (Some d) after held held' o o' came result usage told answer line =
+    λ a. came_headline f d after held held' came result (told refl) a (wanted result (status_of came) a answer) (line_done result came held held' o o' a line)
+run_headline false (Some f) (Some d) after held held' o o' came result usage told answer line =
+    λ a. absurd (not_done stop.Usage (subst (λ (y : Status). AllDone y) (wanted result (status_of came) a answer ∙ ap status_of (usage refl)) a))

@@ -1,5 +1,6 @@
 pub mod Counting
+pub mod Decided
 pub mod Headlines
 pub mod Outcomes
-pub mod Writing
-pub mod FormAsksNothing
+pub mod Statuses
+pub mod Refusals

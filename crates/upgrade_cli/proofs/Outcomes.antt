@@ -1,17 +1,18 @@
 -- What is told of one file is told of the sources.
-use Rattle.std.proofs.Common.{◌≡◌, ◌≤◌, ◌<◌, ℕ, List, [], ◌∷◌, length, map, get_or, Option, Some, None, IfSome, Result, Ok, Err, refl, ap, ◌∙◌, sym, subst, arith}
+use Rattle.std.proofs.Common.{◌≡◌, ◌≤◌, ◌<◌, ℕ, ◌+◌, List, [], ◌∷◌, length, map, get_or, Option, Some, None, IfSome, Result, Ok, Err, refl, ap, ◌∙◌, sym, subst, arith, add-zero}
 use Rattle.std.specs.Option.{IsSome}
 use Rattle.std.proofs.lemmas.Option.{same_Some}
 use Rattle.std.proofs.lemmas.Slice.Eq.{bytes_eq-Decides}
-use Rattle.php_tree.specs.Tree.{File}
+use Rattle.php_tree.specs.Tree.{File, file_printed}
+use Rattle.syntax_rules.specs.Rewritten.{edits, rewritten}
 use Rattle.io_ports.specs.Files as ports
 use Rattle.io_ports.specs.Files.{content, put_file, Puts}
 use Rattle.upgrade_cli.specs.declared.stop.Stop.{Stop}
 use Rattle.upgrade_cli.specs.declared.stop.Stop.TheVariants as stop
 use Rattle.upgrade_cli.specs.declared.stop.Summary.{Summary}
 use Rattle.upgrade_cli.specs.declared.upgrade.Upgraded.{Upgraded}
-use Rattle.upgrade_cli.specs.Written.{written}
-use Rattle.upgrade_cli.specs.Outcome.{HasTree, AreRead, IsDone, IsOutcome, IsFileOutcome, IsUpgraded}
+use Rattle.upgrade_cli.specs.Reports.{reports}
+use Rattle.upgrade_cli.specs.Outcome.{HasTree, AreRead, counts, IsDone, IsOutcome, IsFileOutcome, IsUpgraded, IsOfTree}
 
 pub one_path : (ps : List (List ℕ)) (x path : List ℕ) → 1 ≤ length ps → length ps < 2 → x ≡ get_or ps 0 x → path ≡ x → ps ≡ path ∷ []
 one_path [] x path h l is e = absurd (omega arith)
@@ -34,19 +35,35 @@ listed (Some fs) ps path e told =
     let P : List ports.File → Type 0 = λ gs. IsSome (content path gs) in
     subst P (sym is) (rw (content_one path bytes) refl)
 
+-- what is counted of a file
+abbrev of_one : ℕ → ℕ → Summary
+of_one e r = record { files = 1; edits = e; reports = r; stops = r }
+
+counted : (t : File) (u : Upgraded) → IsOfTree t u → of_one u.edits u.reports ≡ counts (t ∷ [])
+counted t u is =
+    ap (λ n. of_one n u.reports) (is.edits_are ∙ sym (add-zero (length (edits t))))
+    ∙ ap (λ n. of_one (length (edits t) + 0) n) (is.reports_are ∙ sym (add-zero (length (reports t))))
+
 -- what is written of a file
-pub done_one : (path bytes : List ℕ) (u : Upgraded) (before after : Option (List ports.File)) → length bytes ≤ 1048576 → IsUpgraded bytes u → IfSome before (λ fs. Puts path u.bytes.items (Ok tt) fs after) → IsDone ((path, bytes) ∷ []) before after (record { files = 1; edits = u.edits })
+pub done_one : (path bytes : List ℕ) (u : Upgraded) (before after : Option (List ports.File)) → length bytes ≤ 1048576 → IsUpgraded bytes u
+    → IfSome before (λ fs. Puts path u.bytes.items (Ok tt) fs after)
+    → IsDone ((path, bytes) ∷ []) before after (record { files = 1; edits = u.edits; reports = u.reports; stops = u.reports })
 done_one path bytes u before after small is put =
     record {
       trees = is.tree ∷ [];
       read = record { small = small; reads = is.reads };
-      counted = ap (λ (e : ℕ). record { files = 1; edits = e }) is.edits_are;
+      counted = counted is.tree u is.written;
       target = stands before put;
     }
   where
-    stands : (b : Option (List ports.File)) → IfSome b (λ fs. Puts path u.bytes.items (Ok tt) fs after) → IfSome b (λ old. after ≡ Some (put_file path (written is.tree) old))
+    stands : (b : Option (List ports.File)) → IfSome b (λ fs. Puts path u.bytes.items (Ok tt) fs after)
+        → IfSome b (λ old. after ≡ Some (put_file path (file_printed (rewritten is.tree)) old))
     stands None h = tt
-    stands (Some old) h = h.ok ∙ ap (λ (w : List ℕ). Some (put_file path w old)) is.bytes_are
+    stands (Some old) h = h.ok ∙ ap (λ (w : List ℕ). Some (put_file path w old)) is.written.bytes_are
+
+-- bytes that were upgraded have a tree
+pub has_tree : (bytes : List ℕ) (u : Upgraded) (P : Type 0) → length bytes ≤ 1048576 → IsUpgraded bytes u → ((t : File) → HasTree bytes t → ⊥) → P
+has_tree bytes u P small is unread = absurd (unread is.tree (record { small = small; reads = is.reads }))
 
 by_result : (path bytes : List ℕ) (before after : Option (List ports.File)) (r : Result Summary Stop) → IsFileOutcome path bytes before after r → IsOutcome ((path, bytes) ∷ []) before after r
 by_result path bytes before after (Ok s) h = h

@@ -6,7 +6,9 @@ use Rattle.upgrade_cli.specs.declared.stop.Summary.{Summary}
 
 -- of a run that did all
 abbrev pub summary_line : Summary → List ℕ
-summary_line s = codes "files " ++ decimal s.files ++ codes " edits " ++ decimal s.edits ++ codes " reports 0 stops 0\n"
+summary_line s =
+    codes "files " ++ decimal s.files ++ codes " edits " ++ decimal s.edits
+    ++ codes " reports " ++ decimal s.reports ++ codes " stops " ++ decimal s.stops ++ codes "\n"
 
 -- of a run that stopped
 abbrev pub stop_line : Stop → List ℕ

@@ -1,16 +1,19 @@
 -- What a run comes to, by the words and the sources.
-use Rattle.std.specs.Prelude.{◌≡◌, ◌<◌, ◌≤◌, ℕ, List, [], ◌∷◌, length, Option, Some, None, IfSome, Result, Ok, Err, Vec}
+use Rattle.std.specs.Prelude.{◌≡◌, ◌<◌, ◌≤◌, ℕ, ◌+◌, List, [], ◌∷◌, length, Option, Some, None, IfSome, Result, Ok, Err, Vec}
 use Rattle.std.specs.declared.alloc.Global.{Global}
+use Rattle.php_tree.specs.declared.file.FileTree.{FileTree}
 use Rattle.php_tree.specs.declared.version.Version.TheVariants.{V74}
-use Rattle.php_tree.specs.Tree.{File}
-use Rattle.echo_form.specs.Form.{Reads}
+use Rattle.php_tree.specs.Tree.{File, file_printed}
+use Rattle.php_tree.specs.Whole.{file}
+use Rattle.php_reading.specs.Reading.{Reads}
+use Rattle.syntax_rules.specs.Rewritten.{edits, rewritten}
 use Rattle.io_ports.specs.Files as ports
 use Rattle.io_ports.specs.Files.{put_file}
 use Rattle.upgrade_cli.specs.declared.upgrade.Upgraded.{Upgraded}
 use Rattle.upgrade_cli.specs.declared.stop.Stop.{Stop}
 use Rattle.upgrade_cli.specs.declared.stop.Stop.TheVariants as stop
 use Rattle.upgrade_cli.specs.declared.stop.Summary.{Summary}
-use Rattle.upgrade_cli.specs.Written.{written, edit_count}
+use Rattle.upgrade_cli.specs.Reports.{reports}
 
 -- ---- what the sources are
 
@@ -45,15 +48,28 @@ AreRead _ trees = ⊥
 
 -- ---- what a run did
 
--- how many files and edits there are
-abbrev pub summary : List File → Summary
-summary [] = record { files = 0; edits = 0 }
-summary (t ∷ ts) = record { files = 1; edits = edit_count t }
+-- how many edits, and how many reports, there are
+abbrev pub edits_in_all : List File → ℕ
+edits_in_all [] = 0
+edits_in_all (t ∷ ts) = length (edits t) + edits_in_all ts
 
--- the target's files, after the sources with these trees were written
-abbrev pub target_after : List ports.File → List File → List ports.File → List ports.File
-target_after (f ∷ fs) (t ∷ ts) before = put_file f.0 (written t) before
-target_after _ trees before = before
+abbrev pub reports_in_all : List File → ℕ
+reports_in_all [] = 0
+reports_in_all (t ∷ ts) = length (reports t) + reports_in_all ts
+
+-- what is counted of files with these trees: each report is one after which nothing is claimed
+abbrev pub counts : List File → Summary
+counts trees = record {
+  files = length trees;
+  edits = edits_in_all trees;
+  reports = reports_in_all trees;
+  stops = reports_in_all trees;
+}
+
+-- the target's files, with what is written of these under their paths
+abbrev pub with_written : List ports.File → List File → List ports.File → List ports.File
+with_written (f ∷ fs) (t ∷ ts) before = with_written fs ts (put_file f.0 (file_printed (rewritten t)) before)
+with_written files trees before = before
 
 -- ---- what a run comes to
 
@@ -61,8 +77,8 @@ target_after _ trees before = before
 pub record IsDone (files : List ports.File) (before after : Option (List ports.File)) (s : Summary) : Type 0 where
   pub trees : List File
   pub read : AreRead files trees
-  pub counted : s ≡ summary trees
-  pub target : IfSome before (λ old. after ≡ Some (target_after files trees old))
+  pub counted : s ≡ counts trees
+  pub target : IfSome before (λ old. after ≡ Some (with_written files trees old))
 
 -- This comes only where it should, with the target's files before and after; a fault and want of memory are spoken of
 -- elsewhere.
@@ -114,14 +130,24 @@ IsAnyReading (Err stop.FileBytes) = Unit {0}
 IsAnyReading (Err stop.Memory) = Unit {0}
 IsAnyReading (Err _) = ⊥
 
--- what is written of bytes
+-- the tree of some bytes, or none where they have no tree
+abbrev pub MayBeRead : List ℕ → Option FileTree → Type 0
+MayBeRead bytes None = (t : File) → Reads V74 bytes t → ⊥
+MayBeRead bytes (Some tree) = Reads V74 bytes (file tree)
+
+-- what is written of a tree, and what is counted of it
+pub record IsOfTree (t : File) (u : Upgraded) : Type 0 where
+  pub bytes_are : u.bytes.items ≡ file_printed (rewritten t)
+  pub edits_are : u.edits ≡ length (edits t)
+  pub reports_are : u.reports ≡ length (reports t)
+
+-- the same of bytes
 pub record IsUpgraded (bytes : List ℕ) (u : Upgraded) : Type 0 where
   pub tree : File
   pub reads : Reads V74 bytes tree
-  pub bytes_are : u.bytes.items ≡ written tree
-  pub edits_are : u.edits ≡ edit_count tree
+  pub written : IsOfTree tree u
 
--- what is written of bytes, or none where they have no tree
+-- the same, or none where the bytes have no tree
 abbrev pub MayBeUpgraded : List ℕ → Option Upgraded → Type 0
 MayBeUpgraded bytes None = (t : File) → Reads V74 bytes t → ⊥
 MayBeUpgraded bytes (Some u) = IsUpgraded bytes u

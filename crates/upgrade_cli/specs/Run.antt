@@ -1,5 +1,5 @@
 -- What a run answers, and what stands after it.
-use Rattle.std.specs.Prelude.{◌≡◌, ◌⊎◌, ◌++◌, ℕ, List, Option, Some, IfSome, Result, Ok, Err}
+use Rattle.std.specs.Prelude.{◌≡◌, ◌⊎◌, ◌==◌, ◌++◌, ℕ, Bool, true, false, List, Option, Some, IfSome, Result, Ok, Err}
 use Rattle.php_tree.specs.Tree.{File}
 use Rattle.io_ports.specs.Causes.{Rose}
 use Rattle.io_ports.specs.declared.fault.PortFault.{PortFault}
@@ -11,7 +11,7 @@ use Rattle.upgrade_cli.specs.declared.stop.Stop.{Stop}
 use Rattle.upgrade_cli.specs.declared.stop.Stop.TheVariants as stop
 use Rattle.upgrade_cli.specs.declared.stop.Summary.{Summary}
 use Rattle.upgrade_cli.specs.Lines.{line, stop_line}
-use Rattle.upgrade_cli.specs.Outcome.{AreMany, IsTooLong, IsUnread, AreRead, IsOutcome}
+use Rattle.upgrade_cli.specs.Outcome.{AreMany, IsTooLong, IsUnread, AreRead, counts, IsOutcome}
 
 -- ---- statuses
 
@@ -24,9 +24,14 @@ of_stop stop.SourceFault = status.Fault
 of_stop stop.TargetFault = status.Fault
 of_stop stop.Memory = status.Memory
 
+-- where all was done: whether no report stops the claim
+abbrev pub of_done : Bool → Status
+of_done true = status.Done
+of_done false = status.Reported
+
 -- the status of what a run came to
 abbrev pub status_of : Result Summary Stop → Status
-status_of (Ok s) = status.Done
+status_of (Ok s) = of_done (s.stops == 0)
 status_of (Err e) = of_stop e
 
 -- the exit status
@@ -46,6 +51,12 @@ abbrev pub Answers : Status → Status → Type 0
 Answers status.Fault wanted = Unit {0}
 Answers status.Memory wanted = Unit {0}
 Answers result wanted = result ≡ wanted
+
+-- all was done
+abbrev pub AllDone : Status → Type 0
+AllDone status.Done = Unit {0}
+AllDone status.Reported = Unit {0}
+AllDone _ = ⊥
 
 -- unless the status tells of a fault or of want of memory
 abbrev pub Unless : Status → Type 0 → Type 0
@@ -137,16 +148,15 @@ pub record Told (files : List ports.File) (before after : Option (List ports.Fil
   pub answer : Answers result (status_of came)
   pub line_put : IfSome held (λ old. LinePut result came old held' o o')
 
--- Each status comes where it should, in this order: the number of files and their bytes, then their trees.
+-- Each status comes where it should, in this order: the number of files and their bytes, then their trees, then their reports.
 pub record IsExact (files : List ports.File) (result : Status) : Type 0 where
   pub many : AreMany files → Answers result status.Limit
   pub too_long : IsTooLong files → Answers result status.Limit
   pub unread : (path : List ℕ) → IsUnread files path → Answers result status.Source
-  pub done : (trees : List File) → AreRead files trees → Answers result status.Done
+  pub done : (trees : List File) → AreRead files trees → Answers result (status_of (Ok (counts trees)))
 
 -- no other status comes
 abbrev pub IsOfUpgrade : Status → Type 0
-IsOfUpgrade status.Reported = ⊥
 IsOfUpgrade status.Settings = ⊥
 IsOfUpgrade status.Names = ⊥
 IsOfUpgrade _ = Unit {0}

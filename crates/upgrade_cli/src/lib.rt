@@ -2,12 +2,13 @@
 #![tactic(auto)]
 
 mod line;
-mod rewrite;
+mod reports;
 mod sources;
 mod stop;
 #[cfg(test)]
 mod tests;
 mod top;
+mod trees;
 mod upgrade;
 mod words;
 

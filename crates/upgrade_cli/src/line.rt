@@ -10,7 +10,9 @@ fn summary_line(alloc: Global, summary: &Summary) -> Result<String, AllocError>
 {
     let files = summary.files;
     let edits = summary.edits;
-    format!(in alloc; "files {files} edits {edits} reports 0 stops 0\n")
+    let reports = summary.reports;
+    let stops = summary.stops;
+    format!(in alloc; "files {files} edits {edits} reports {reports} stops {stops}\n")
 }
 
 fn stop_line(alloc: Global, stop: &Stop) -> Result<String, AllocError>

@@ -5,9 +5,11 @@ ghost use Rattle.upgrade_cli.specs.Outcome as spec;
 ghost use Rattle.upgrade_cli.specs.Run.{SourceCause};
 
 use crate::stop::{Stop, source_stop};
-use echo_reader::MAX_BYTES;
 use io_ports::{Found, PathText, SourceTree};
 use std::alloc::Global;
+
+/// The greatest number of bytes of a file.
+pub const MAX_BYTES: usize = 1_048_576;
 
 /// The paths of the sources, in byte order. Stops with a fault of the source, or for want of memory.
 pub fn list_sources<T: SourceTree>(alloc: Global, source: &mut T) -> Result<Vec<PathText>, Stop>

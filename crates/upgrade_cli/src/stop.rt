@@ -75,11 +75,25 @@ impl From<AllocError> for Stop {
     }
 }
 
-/// What a run did: how many files it upgraded, and by how many edits.
+/// What a run did: how many files it upgraded, by how many edits, how many reports stand, and how many of these stop the
+/// claim.
 #[derive(Clone, Copy, Debug, PartialEq, Eq)]
 pub struct Summary {
     pub files: usize,
-    pub edits: u64,
+    pub edits: usize,
+    pub reports: usize,
+    pub stops: usize,
+}
+
+// The status where all was done.
+fn of_done(is_claimed: bool) -> Status
+    ensures { result ≡ spec.of_done is_claimed }
+{
+    if is_claimed {
+        Status::Done
+    } else {
+        Status::Reported
+    }
 }
 
 /// The status of what a run came to.
@@ -87,7 +101,7 @@ pub fn status_of(came: &Result<Summary, Stop>) -> Status
     ensures { result ≡ spec.status_of came.now }
 {
     match came {
-        Ok(_) => Status::Done,
+        Ok(summary) => of_done(summary.stops == 0),
         Err(Stop::Usage) => Status::Usage,
         Err(Stop::Files(_)) => Status::Limit,
         Err(Stop::FileBytes) => Status::Limit,

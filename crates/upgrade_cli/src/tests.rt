@@ -1,12 +1,19 @@
 // Worked runs, over memory.
+mod many_rules;
+mod syntax;
+mod texts;
+mod words;
+
 ghost use Rattle.std.specs.Prelude.{◌≡◌, IfOk, ◌∷◌, [], codes};
 
 use crate::{Status, run, status_number};
-use echo_reader::{MAX_BYTES, read};
 use io_ports::{
     Bytes, CalmSink, CalmSource, CalmTarget, MemorySink, MemorySource, MemoryTarget, PathText,
 };
+use php_reading::read;
+use php_tree::Version;
 use std::alloc::{AllocError, Global};
+use std::process::Abort;
 use std::test::Fail;
 
 const USAGE: &str = "usage: upgrader upgrade, check, sample or serve\n";
@@ -98,58 +105,90 @@ fn run_on(alloc: Global, bytes: &[u8], failing: Failing) -> Result<Ran, AllocErr
     })
 }
 
-#[test]
-fn files_are_upgraded(rt: HostRuntime) -> Result<(), Fail> {
-    for (before, after, line) in [
-        ("", "", DONE),
-        (
-            "<?php echo 1 ? 2 : (3 ? 4 : 5), 'a';\n",
-            "<?php echo 1 ? 2 : (3 ? 4 : 5), 'a';\n",
-            DONE,
-        ),
-        (
-            "<?php echo true ? 'a' : false ? 'b' : 'c';",
-            "<?php echo (true ? 'a' : false) ? 'b' : 'c';",
-            "files 1 edits 2 reports 0 stops 0\n",
-        ),
-        (
-            "<?php echo true?1:false?2:3?4:5;",
-            "<?php echo ((true?1:false)?2:3)?4:5;",
-            "files 1 edits 4 reports 0 stops 0\n",
-        ),
-        (
-            "<?php echo 1 ? 2 ? 3 : 4 ? 5 : 6 : 7;",
-            "<?php echo 1 ? (2 ? 3 : 4) ? 5 : 6 : 7;",
-            "files 1 edits 2 reports 0 stops 0\n",
-        ),
-        (
-            "<?php echo  1 ?2: 3 ? 4 :5 ;",
-            "<?php echo  (1 ?2: 3) ? 4 :5 ;",
-            "files 1 edits 2 reports 0 stops 0\n",
-        ),
-        (
-            "<?php echo 'x', ((1 ? 2 : 3) ? 4 : 5), (6?7:8?9:0);",
-            "<?php echo 'x', ((1 ? 2 : 3) ? 4 : 5), ((6?7:8)?9:0);",
-            "files 1 edits 2 reports 0 stops 0\n",
-        ),
-    ] {
-        let ran = run_on(rt.alloc(), before.as_bytes(), NONE_FAILS)?;
-        assert!(rt; ran.was(0, line, Some(after.as_bytes())), "{before}");
+// The line of one file with so many edits and so many reports.
+fn line_of(alloc: Global, edits: usize, reports: usize) -> Result<String, AllocError> {
+    format!(in alloc; "files 1 edits {edits} reports {reports} stops {reports}\n")
+}
+
+/// Asserts rows: a source, what is written of it, by how many edits, and how many reports stand.
+fn assert_rows(
+    rt: &impl Abort,
+    alloc: Global,
+    rows: &[(&str, &str, usize, usize)],
+) -> Result<(), Fail> {
+    for (before, after, edits, reports) in rows {
+        let line = line_of(alloc, *edits, *reports)?;
+        let status = if *reports == 0 { 0 } else { 2 };
+        let ran = run_on(alloc, before.as_bytes(), NONE_FAILS)?;
+        assert!(rt; ran.was(status, line.as_str(), Some(after.as_bytes())), "{before}");
     }
     Ok(())
 }
 
+// Files that 8.3 reads as 7.4 does are written as they stand.
+static AS_THEY_STAND: [(&str, &str, usize, usize); 5] = [
+    ("", "", 0, 0),
+    ("<p>a</p>\n", "<p>a</p>\n", 0, 0),
+    ("<?php echo 1 ?>", "<?php echo 1 ?>", 0, 0),
+    (
+        "<?php namespace A;\r\nclass B { public $c = [1, 'd' => 2]; }\n",
+        "<?php namespace A;\r\nclass B { public $c = [1, 'd' => 2]; }\n",
+        0,
+        0,
+    ),
+    (
+        "<?php /* (real) */ echo '${a} #[b]', <<<'X'\n${a}\nX;\n",
+        "<?php /* (real) */ echo '${a} #[b]', <<<'X'\n${a}\nX;\n",
+        0,
+        0,
+    ),
+];
+
 #[test]
-fn other_files_are_refused(rt: HostRuntime) -> Result<(), Fail> {
+fn other_bytes_stay(rt: HostRuntime) -> Result<(), Fail> {
+    assert_rows(&rt, rt.alloc(), &AS_THEY_STAND)
+}
+
+#[test]
+fn files_without_a_tree_are_refused(rt: HostRuntime) -> Result<(), Fail> {
     for text in [
         "<?php echo (1;",
-        "<?php",
+        "<?php echo \"a",
         "<?php echo 08;",
-        "<?php echo 1 ?>",
+        "<?php echo 1; /* a",
+        "<?php echo <<<A\na\n",
+        "<?php echo 1 \u{1};",
+        "<?php enum A { }",
     ] {
         let ran = run_on(rt.alloc(), text.as_bytes(), NONE_FAILS)?;
         assert!(rt; ran.was(65, "source a.php\n", None), "{text}");
     }
+    Ok(())
+}
+
+// A number in so many pairs of parentheses, as an `echo` statement.
+fn in_parens(alloc: Global, pairs: usize) -> Result<Vec<u8>, AllocError> {
+    let mut out = Vec::from_slice(alloc, b"<?php echo ")?;
+    for _pair in 0..pairs {
+        out.push(b'(')?;
+    }
+    out.push(b'1')?;
+    for _pair in 0..pairs {
+        out.push(b')')?;
+    }
+    out.push(b';')?;
+    Ok(out)
+}
+
+#[test]
+fn nodes_stand_at_most_500_deep(rt: HostRuntime) -> Result<(), Fail> {
+    let alloc = rt.alloc();
+    let deepest = in_parens(alloc, 498)?;
+    let ran = run_on(alloc, deepest.as_slice(), NONE_FAILS)?;
+    assert!(rt; ran.was(0, DONE, Some(deepest.as_slice())));
+    let deeper = in_parens(alloc, 499)?;
+    let ran = run_on(alloc, deeper.as_slice(), NONE_FAILS)?;
+    assert!(rt; ran.was(65, "source a.php\n", None));
     Ok(())
 }
 
@@ -246,10 +285,7 @@ fn a_fault_names_its_object(rt: HostRuntime) -> Result<(), Fail> {
 
 // Whether the copy of a file has as many nodes, as deep in one another.
 fn is_copied(alloc: Global, bytes: &[u8]) -> Result<bool, AllocError> {
-    if bytes.len() > MAX_BYTES {
-        return Ok(false);
-    }
-    let Some(file) = read(alloc, bytes)? else {
+    let Ok(file) = read(alloc, Version::V74, bytes) else {
         return Ok(false);
     };
     let copy = file.clone_tree(alloc)?;

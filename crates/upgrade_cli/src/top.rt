@@ -74,7 +74,7 @@ pub fn run<T: SourceTree, D: TargetTree, O: Sink>(
     ensures others { spec.IsOfUpgrade result }
 
     // The headline: where all was done, what stands in the target, and that it does in 8.3 what the source does in 7.4.
-    ensures headline { IfSome (T.files source.old) (λ fs. IfSome (D.files target.old) (λ ds. result ≡ Status.Done → Headline fs ds (D.files target.new) (O.held out.old) (O.held out.new))) }
+    ensures headline { IfSome (T.files source.old) (λ fs. IfSome (D.files target.old) (λ ds. spec.AllDone result → Headline fs ds (D.files target.new) (O.held out.old) (O.held out.new) result)) }
 
     // 74 only where a count rose; where one rose the status is 74 or 71
     ensures fault { result ≡ Status.Fault → spec.AnyRose (T.faults source.old) (T.faults source.new) (D.faults target.old) (D.faults target.new) (O.faults out.old) (O.faults out.new) }

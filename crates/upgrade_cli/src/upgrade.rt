@@ -1,21 +1,44 @@
 // The upgrade: from the sources to the target.
 ghost use Rattle.std.specs.Prelude.{◌≡◌, ◌≤◌, List, length, IfOk, IfSome};
+ghost use Rattle.php_tree.specs.declared.version.Version.TheVariants.{V74};
 ghost use Rattle.php_tree.specs.Tree.{File};
+ghost use Rattle.php_tree.specs.Whole.{file};
+ghost use Rattle.php_reading.specs.Reading.{Reads};
 ghost use Rattle.upgrade_cli.specs.Outcome as spec;
 ghost use Rattle.upgrade_cli.specs.Run.{HaveCauses, TargetCause, Keeps, NotSource};
 
-use crate::rewrite::{edit_count, write_file};
-use crate::sources::{list_sources, read_source};
+use crate::reports::report_count;
+use crate::sources::{MAX_BYTES, list_sources, read_source};
 use crate::stop::{Stop, Summary, target_stop};
-use echo_reader::{MAX_BYTES, read};
+use crate::trees::tree_of;
 use io_ports::{PathText, SourceTree, TargetTree};
+use paired_parts::quoted_texts_are_walked;
+use php_tree::FileTree;
 use std::alloc::{AllocError, Global};
+use syntax_edits::upgraded;
 
-/// A file upgraded: the bytes to write, and how many edits made them.
+/// A file upgraded: the bytes to write, how many edits made them, and how many reports stand.
 #[derive(Drop)]
 pub struct Upgraded {
     pub bytes: Vec<u8>,
-    pub edits: u64,
+    pub edits: usize,
+    pub reports: usize,
+}
+
+// What is written of the tree that 7.4 reads in these bytes.
+fn upgrade_tree(alloc: Global, tree: &FileTree, bytes: &[u8]) -> Result<Upgraded, AllocError>
+    requires read { Reads V74 bytes.now (file tree.now) }
+    requires small { length bytes.now ≤ MAX_BYTES }
+    ensures { IfOk result (λ u. spec.IsOfTree (file tree.now) u) }
+{
+    quoted_texts_are_walked();
+    let upgrade = upgraded(alloc, tree, bytes)?;
+    let reports = report_count(alloc, tree)?;
+    Ok(Upgraded {
+        bytes: upgrade.bytes,
+        edits: upgrade.edits,
+        reports,
+    })
 }
 
 // The upgraded file; none where the bytes have no tree.
@@ -23,15 +46,11 @@ fn upgrade_file(alloc: Global, bytes: &[u8]) -> Result<Option<Upgraded>, AllocEr
     requires { length bytes.now ≤ MAX_BYTES }
     ensures { IfOk result (λ r. spec.MayBeUpgraded bytes.now r) }
 {
-    let Some(file) = read(alloc, bytes)? else {
+    let Some(tree) = tree_of(alloc, bytes)? else {
         return Ok(None);
     };
-    let mut written = Vec::new(alloc);
-    write_file(&file, &mut written)?;
-    Ok(Some(Upgraded {
-        bytes: written,
-        edits: edit_count(&file)?,
-    }))
+    let upgraded = upgrade_tree(alloc, &tree, bytes)?;
+    Ok(Some(upgraded))
 }
 
 // Upgrades one file into the target.
@@ -55,6 +74,8 @@ fn upgrade_one<D: TargetTree>(
         Ok(()) => Ok(Summary {
             files: 1,
             edits: upgraded.edits,
+            reports: upgraded.reports,
+            stops: upgraded.reports,
         }),
         Err(fault) => Err(target_stop(fault)),
     }
@@ -74,7 +95,12 @@ pub fn upgrade<T: SourceTree, D: TargetTree>(
 {
     let paths = list_sources(alloc, source)?;
     match paths.as_slice() {
-        [] => Ok(Summary { files: 0, edits: 0 }),
+        [] => Ok(Summary {
+            files: 0,
+            edits: 0,
+            reports: 0,
+            stops: 0,
+        }),
         [path] => {
             let bytes = read_source(alloc, source, path.as_str())?;
             upgrade_one(alloc, target, path, bytes.as_slice())

@@ -1,7 +1,16 @@
 use Rattle.std.specs.Prelude.{map, string_bytes}
 use Rattle.upgrade_cli.specs.Words.{are_upgrade}
 use Rattle.upgrade_cli.proofs.Headlines.{run_headline}
+use Rattle.upgrade_cli.proofs.Statuses.{exact, of_upgrade}
 use Rattle.upgrade_cli.proofs.top.run.Goals as goal
+
+pub returns-clause-exact : goal.returns-clause-exact
+returns-clause-exact g c = λ b.
+    exact (g.T.SourceTree.files c.args.source.now) (g.D.TargetTree.files c.args.target.now) (g.D.TargetTree.files c.outcome-came.new.target)
+    c.outcome-came.result c.answer.result (c.outcome-came.ensures.told b) c.answer.ensures.answer
+
+pub returns-clause-others : goal.returns-clause-others
+returns-clause-others g c = of_upgrade c.outcome-came.result c.answer.result c.answer.ensures.answer
 
 pub returns-clause-headline : goal.returns-clause-headline
 returns-clause-headline g c =

@@ -1,0 +1,38 @@
+// From the bytes of a file to its tree.
+ghost use Rattle.std.specs.Prelude.{◌≡◌, ◌≢◌, ◌≤◌, IfOk, OnOk, length};
+ghost use Rattle.upgrade_cli.specs.Outcome as spec;
+
+use crate::sources::MAX_BYTES;
+use php_reading::{ReadFault, read};
+use php_tree::{FileTree, Version};
+use std::alloc::{AllocError, Global};
+
+// A refusal, unless it is want of memory.
+fn refused(fault: ReadFault) -> Result<(), AllocError>
+    ensures { OnOk result (fault ≢ ReadFault.Memory) }
+{
+    match fault {
+        ReadFault::Memory => Err(AllocError),
+        ReadFault::OpenText(_)
+        | ReadFault::OpenComment(_)
+        | ReadFault::OpenHeredoc(_)
+        | ReadFault::BadByte(_)
+        | ReadFault::TooLong
+        | ReadFault::NotInGrammar => Ok(()),
+    }
+}
+
+/// The tree that 7.4 reads in the bytes of a file, by all of its tokens and all of its grammar; none exactly where it reads
+/// none. The only error is want of memory.
+pub fn tree_of(alloc: Global, bytes: &[u8]) -> Result<Option<FileTree>, AllocError>
+    requires { length bytes.now ≤ MAX_BYTES }
+    ensures { IfOk result (λ r. spec.MayBeRead bytes.now r) }
+{
+    match read(alloc, Version::V74, bytes) {
+        Ok(tree) => Ok(Some(tree)),
+        Err(fault) => {
+            refused(fault)?;
+            Ok(None)
+        }
+    }
+}
