@@ -1,5 +1,5 @@
 -- Each status comes where it should.
-use Rattle.std.proofs.Common.{◌≡◌, ◌≤◌, ◌<◌, ℕ, Bool, true, false, List, [], ◌∷◌, length, refl, ap, sym, ◌∙◌, subst, arith}
+use Rattle.std.proofs.Common.{◌≡◌, ℕ, Bool, true, false, List, [], ◌∷◌, refl, ap, ◌∙◌, subst, arith}
 use Rattle.std.specs.Prelude.{Option, Some, None, IfSome, Result, Ok, Err, ◌==◌}
 use Rattle.php_tree.specs.Tree.{File}
 use Rattle.php_tree.specs.declared.version.Version.TheVariants.{V74}
@@ -10,8 +10,8 @@ use Rattle.upgrade_cli.specs.declared.stop.Status.TheVariants as status
 use Rattle.upgrade_cli.specs.declared.stop.Stop.{Stop}
 use Rattle.upgrade_cli.specs.declared.stop.Stop.TheVariants as stop
 use Rattle.upgrade_cli.specs.declared.stop.Summary.{Summary}
-use Rattle.upgrade_cli.specs.Outcome.{AreMany, IsTooLong, IsUnread, AreRead, counts, IsDone, IsOutcome}
-use Rattle.upgrade_cli.specs.Run.{of_done, of_stop, status_of, Answers, AllDone, IsExact, IsOfUpgrade}
+use Rattle.upgrade_cli.specs.Outcome.{AreMany, IsTooLong, IsUnread, AreRead, counts, IsOutcome}
+use Rattle.upgrade_cli.specs.Run.{of_done, status_of, Answers, IsExact, IsOfUpgrade}
 
 -- ---- statuses alone
 

@@ -120,7 +120,10 @@ fn assert_rows(
         let line = line_of(alloc, *edits, *reports)?;
         let status = if *reports == 0 { 0 } else { 2 };
         let ran = run_on(alloc, before.as_bytes(), NONE_FAILS)?;
-        assert!(rt; ran.was(status, line.as_str(), Some(after.as_bytes())), "{before}");
+        assert!(rt;
+            ran.was(status, line.as_str(), Some(after.as_bytes())),
+            "{before}"
+        );
     }
     Ok(())
 }

@@ -16,9 +16,24 @@ static TOGETHER: [(&str, &str, usize, usize); 6] = [
         6,
         0,
     ),
-    ("<?php echo \"${f((real)$a{0})}\";", "<?php echo \"{${f((float)$a[0])}}\";", 5, 0),
-    ("<?php return\\A #[a\n\\B[0];", "<?php return \\A\\B[0];", 2, 0),
-    ("<?php echo (unset) #[a\n$b, 1;", "<?php echo (null), 1;", 1, 0),
+    (
+        "<?php echo \"${f((real)$a{0})}\";",
+        "<?php echo \"{${f((float)$a[0])}}\";",
+        5,
+        0,
+    ),
+    (
+        "<?php return\\A #[a\n\\B[0];",
+        "<?php return \\A\\B[0];",
+        2,
+        0,
+    ),
+    (
+        "<?php echo (unset) #[a\n$b, 1;",
+        "<?php echo (null), 1;",
+        1,
+        0,
+    ),
     (
         "<?php echo (unset)f((real)1), match, A \\ B;",
         "<?php echo (unset)f((float)1), match, A\\B;",

@@ -23,7 +23,12 @@ static HASH_COMMENT: [(&str, &str, usize, usize); 3] = [
 static SPLIT_NAME: [(&str, &str, usize, usize); 6] = [
     ("<?php echo A \\ B;", "<?php echo A\\B;", 2, 0),
     ("<?php return\\A;", "<?php return \\A;", 1, 0),
-    ("<?php echo\\ A /**/ \\B, \\C;", "<?php echo \\A\\B, \\C;", 3, 0),
+    (
+        "<?php echo\\ A /**/ \\B, \\C;",
+        "<?php echo \\A\\B, \\C;",
+        3,
+        0,
+    ),
     (
         "<?php use A\\ B; echo new\\B, namespace \\f();",
         "<?php use A\\B; echo new \\B, namespace\\f();",
@@ -52,7 +57,12 @@ static DOLLAR_BRACE: [(&str, &str, usize, usize); 5] = [
         2,
         0,
     ),
-    ("<?php echo \"${'x'}${$y}\";", "<?php echo \"{${'x'}}{${$y}}\";", 4, 0),
+    (
+        "<?php echo \"${'x'}${$y}\";",
+        "<?php echo \"{${'x'}}{${$y}}\";",
+        4,
+        0,
+    ),
     (
         "<?php echo \"a$${x}\", \"\\$${x}\", \"\\\\$${x}\";",
         "<?php echo \"a\\${$x}\", \"\\${$x}\", \"\\\\\\${$x}\";",

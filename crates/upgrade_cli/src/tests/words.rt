@@ -4,7 +4,12 @@ use std::test::Fail;
 
 // Where 8.3 refuses them.
 static REFUSED: [(&str, &str, usize, usize); 9] = [
-    ("<?php function match() {}", "<?php function match() {}", 0, 1),
+    (
+        "<?php function match() {}",
+        "<?php function match() {}",
+        0,
+        1,
+    ),
     (
         "<?php match(); new match; echo match::A, match;",
         "<?php match(); new match; echo match::A, match;",
