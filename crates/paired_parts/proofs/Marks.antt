@@ -1,5 +1,5 @@
 -- Tokens told by their classes: operators and brackets, the tokens of quoted texts, and the others.
-use Rattle.std.proofs.Common.{◌≡◌, ℕ, Bool, true, false, not, cond, ◌&&◌, ◌||◌, nat_eq, nat_lt, codes, List, [], ◌∷◌, length, slice_index, refl, sym, ap, ◌∙◌}
+use Rattle.std.proofs.Common.{◌≡◌, ℕ, Bool, true, false, cond, ◌&&◌, ◌||◌, nat_eq, nat_lt, codes, List, [], ◌∷◌, length, slice_index, refl, sym, ap, ◌∙◌}
 use Rattle.std.specs.Char.{to_ascii_lowercase}
 use Rattle.std.proofs.lemmas.Bool.{eqb-true}
 use Rattle.php_tree.specs.declared.token.Token.{Token}
@@ -8,14 +8,13 @@ use Rattle.php_tree.specs.declared.token.TokenKind.TheVariants as kind
 use Rattle.php_tree.specs.declared.version.Version.TheVariants.{V74}
 use Rattle.php_terminals.specs.declared.terminal.Terminal.{Terminal}
 use Rattle.php_terminals.specs.declared.terminal.Terminal.TheVariants as t
-use Rattle.php_terminals.specs.Classify.{cast, cast_letter, is_word_kind, is_word_token, name, opening, terminal, terminal_by}
+use Rattle.php_terminals.specs.Classify.{cast, cast_letter, name, opening, terminal, terminal_by}
 use Rattle.php_terminals.specs.Terminals.{code}
 use Rattle.php_terminals.specs.Words.{find_row, front, is_word, keyword, keywords, label, labels, operator, operators}
-use Rattle.php_lexer.specs.Modes.{is_byte}
 use Rattle.php_grammar.specs.Accepts.{accepts, same_class}
 use Rattle.rewritten_shapes.proofs.OperatorWords.{found, is_any, low_word, no_row, rows_not, words_of}
-use Rattle.paired_parts.specs.Tokens.{IsMark, is_code_kind, is_code_token, is_edge, is_mark, is_op, opens_text}
-use Rattle.paired_parts.proofs.Asked.{by_test, both_left, both_right, both_true, is_one_of, no_clash}
+use Rattle.paired_parts.specs.Tokens.{IsMark, opens_text}
+use Rattle.paired_parts.proofs.Asked.{is_one_of, no_clash}
 
 -- a test that holds of no class that tokens of a kind with a table have
 module _ (p : Terminal → Bool) where
@@ -254,3 +253,26 @@ number x e = number_kind x.kind (told_same t.Int x refl e)
 pub variable : (x : Token) → accepts V74 t.Variable x ≡ true → x.kind ≡ kind.Variable
 unfolding told
 variable x e = variable_kind x.kind (told_same t.Variable x refl e)
+
+-- ---- casts
+
+abbrev is_cast_class : ℕ → Bool
+is_cast_class n = is_one_of (t.Cast ∷ t.OldCast ∷ []) n
+
+cast_by : (sort : TokenKind) (text : List ℕ) → is_cast_class (code (terminal_by sort text)) ≡ true → sort ≡ kind.Cast
+unfolding keywords labels operators
+cast_by kind.Cast text e = refl
+cast_by kind.Label text e = absurd (no_clash (label_not (λ own. is_cast_class (code own)) text refl refl) e)
+cast_by kind.Keyword text e = absurd (no_clash (keyword_not (λ own. is_cast_class (code own)) text refl refl refl) e)
+cast_by kind.Op text e = absurd (no_clash (operator_not (λ own. is_cast_class (code own)) text refl refl) e)
+cast_by kind.Name text e = absurd (no_clash (name_not (λ own. is_cast_class (code own)) text refl refl refl) e)
+cast_by _ text e = absurd cc
+
+cast_kind : (c : Terminal) (x : Token) → is_cast_class (code c) ≡ true → same_class c (terminal x) ≡ true → x.kind ≡ kind.Cast
+cast_kind c x h e = cast_by x.kind x.text (ap is_cast_class (sym (eqb-true (code c) (code (terminal x)) e)) ∙ h)
+
+pub is_cast : (x : Token) → accepts V74 t.Cast x ≡ true → x.kind ≡ kind.Cast
+is_cast x e = cast_kind t.Cast x refl e
+
+pub is_old_cast : (x : Token) → accepts V74 t.OldCast x ≡ true → x.kind ≡ kind.Cast
+is_old_cast x e = cast_kind t.OldCast x refl e

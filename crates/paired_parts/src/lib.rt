@@ -1,11 +1,17 @@
 //! What the shape of the 7.4 grammar says of braces, quoted texts and first tokens, part by part.
 #![tactic(auto)]
 
-ghost use Rattle.paired_parts.specs.Laws.{QuotedTextsAreWalked};
+ghost use Rattle.paired_parts.specs.Laws.{QuotedTextsAreWalked, ShapedFilesArePaired};
 
 /// In a file with the shape of the 7.4 grammar each `${` of a quoted text stands before a name or an expression and its `}`.
 pub fn quoted_texts_are_walked()
     ensures { QuotedTextsAreWalked }
+{}
+
+/// In a file with the shape of the 7.4 grammar brackets stand in pairs and quoted texts are whole, where its uses of traits
+/// have neither between their own braces.
+pub fn shaped_files_are_paired()
+    ensures { ShapedFilesArePaired }
 {}
 
 #[cfg(test)]
@@ -15,5 +21,6 @@ mod tests {
     #[test]
     fn laws_can_be_called() {
         quoted_texts_are_walked();
+        shaped_files_are_paired();
     }
 }
