@@ -1,11 +1,10 @@
 -- The edits at one `${`, read off its draft.
-use Rattle.std.proofs.Common.{◌≡◌, ℕ, ◌+◌, Bool, true, false, not, ◌==◌, ◌&&◌, if◌then◌else◌, List, [], ◌∷◌, ◌++◌, refl, ap, sym, ◌∙◌, length, codes, append-nil, append_assoc, arith}
+use Rattle.std.proofs.Common.{◌≡◌, ℕ, ◌+◌, Bool, true, false, not, ◌==◌, ◌&&◌, if◌then◌else◌, List, [], ◌∷◌, ◌++◌, refl, ap, sym, ◌∙◌, length, codes, append-nil, append_assoc}
 use Rattle.std.specs.Str.{bytes_eq}
-use Rattle.span_edits.specs.declared.edit.Edit.{Edit}
 use Rattle.php_tree.specs.declared.token.Token.{Token}
 use Rattle.php_tree.specs.declared.kind.NodeKind.{NodeKind}
 use Rattle.php_tree.specs.Tree.{Forest, none, leaf, node, printed}
-use Rattle.php_tree.specs.Places.{behind, end_of}
+use Rattle.php_tree.specs.Places.{behind}
 use Rattle.tracked_changes.specs.Pieces.{Piece, kept, changed, also, before}
 use Rattle.tracked_changes.specs.Draft.{pieces, unchanged, unchanged_token}
 use Rattle.tracked_changes.specs.Edits.{join, joined, replacement, edits_from}

@@ -4,24 +4,20 @@ use Rattle.std.proofs.Math.Bridge.{le_prop}
 use Rattle.std.proofs.Math.Nat.{le-add_right}
 use Rattle.std.specs.Str.{bytes_eq}
 use Rattle.span_edits.specs.declared.edit.Edit.{Edit}
-use Rattle.span_edits.specs.declared.span.Span.{Span}
 use Rattle.php_tree.specs.declared.token.Token.{Token}
 use Rattle.php_tree.specs.declared.token.TokenKind.TheVariants as token
 use Rattle.php_tree.specs.declared.kind.NodeKind.{NodeKind}
-use Rattle.php_tree.specs.Tree.{Forest, none, leaf, node, printed, token_bytes, leaves}
+use Rattle.php_tree.specs.Tree.{Forest, none, leaf, node, printed, token_bytes}
 use Rattle.php_tree.specs.Places.{behind, end_of}
 use Rattle.tracked_changes.specs.Pieces.{Piece, kept, changed, also, before}
-use Rattle.tracked_changes.specs.Draft.{Draft, no_more, new_leaf, new_node, pieces, token_pieces, unchanged_token, unchanged}
-use Rattle.tracked_changes.specs.Edits.{join, joined, replacement, edits_from}
+use Rattle.tracked_changes.specs.Draft.{pieces, token_pieces, unchanged_token, unchanged}
+use Rattle.tracked_changes.specs.Edits.{joined, replacement, edits_from}
 use Rattle.tracked_changes.specs.Tokens.{retexted}
-use Rattle.tracked_changes.specs.Leads.{holds_none, first_lead, without_lead}
-use Rattle.tracked_changes.specs.Parens.{in_parens}
 use Rattle.tracked_changes.specs.Laws.{BeginAnew}
-use Rattle.tracked_changes.proofs.Joining.{before-append, edits_compose}
-use Rattle.tracked_changes.proofs.Unchanged.{OnlyKept, kept_append, joined_kept, no_edits, unchanged_kept, before_token, before-unchanged}
-use Rattle.tracked_changes.proofs.Wrapping.{no_pieces, pieces-without_lead}
+use Rattle.tracked_changes.proofs.Joining.{edits_compose}
+use Rattle.tracked_changes.proofs.Unchanged.{OnlyKept, joined_kept, no_edits, unchanged_kept, before_token, before-unchanged}
 use Rattle.syntax_rules.specs.BraceOffset.{bracket, bracketed}
-use Rattle.syntax_places.specs.NodeRules.{bracket_edit, text_start}
+use Rattle.syntax_places.specs.NodeRules.{bracket_edit}
 
 -- ---- one edit
 

@@ -1,15 +1,12 @@
 -- The edits of a node that is changed alone.
-use Rattle.std.proofs.Common.{◌≡◌, ℕ, ◌+◌, ◌≤◌, Bool, true, false, ◌&&◌, cond, if◌then◌else◌, List, [], ◌∷◌, ◌++◌, refl, ap, sym, ◌∙◌, subst, length, codes, append-nil, append_assoc, length-append, arith, Option, Some, None}
-use Rattle.std.specs.Str.{bytes_eq}
-use Rattle.span_edits.specs.declared.edit.Edit.{Edit}
+use Rattle.std.proofs.Common.{◌≡◌, ℕ, ◌+◌, ◌≤◌, Bool, true, false, ◌&&◌, cond, if◌then◌else◌, List, [], ◌∷◌, ◌++◌, refl, ap, sym, ◌∙◌, subst, length, codes, append-nil, append_assoc, length-append, arith, Some, None}
 use Rattle.php_tree.specs.declared.token.Token.{Token}
-use Rattle.php_tree.specs.declared.token.TokenKind.TheVariants as token
 use Rattle.php_tree.specs.declared.kind.NodeKind.{NodeKind}
-use Rattle.php_tree.specs.Tree.{Forest, none, leaf, node, Tree, printed, token_bytes, leaves}
-use Rattle.php_tree.specs.Places.{behind, end_of}
+use Rattle.php_tree.specs.Tree.{Forest, none, leaf, node, printed, leaves}
+use Rattle.php_tree.specs.Places.{end_of}
 use Rattle.tracked_changes.specs.Pieces.{Piece, kept, changed, also, before}
-use Rattle.tracked_changes.specs.Draft.{Draft, no_more, new_leaf, new_node, pieces, token_pieces, unchanged_token, unchanged}
-use Rattle.tracked_changes.specs.Edits.{join, joined, replacement, edits_from}
+use Rattle.tracked_changes.specs.Draft.{pieces, unchanged}
+use Rattle.tracked_changes.specs.Edits.{joined, replacement, edits_from}
 use Rattle.tracked_changes.specs.Leads.{holds_none, first_lead, without_lead}
 use Rattle.tracked_changes.specs.Parens.{in_parens}
 use Rattle.tracked_changes.proofs.Joining.{before-append, edits_compose}
@@ -21,8 +18,8 @@ use Rattle.rule_tables.specs.declared.rule.RuleId.TheVariants.{UnsetCast}
 use Rattle.rule_tables.specs.Causes.{cause_number}
 use Rattle.syntax_rules.specs.Casts.{is_cast}
 use Rattle.syntax_rules.specs.RealCast.{is_real_cast, real_cast}
-use Rattle.syntax_places.specs.Seen.{Verdict, edited, undecided}
-use Rattle.syntax_places.specs.NodeRules.{Ruling, stays, ruling, becomes_if, verdict_by, real_verdict, unset_verdict, edits_at, text_start}
+use Rattle.syntax_places.specs.Seen.{edited, undecided}
+use Rattle.syntax_places.specs.NodeRules.{stays, ruling, becomes_if, verdict_by, real_verdict, unset_verdict, edits_at, text_start}
 use Rattle.syntax_places.proofs.EditLemmas.{behind_kept, kept_anew, kept_begin, kept_edits, end_is}
 
 -- ---- where the text of a node begins

@@ -1,5 +1,5 @@
 -- Each `${` of a quoted text. (RFC "Deprecate ${} string interpolation".)
-use Rattle.std.specs.Prelude.{ℕ, ◌-◌, Bool, true, false, ◌&&◌, if◌then◌else◌, List, [], ◌∷◌, ◌++◌, Option, Some, None, codes}
+use Rattle.std.specs.Prelude.{ℕ, ◌-◌, false, ◌&&◌, if◌then◌else◌, List, [], ◌∷◌, ◌++◌, Option, Some, None, codes}
 use Rattle.span_edits.specs.declared.edit.Edit.{Edit}
 use Rattle.php_tree.specs.declared.token.Token.{Token}
 use Rattle.php_tree.specs.Tree.{Forest, none, leaf, node, Tree}

@@ -6,6 +6,8 @@ pub mod Comments
 pub mod DollarBraces
 pub mod DollarEdits
 pub mod Names
+pub mod NameHeads
+pub mod NamesFound
 pub mod ReservedName
 pub mod TokenStandings
 pub mod Places

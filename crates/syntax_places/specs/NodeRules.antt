@@ -1,5 +1,5 @@
 -- The rules whose place is a node: where a node of the source stands, and the edits that its change makes alone.
-use Rattle.std.specs.Prelude.{ℕ, ◌+◌, Bool, true, false, if◌then◌else◌, List, [], ◌∷◌, length, Option, Some, None, codes}
+use Rattle.std.specs.Prelude.{ℕ, ◌+◌, Bool, false, if◌then◌else◌, List, [], ◌∷◌, length, Option, Some, None, codes}
 use Rattle.span_edits.specs.declared.edit.Edit.{Edit}
 use Rattle.rule_tables.specs.declared.cause.Cause.TheVariants.{Shape}
 use Rattle.rule_tables.specs.declared.rule.RuleId.{RuleId}

@@ -1,5 +1,5 @@
 -- All places of a rule on syntax in a file, with what is decided at each.
-use Rattle.std.specs.Prelude.{ℕ, Bool, true, false, List, [], ◌∷◌, ◌++◌, Option, Some, None}
+use Rattle.std.specs.Prelude.{ℕ, Bool, true, false, List, [], ◌++◌, Option}
 use Rattle.rule_tables.specs.declared.rule.RuleId.{RuleId}
 use Rattle.rule_tables.specs.declared.rule.RuleId.TheVariants as rule
 use Rattle.php_tree.specs.Tree.{Forest, none, leaf, node, Tree, File, file_leaves}
@@ -48,8 +48,3 @@ is_on_syntax rule.SplitName = true
 is_on_syntax rule.DollarBrace = true
 is_on_syntax rule.ReservedName = true
 is_on_syntax _ = false
-
--- the rules on syntax whose places are found: not yet those of names
-abbrev pub is_found : RuleId → Bool
-is_found rule.SplitName = false
-is_found r = is_on_syntax r

@@ -4,12 +4,13 @@ ghost use Rattle.std.specs.List.Sorted.{IsNonDecreasingBy, IsPermutation};
 ghost use Rattle.php_tree.specs.Whole.{file};
 ghost use Rattle.rule_tables.specs.declared.rule.RuleId.TheVariants as rule_id;
 ghost use Rattle.syntax_places.specs.Seen.{order_of, seen};
-ghost use Rattle.syntax_places.specs.Places.{is_found, places as places_of};
+ghost use Rattle.syntax_places.specs.Places.{is_on_syntax, places as places_of};
 
 use crate::found::in_order;
 use crate::hash_comment::add_hash_comments;
 use crate::placed::Placed;
 use crate::reserved_name::add_enums;
+use crate::split_name::add_names;
 use crate::tokens::tokens_of;
 use crate::walk::walk_file;
 use php_tree::FileTree;
@@ -40,7 +41,7 @@ fn add_all(
     tree: &FileTree,
     out: &mut Vec<Placed>,
 ) -> Result<(), AllocError>
-    requires { is_found rule ≡ true }
+    requires { is_on_syntax rule ≡ true }
     ensures { OnOk result (map seen out.new.items ≡ map seen out.old.items ++ places_of rule (file tree.now)) }
 {
     match rule {
@@ -50,7 +51,7 @@ fn add_all(
         RuleId::RealCast => walk_file(alloc, rule, tree, out),
         RuleId::UnsetCast => walk_file(alloc, rule, tree, out),
         RuleId::HashComment => add_comments(alloc, tree, out),
-        RuleId::SplitName => unreachable!(),
+        RuleId::SplitName => add_names(alloc, tree, out),
         RuleId::DollarBrace => walk_file(alloc, rule, tree, out),
         RuleId::ReservedName => add_words(alloc, tree, out),
         RuleId::LooseCompare => walk_file(alloc, rule, tree, out),
@@ -69,10 +70,10 @@ fn add_all(
     }
 }
 
-/// All places of a rule in a file with what is decided at each, in order of start, then end. The rule is one whose places
-/// are found. The only error is want of memory.
+/// All places of a rule in a file with what is decided at each, in order of start, then end. The rule is one on
+/// syntax, of the numbers 1 to 9. The only error is want of memory.
 pub fn places(alloc: Global, rule: RuleId, tree: &FileTree) -> Result<Vec<Placed>, AllocError>
-    requires { is_found rule ≡ true }
+    requires { is_on_syntax rule ≡ true }
     ensures all { IfOk result (λ v. IsPermutation (places_of rule (file tree.now)) (map seen v.items)) }
     ensures ordered { IfOk result (λ v. IsNonDecreasingBy order_of v.items) }
 {

@@ -10,12 +10,14 @@ mod ends;
 mod found;
 mod hash_comment;
 mod in_file;
+mod name_heads;
 mod nested_ternary;
 mod nodes;
 mod parts;
 mod placed;
 mod reserved_name;
 mod rows;
+mod split_name;
 mod tokens;
 mod walk;
 

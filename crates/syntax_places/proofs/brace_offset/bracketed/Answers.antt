@@ -1,4 +1,4 @@
-use Rattle.std.proofs.Common.{◌≡◌, ◌+◌, List, drop, sym, ap, ◌∙◌}
+use Rattle.std.proofs.Common.{sym, ap, ◌∙◌}
 use Rattle.php_tree.specs.Tree.{forest_of}
 use Rattle.php_tree.proofs.Trees.{forest_of-Leaf, forest_of-Child}
 use Rattle.syntax_places.proofs.EditLemmas.{left_edits, leaf_step, node_step}

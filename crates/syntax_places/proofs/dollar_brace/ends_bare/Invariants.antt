@@ -1,5 +1,4 @@
 use Rattle.std.proofs.Common.{◌≡◌, false, drop}
-use Rattle.syntax_rules.specs.DollarBrace.{ends_bare}
 use Rattle.syntax_places.specs.DollarEdits.{ends_or}
 use Rattle.syntax_places.proofs.dollar_brace.ends_bare.Given as goal
 

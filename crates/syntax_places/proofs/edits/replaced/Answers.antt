@@ -1,4 +1,4 @@
-use Rattle.std.proofs.Common.{◌≡◌, ap, ◌∙◌}
+use Rattle.std.proofs.Common.{ap, ◌∙◌}
 use Rattle.syntax_places.proofs.EditLemmas.{edit_of, edit_is}
 use Rattle.syntax_places.proofs.edits.replaced.Goals as goal
 
