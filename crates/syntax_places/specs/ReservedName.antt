@@ -1,7 +1,7 @@
 -- Words that 8.3 refuses where 7.4 takes them as labels: `match`, `readonly`, `mixed`, `never` and, before a word, `enum`. (PHP
 -- manual, "List of Keywords" and "List of other reserved words"; RFCs on match expressions and on enumerations; UPGRADING 8.0,
 -- 8.1 and 8.3.)
-use Rattle.std.specs.Prelude.{ℕ, Bool, true, false, not, ◌==◌, ◌&&◌, ◌||◌, if◌then◌else◌, List, [], ◌∷◌, ◌++◌, Option, Some, None, codes}
+use Rattle.std.specs.Prelude.{ℕ, zero, suc, Bool, true, false, not, ◌==◌, ◌&&◌, ◌||◌, if◌then◌else◌, List, [], ◌∷◌, ◌++◌, codes}
 use Rattle.rule_tables.specs.declared.cause.Cause.TheVariants.{Always}
 use Rattle.rule_tables.specs.Causes.{cause_number}
 use Rattle.php_tree.specs.declared.token.Token.{Token}
@@ -15,7 +15,7 @@ use Rattle.php_terminals.specs.declared.terminal.Terminal.{Terminal}
 use Rattle.php_terminals.specs.declared.terminal.Terminal.TheVariants as t
 use Rattle.php_terminals.specs.Classify.{terminal, is_word_token}
 use Rattle.php_terminals.specs.Words.{is_word}
-use Rattle.syntax_places.specs.Parts.{first_leaf, others}
+use Rattle.syntax_places.specs.NameHeads.{head_at}
 use Rattle.syntax_places.specs.Seen.{Place, undecided, token_place}
 
 -- ---- classes of tokens
@@ -65,117 +65,137 @@ abbrev pub is_as : Terminal → Bool
 is_as t.As = true
 is_as _ = false
 
-abbrev pub is_use : Terminal → Bool
-is_use t.Use = true
-is_use _ = false
-
 abbrev pub is_root : Terminal → Bool
 is_root t.Backslash = true
 is_root _ = false
 
 -- ---- where a token stands in its node
 
--- The class of the token directly before it (`End` where that is a node, or nothing), whether a brace was opened before it, and
--- in a use whether names are classes', and whether this one is.
+-- how many tokens stand before it
+pub data Rank : Type 0 where
+  first : Rank
+  second : Rank
+  later : Rank
+
+abbrev pub behind_rank : Rank → Rank
+behind_rank first = second
+behind_rank _ = later
+
+-- The class of the token or the name directly before it (`End` where that is a node, or nothing), whether a brace was opened
+-- before it, and of a use where it stands, whether names are classes', and whether this one is.
 pub record Standing : Type 0 where
   pub before : Terminal
   pub in_braces : Bool
+  pub rank : Rank
   pub of_classes : Bool
   pub of_class : Bool
 
 abbrev pub at_first : Standing
-at_first = record { before = t.End; in_braces = false; of_classes = false; of_class = false }
+at_first = record { before = t.End; in_braces = false; rank = first; of_classes = false; of_class = false }
 
 -- whether names are classes' behind a token: a use's are, where `function` or `const` doesn't stand behind its first word
-abbrev pub are_classes : Standing → Terminal → Bool
-are_classes s x = if is_use s.before then not (is_of_code x) else s.of_classes
+abbrev pub are_classes : Rank → Bool → Terminal → Bool
+are_classes second classes x = not (is_of_code x)
+are_classes _ classes x = classes
 
 -- whether the next name is a class's: each name of a group has a word of its own
-abbrev pub is_class_next : Standing → Terminal → Bool
-is_class_next s x =
-    if is_use s.before || is_comma x then are_classes s x else s.of_class && not (is_of_code x)
+abbrev pub is_class_next : Rank → Bool → Bool → Terminal → Bool
+is_class_next first classes class x = true
+is_class_next second classes class x = not (is_of_code x)
+is_class_next later classes class x = if is_comma x then classes else class && not (is_of_code x)
 
--- behind a token, and behind a node
+-- behind a token or a name, and behind a node
 abbrev pub past : Standing → Terminal → Standing
 past s x = record {
   before = x;
   in_braces = s.in_braces || is_brace x;
-  of_classes = are_classes s x;
-  of_class = is_class_next s x;
+  rank = behind_rank s.rank;
+  of_classes = are_classes s.rank s.of_classes x;
+  of_class = is_class_next s.rank s.of_classes s.of_class x;
 }
 
 abbrev pub past_node : Standing → Standing
 past_node s = record s { before = t.End }
 
--- the class of a token, `End` where there is none
-abbrev pub class_of : Option Token → Terminal
-class_of None = t.End
-class_of (Some x) = terminal x
+-- the class of a token, or of the name with `\` that begins with it, by how many tokens stand behind it in its name
+abbrev pub class_by : ℕ → Terminal → Terminal
+class_by zero x = x
+class_by (suc more) x = t.QualifiedName
 
--- the class of the next token, `End` where that is a node, or nothing
+-- the class of the next token or name, `End` where that is a node, or nothing
 abbrev pub next : Forest → Terminal
-next f = class_of (first_leaf f)
-
--- whether a label is a whole name, or no name: no `\` stands next to it, but for the one before a group's braces
-abbrev pub is_whole : Standing → Forest → Bool
-is_whole s f = not (is_root s.before) && (not (is_root (next f)) || is_brace (next (others f)))
-
--- whether a label of a use is the name that the use gives: no alias and no other part stands behind it
-abbrev pub is_given : Forest → Bool
-is_given f = not (is_as (next f) || is_root (next f))
+next none = t.End
+next (leaf x f) = class_by (head_at x f).more (terminal x)
+next (node j b f) = t.End
 
 -- ---- what is refused
 
--- `match` or `readonly` as a whole name
-abbrev pub as_name : Standing → Terminal → Forest → Bool
-as_name s x f = is_keyword_now x && is_whole s f
+-- whether a use gives a class the name that ends in a token of this class, before one of another: no alias and no group's braces
+-- stand behind it
+abbrev pub gives_type : Bool → Terminal → Terminal → Bool
+gives_type of_class x y = of_class && is_type_now x && not (is_as y || is_root y)
 
 -- a name that is declared, or one behind `extends` or `implements`
-abbrev pub in_class : Standing → Terminal → Forest → Bool
-in_class s x f = if declares s.before then is_keyword_now x || is_type_now x else as_name s x f
+abbrev pub in_class : Standing → Terminal → Bool
+in_class s x = is_keyword_now x || declares s.before && is_type_now x
 
--- whether 8.3 refuses a token of a node that stands so, where this follows
-abbrev pub refuses : NodeKind → Standing → Terminal → Forest → Bool
+-- Whether 8.3 refuses a token of a class, a whole name or no name, that stands so in a node, before one of another class.
+abbrev pub refuses : NodeKind → Standing → Terminal → Terminal → Bool
 -- the name of a function, and the name of one that is called
-refuses k.Function s x f = is_match x
-refuses k.Call s x f = is_match x && is_whole s f
+refuses k.Function s x y = is_match x
+refuses k.Call s x y = is_match x
 -- names of classes, and constants that are read
-refuses k.Constant s x f = as_name s x f
-refuses k.TypeName s x f = as_name s x f
-refuses k.New s x f = as_name s x f
-refuses k.InstanceOf s x f = as_name s x f
-refuses k.Try s x f = as_name s x f
-refuses k.ClassConstant s x f = as_name s x f && not (is_double_colon s.before)
-refuses k.StaticProp s x f = as_name s x f && not (is_double_colon s.before)
-refuses k.StaticCall s x f = as_name s x f && not (is_double_colon s.before)
-refuses k.TraitUse s x f = as_name s x f && not s.in_braces
+refuses k.Constant s x y = is_keyword_now x
+refuses k.TypeName s x y = is_keyword_now x
+refuses k.New s x y = is_keyword_now x
+refuses k.InstanceOf s x y = is_keyword_now x
+refuses k.Try s x y = is_keyword_now x
+refuses k.ClassConstant s x y = is_keyword_now x && not (is_double_colon s.before)
+refuses k.StaticProp s x y = is_keyword_now x && not (is_double_colon s.before)
+refuses k.StaticCall s x y = is_keyword_now x && not (is_double_colon s.before)
+refuses k.TraitUse s x y = is_keyword_now x && not s.in_braces
 -- names that are declared
-refuses k.Class s x f = in_class s x f
-refuses k.Interface s x f = in_class s x f
-refuses k.Trait s x f = in_class s x f
-refuses k.Const s x f = is_keyword_now x
+refuses k.Class s x y = in_class s x
+refuses k.Interface s x y = in_class s x
+refuses k.Trait s x y = in_class s x
+refuses k.Const s x y = is_keyword_now x
 -- names that are imported
-refuses k.Use s x f = as_name s x f || s.of_class && is_type_now x && is_given f
+refuses k.Use s x y = is_keyword_now x || gives_type s.of_class x y
 -- other labels
-refuses k.Goto s x f = is_keyword_now x
-refuses k.LabelStmt s x f = is_keyword_now x
-refuses k.Declare s x f = is_keyword_now x
-refuses _ s x f = false
+refuses k.Goto s x y = is_keyword_now x
+refuses k.LabelStmt s x y = is_keyword_now x
+refuses k.Declare s x y = is_keyword_now x
+refuses _ s x y = false
+
+-- the same for the last token of a name with `\`
+abbrev pub refuses_last : NodeKind → Standing → Terminal → Terminal → Bool
+refuses_last k.Use s x y = gives_type s.of_class x y
+refuses_last _ s x y = false
 
 -- such a token: nothing can be written in its place
 abbrev pub refused : ℕ → Token → Place
 refused at x = token_place at x (undecided (cause_number Always))
 
--- those of a node's own tokens that 8.3 refuses
-abbrev pub refused_tokens : NodeKind → Standing → ℕ → Forest → List Place
-refused_tokens kind s at none = []
-refused_tokens kind s at (leaf x f) =
-    (if refuses kind s (terminal x) f then refused at x ∷ [] else [])
-    ++ refused_tokens kind (past s (terminal x)) (behind at x) f
-refused_tokens kind s at (node j b f) = refused_tokens kind (past_node s) (end_of at b) f
+abbrev pub refused_if : Bool → ℕ → Token → List Place
+refused_if is_refused at x = if is_refused then refused at x ∷ [] else []
+
+-- whether no token stands behind it in its name
+abbrev pub is_last : ℕ → Bool
+is_last zero = true
+is_last (suc more) = false
+
+-- Those of a node's own tokens that 8.3 refuses, the first so many of them inside a name.
+abbrev pub refused_tokens : NodeKind → Standing → ℕ → ℕ → Forest → List Place
+refused_tokens kind s more at none = []
+refused_tokens kind s zero at (leaf x f) =
+    refused_if (is_last (head_at x f).more && refuses kind s (terminal x) (next f)) at x
+    ++ refused_tokens kind (past s (class_by (head_at x f).more (terminal x))) (head_at x f).more (behind at x) f
+refused_tokens kind s (suc more) at (leaf x f) =
+    refused_if (is_last more && refuses_last kind s (terminal x) (next f)) at x ++ refused_tokens kind s more (behind at x) f
+refused_tokens kind s more at (node j b f) = refused_tokens kind (past_node s) zero (end_of at b) f
 
 abbrev pub of_reserved : ℕ → Tree → List Place
-of_reserved at n = refused_tokens n.0 at_first at n.1
+of_reserved at n = refused_tokens n.0 at_first zero at n.1
 
 -- ---- `enum`
 
@@ -183,10 +203,15 @@ abbrev pub is_label : TokenKind → Bool
 is_label token.Label = true
 is_label _ = false
 
--- whether some trivia begin with white space
-abbrev pub begins_white : List ℕ → Bool
-begins_white [] = false
-begins_white (b ∷ bs) = b == 32 || b == 9 || b == 10 || b == 13
+-- whether each byte is white space
+abbrev pub are_white : List ℕ → Bool
+are_white [] = true
+are_white (b ∷ bs) = (b == 32 || b == 9 || b == 10 || b == 13) && are_white bs
+
+-- whether there is white space, and nothing else
+abbrev pub is_white : List ℕ → Bool
+is_white [] = false
+is_white (b ∷ bs) = are_white (b ∷ bs)
 
 -- `extends` and `implements`
 abbrev pub is_heading : Terminal → Bool
@@ -194,10 +219,10 @@ is_heading t.Extends = true
 is_heading t.Implements = true
 is_heading _ = false
 
--- whether a word stands first, behind white space
+-- whether a word stands first, behind white space and no comment
 abbrev pub before_word : List Token → Bool
 before_word [] = false
-before_word (x ∷ xs) = begins_white x.lead && is_word_token x && not (is_heading (terminal x))
+before_word (x ∷ xs) = is_white x.lead && is_word_token x && not (is_heading (terminal x))
 
 -- whether a label behind a token of this class is a member's name, or a part of a name
 abbrev pub takes_label : Terminal → Bool
@@ -214,5 +239,4 @@ is_enum before x xs = is_label x.kind && is_word (codes "enum") x.text && before
 abbrev pub enums : Terminal → ℕ → List Token → List Place
 enums before at [] = []
 enums before at (x ∷ xs) =
-    (if is_enum before x xs then refused at x ∷ [] else [])
-    ++ enums (terminal x) (behind at x) xs
+    refused_if (is_enum before x xs) at x ++ enums (terminal x) (behind at x) xs

@@ -6,10 +6,10 @@ ghost use Rattle.rule_tables.specs.declared.rule.RuleId.TheVariants as rule_id;
 ghost use Rattle.syntax_places.specs.Seen.{order_of, seen};
 ghost use Rattle.syntax_places.specs.Places.{is_on_syntax, places as places_of};
 
+use crate::enums::add_enums;
 use crate::found::in_order;
 use crate::hash_comment::add_hash_comments;
 use crate::placed::Placed;
-use crate::reserved_name::add_enums;
 use crate::split_name::add_names;
 use crate::tokens::tokens_of;
 use crate::walk::walk_file;

@@ -7,6 +7,7 @@ mod dollar_brace;
 mod dot_precedence;
 mod edits;
 mod ends;
+mod enums;
 mod found;
 mod hash_comment;
 mod in_file;
@@ -15,12 +16,17 @@ mod nested_ternary;
 mod nodes;
 mod parts;
 mod placed;
+mod refused;
 mod reserved_name;
 mod rows;
 mod split_name;
+mod token_standing;
 mod tokens;
 mod walk;
 
 pub use in_file::places;
 pub use placed::Placed;
 pub use rows::rows_hold;
+
+#[cfg(test)]
+mod tests;

@@ -2,7 +2,7 @@ use Rattle.std.proofs.Common.{◌≡◌, ◌++◌, drop, map}
 use Rattle.php_terminals.specs.declared.terminal.Terminal.TheVariants.{End}
 use Rattle.syntax_places.specs.Seen.{seen}
 use Rattle.syntax_places.specs.ReservedName.{enums}
-use Rattle.syntax_places.proofs.reserved_name.add_enums.Given as goal
+use Rattle.syntax_places.proofs.enums.add_enums.Given as goal
 
 abbrev pub invariant-loop-token : goal.invariant-loop-token
 invariant-loop-token l = record {
