@@ -18,7 +18,7 @@ use Rattle.tracked_changes.specs.Draft.{NewToken}
 use Rattle.syntax_rules.specs.Around.{Around}
 use Rattle.syntax_rules.specs.HashComment.{hash_comment}
 use Rattle.rewritten_shapes.specs.Laws.{AreSpelled, begins_namespace, is_label_text, is_namespace_word}
-use Rattle.rewritten_shapes.specs.RefusedWords.{is_comma, is_keyword_now, is_of_code, is_type_name, is_type_now}
+use Rattle.rewritten_shapes.specs.RefusedWords.{is_comma, is_keyword_now, is_of_code, is_type_name, is_type_now, is_whole_name}
 use Rattle.rewritten_shapes.proofs.Bilingual.{label_any, like_word, no_else, of_name, shown_terminal}
 use Rattle.rewritten_shapes.proofs.Kept.{Kept}
 use Rattle.rewritten_shapes.proofs.Qualified.{qualified_is}
@@ -85,7 +85,7 @@ grouped_by t.Match e d = absurd cc
 grouped_by t.Readonly e d = absurd cc
 grouped_by _ e d = absurd cc
 
-class_by : (own : Terminal) (refused : Bool) → is_name_of true own ≡ true → is_keyword_now own ≡ false → (is_type_now own || refused) ≡ false → ((is_plain_label own || ((is_qualified own || is_full own) && not refused)) || same_class t.ImportedClass own) ≡ true
+class_by : (own : Terminal) (refused : Bool) → is_name_of true own ≡ true → is_keyword_now own ≡ false → (is_type_now own || (is_whole_name own && refused)) ≡ false → ((is_plain_label own || ((is_qualified own || is_full own) && not refused)) || same_class t.ImportedClass own) ≡ true
 class_by t.Label r e d c = refl
 class_by t.QualifiedName false e d c = refl
 class_by t.FullName false e d c = refl
@@ -96,7 +96,7 @@ class_by t.Match r e d c = absurd cc
 class_by t.Readonly r e d c = absurd cc
 class_by _ r e d c = absurd cc
 
-grouped_class_by : (own : Terminal) (refused : Bool) → is_name_of false own ≡ true → is_keyword_now own ≡ false → (is_type_now own || refused) ≡ false → ((is_plain_label own || (is_qualified own && not refused)) || same_class t.GroupedClass own) ≡ true
+grouped_class_by : (own : Terminal) (refused : Bool) → is_name_of false own ≡ true → is_keyword_now own ≡ false → (is_type_now own || (is_whole_name own && refused)) ≡ false → ((is_plain_label own || (is_qualified own && not refused)) || same_class t.GroupedClass own) ≡ true
 grouped_class_by t.Label r e d c = refl
 grouped_class_by t.QualifiedName false e d c = refl
 grouped_class_by t.QualifiedName true e d c = absurd cc

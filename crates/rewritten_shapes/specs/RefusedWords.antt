@@ -98,9 +98,15 @@ is_renamed none = false
 is_renamed (leaf x f) = is_as (terminal x) || is_root (terminal x)
 is_renamed (node j b f) = false
 
--- whether a token is a label `mixed` or `never`, or a name whose last part is
+-- a name with `\`, but for one that begins with `namespace\`
+abbrev pub is_whole_name : Terminal → Bool
+is_whole_name t.QualifiedName = true
+is_whole_name t.FullName = true
+is_whole_name _ = false
+
+-- whether a token is a label `mixed` or `never`, or a name with `\` whose last part is
 abbrev pub is_type_name : Token → Bool
-is_type_name x = is_type_now (terminal x) || names_refused x.text
+is_type_name x = is_type_now (terminal x) || is_whole_name (terminal x) && names_refused x.text
 
 -- Whether a use has a refused word: `match` or `readonly` as a whole name or an alias, `mixed` or `never` where it gives a class
 -- that name. `uses` where names are classes unless a word says otherwise, `of_class` where this one is.

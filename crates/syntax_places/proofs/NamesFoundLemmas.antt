@@ -20,7 +20,7 @@ use Rattle.syntax_places.proofs.EditLemmas.{end_is}
 
 -- ---- pieces of which none goes on with an edit
 
-abbrev NoneGoesOn : List Piece → Type 0
+abbrev pub NoneGoesOn : List Piece → Type 0
 NoneGoesOn [] = Unit {0}
 NoneGoesOn (kept b ∷ ps) = NoneGoesOn ps
 NoneGoesOn (changed o t ∷ ps) = NoneGoesOn ps
@@ -66,23 +66,23 @@ text_length at text ps = let e = length-append text (before ps) in omega arith
 -- ---- a name, and what is behind it
 
 -- the forest behind the first so many tokens
-abbrev skipped : ℕ → Forest → Forest
+abbrev pub skipped : ℕ → Forest → Forest
 skipped more none = none
 skipped zero (leaf t f) = leaf t f
 skipped (suc more) (leaf t f) = skipped more f
 skipped more (node k c f) = node k c f
 
 -- the draft of a forest with its names whole
-abbrev whole : Forest → Draft
+abbrev pub whole : Forest → Draft
 whole f = whole_names true (unchanged f)
 
 -- a head is what the draft begins with, and has the edits of its tokens
-record Fits (t : Token) (f : Forest) (h : Head) : Type 0 where
-  first : in_front true (unchanged_token t) (whole f) ≡ new_leaf h.token (whole (skipped h.more f))
-  lead : h.token.lead ≡ kept t.lead ∷ []
-  text : (at : ℕ) → edits_from at h.token.text ≡ inner_edits h.more (at + length t.text) f
-  long : (at : ℕ) → at + length (before h.token.text) ≡ past_tokens h.more (at + length t.text) f
-  anew : NoneGoesOn h.token.text
+pub record Fits (t : Token) (f : Forest) (h : Head) : Type 0 where
+  pub first : in_front true (unchanged_token t) (whole f) ≡ new_leaf h.token (whole (skipped h.more f))
+  pub lead : h.token.lead ≡ kept t.lead ∷ []
+  pub text : (at : ℕ) → edits_from at h.token.text ≡ inner_edits h.more (at + length t.text) f
+  pub long : (at : ℕ) → at + length (before h.token.text) ≡ past_tokens h.more (at + length t.text) f
+  pub anew : NoneGoesOn h.token.text
 
 single_long : (t : Token) (at : ℕ) → at + length (t.text ++ []) ≡ at + length t.text
 single_long t at = ap (λ (bs : List ℕ). at + length bs) (append-nil t.text)
@@ -117,7 +117,7 @@ two_fits t u f h fit false e = record {
   anew = tt;
 }
 
-fits : (t : Token) (f : Forest) → Fits t f (head_at t f)
+pub fits : (t : Token) (f : Forest) → Fits t f (head_at t f)
 fits t none = record { first = refl; lead = refl; text = λ at. refl; long = single_long t; anew = tt }
 fits t (node k c f) = record { first = refl; lead = refl; text = λ at. refl; long = single_long t; anew = tt }
 fits t (leaf u f) = two_fits t u f (head_at u f) (fits u f) (is_one (unchanged_token t) (head_at u f).token) refl
@@ -207,7 +207,7 @@ record Found (f : Forest) : Type 0 where
   places : (more : ℕ) (b : Bool) (at : ℕ) → names more b at f ≡ edited_tokens (past_tokens more at f) (apart b (whole (skipped more f)))
   keyword : (more : ℕ) (b : Bool) → last more b f ≡ keyword_last b (whole (skipped more f))
 
-skipped_zero : (f : Forest) → skipped zero f ≡ f
+pub skipped_zero : (f : Forest) → skipped zero f ≡ f
 skipped_zero none = refl
 skipped_zero (leaf t f) = refl
 skipped_zero (node k c f) = refl
