@@ -1,0 +1,6 @@
+pub mod Fronts
+pub mod OwnWords
+pub mod ClassWords
+pub mod NameEnds
+pub mod UsedWords
+pub mod AllNodes

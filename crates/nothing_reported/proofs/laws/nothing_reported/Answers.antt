@@ -1,0 +1,5 @@
+use Rattle.nothing_reported.proofs.AllNodes.{nothing_reported}
+use Rattle.nothing_reported.proofs.laws.nothing_reported.Goals as goal
+
+pub returns : goal.returns
+returns c = nothing_reported

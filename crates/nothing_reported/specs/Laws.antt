@@ -1,0 +1,37 @@
+-- Files in which the rules on syntax report nothing that stops compiling.
+use Rattle.std.specs.Prelude.{◌≡◌, Bool, true, false, List, [], ◌∷◌}
+use Rattle.rule_tables.specs.declared.rule.RuleId.TheVariants as rule
+use Rattle.php_tree.specs.Tree.{Forest, none, leaf, node, File}
+use Rattle.syntax_rules.specs.Around.{at_top}
+use Rattle.syntax_rules.specs.SplitName.{is_name}
+use Rattle.syntax_places.specs.Seen.{Verdict, keeps, edited, undecided, Place}
+use Rattle.syntax_places.specs.Places.{in_nodes, places}
+use Rattle.rewritten_shapes.specs.Laws.{AreSpelled, NoneReported}
+
+-- whether a place stays undecided for a cause
+abbrev pub has_cause : Verdict → Bool
+has_cause keeps = false
+has_cause (edited es) = false
+has_cause (undecided cause) = true
+
+-- None of these places stays undecided.
+abbrev pub AreDecided : List Place → Type 0
+AreDecided [] = Unit {0}
+AreDecided (p ∷ ps) = (has_cause p.verdict ≡ false) × AreDecided ps
+
+-- No token is a whole name with `\`, as none of a 7.4 source is.
+abbrev pub HasNoName : Forest → Type 0
+HasNoName none = Unit {0}
+HasNoName (leaf x f) = (is_name x.kind ≡ false) × HasNoName f
+HasNoName (node k c f) = HasNoName c × HasNoName f
+
+-- the refused words of a file: the places of their rule, but for `enum`
+abbrev pub refused_words : File → List Place
+refused_words f = in_nodes rule.ReservedName at_top true 0 f.statements
+
+-- Where no word is refused and each cast `(unset)` is decided, nothing is reported that stops compiling.
+pub record NothingReported : Type 0 where
+  pub by_words : (f : File) → AreSpelled f.statements → HasNoName f.statements →
+      AreDecided (places rule.UnsetCast f) → refused_words f ≡ [] → NoneReported f.statements
+  pub by_places : (f : File) → AreSpelled f.statements → HasNoName f.statements →
+      AreDecided (places rule.UnsetCast f) → places rule.ReservedName f ≡ [] → NoneReported f.statements
