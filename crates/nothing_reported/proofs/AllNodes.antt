@@ -5,7 +5,12 @@ use Rattle.rule_tables.specs.declared.rule.RuleId.TheVariants as rule
 use Rattle.rule_tables.specs.Causes.{cause_number}
 use Rattle.php_tree.specs.declared.kind.NodeKind.{NodeKind}
 use Rattle.php_tree.specs.declared.kind.NodeKind.TheVariants as kind
-use Rattle.php_tree.specs.Tree.{Forest, none, leaf, node, Tree, file_leaves}
+use Rattle.php_tree.specs.declared.version.Version.TheVariants.{V74}
+use Rattle.php_tree.specs.Tree.{Forest, none, leaf, node, Tree, File, file_leaves}
+use Rattle.php_lexer.specs.Lexed.{TokensOf}
+use Rattle.php_reading.specs.Reading.{Reads}
+use Rattle.written_reading.proofs.Sources.{sources_are_spelled}
+use Rattle.nothing_reported.proofs.NoNames.{old_sources}
 use Rattle.php_tree.specs.Places.{behind, end_of}
 use Rattle.php_terminals.specs.declared.terminal.Terminal.{Terminal}
 use Rattle.php_terminals.specs.declared.terminal.Terminal.TheVariants as t
@@ -101,8 +106,15 @@ all_none (node k c f) around i at s n d e =
       all_none f around false (end_of at c) s.1 n.1 a.1 w.1,
     )
 
+-- a file that 7.4 reads has its tokens
+tokens_of : (bytes : List ℕ) (f : File) → Reads V74 bytes f → TokensOf V74 bytes (file_leaves f)
+tokens_of bytes f r = subst (TokensOf V74 bytes) r.parsed.text r.lexed
+
 pub nothing_reported : NothingReported
 nothing_reported = record {
   by_words = λ f s n d e. all_none f.statements at_top true 0 s n d e;
-  by_places = λ f s n d e. all_none f.statements at_top true 0 s n d (empty_both (refused_words f) (enums t.End 0 (file_leaves f)) e).0;
+  by_places = λ bytes f r d e.
+      let tokens = tokens_of bytes f r in
+      all_none f.statements at_top true 0 (sources_are_spelled V74 bytes f tokens) (old_sources bytes f.statements (f.end ∷ []) tokens) d
+      (empty_both (refused_words f) (enums t.End 0 (file_leaves f)) e).0;
 }

@@ -3,4 +3,5 @@ pub mod OwnWords
 pub mod ClassWords
 pub mod NameEnds
 pub mod UsedWords
+pub mod NoNames
 pub mod AllNodes

@@ -1,7 +1,9 @@
 -- Files in which the rules on syntax report nothing that stops compiling.
-use Rattle.std.specs.Prelude.{◌≡◌, Bool, true, false, List, [], ◌∷◌}
+use Rattle.std.specs.Prelude.{◌≡◌, ℕ, Bool, true, false, List, [], ◌∷◌}
 use Rattle.rule_tables.specs.declared.rule.RuleId.TheVariants as rule
+use Rattle.php_tree.specs.declared.version.Version.TheVariants.{V74}
 use Rattle.php_tree.specs.Tree.{Forest, none, leaf, node, File}
+use Rattle.php_reading.specs.Reading.{Reads}
 use Rattle.syntax_rules.specs.Around.{at_top}
 use Rattle.syntax_rules.specs.SplitName.{is_name}
 use Rattle.syntax_places.specs.Seen.{Verdict, keeps, edited, undecided, Place}
@@ -31,7 +33,9 @@ refused_words f = in_nodes rule.ReservedName at_top true 0 f.statements
 
 -- Where no word is refused and each cast `(unset)` is decided, nothing is reported that stops compiling.
 pub record NothingReported : Type 0 where
+  -- by the refused words of a file
   pub by_words : (f : File) → AreSpelled f.statements → HasNoName f.statements →
       AreDecided (places rule.UnsetCast f) → refused_words f ≡ [] → NoneReported f.statements
-  pub by_places : (f : File) → AreSpelled f.statements → HasNoName f.statements →
+  -- by the places of the rules in a file that 7.4 reads
+  pub by_places : (bytes : List ℕ) (f : File) → Reads V74 bytes f →
       AreDecided (places rule.UnsetCast f) → places rule.ReservedName f ≡ [] → NoneReported f.statements
