@@ -31,7 +31,7 @@ front : (ps qs : List Place) → ps ≡ [] → ps ++ qs ≡ qs
 front ps qs e = ap (λ xs. xs ++ qs) e
 
 -- two rules have reports
-two_rules : (f : File) → reports f ≡ undecided_places rule.UnsetCast f ++ undecided_places rule.ReservedName f
+pub two_rules : (f : File) → reports f ≡ undecided_places rule.UnsetCast f ++ undecided_places rule.ReservedName f
 two_rules f =
     front _ _ (nested_ternaries f) ∙ front _ _ (dots f) ∙ front _ _ (brace_offsets f) ∙ front _ _ (real_casts f)
     ∙ ap (λ xs. undecided_places rule.UnsetCast f ++ xs)

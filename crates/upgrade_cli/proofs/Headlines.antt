@@ -6,6 +6,7 @@ use Rattle.span_edits.specs.Splice.{spliced}
 use Rattle.php_tree.specs.Tree.{File, file_printed}
 use Rattle.php_tree.specs.declared.version.Version.TheVariants.{V74, V83}
 use Rattle.php_shapes.specs.Shapes.{Shape}
+use Rattle.echo_form.specs.Form.{Reads as HasForm}
 use Rattle.php_reading.specs.Reading.{Reads}
 use Rattle.php_reading.proofs.Trees.{is_printed}
 use Rattle.php_meaning.specs.World.{Bytes}
@@ -20,7 +21,7 @@ use Rattle.syntax_edits.proofs.NextEdit.{makes_rewritten}
 use Rattle.rewriting_keeps.proofs.Single.{shaped_files_keep_meaning}
 use Rattle.grouped_reading.proofs.AllRules.{all_rules_group}
 use Rattle.grouped_reading.proofs.Whole.{grouped_is_php}
-use Rattle.written_reading.specs.Laws.{IsRead}
+use Rattle.written_reading.specs.Laws.{IsRead, ShapedIsRead}
 use Rattle.io_ports.specs.Files as ports
 use Rattle.upgrade_cli.specs.declared.stop.Status.{Status}
 use Rattle.upgrade_cli.specs.declared.stop.Status.TheVariants as status
@@ -31,13 +32,14 @@ use Rattle.upgrade_cli.specs.Lines.{summary_line}
 use Rattle.upgrade_cli.specs.Reports.{marks}
 use Rattle.upgrade_cli.specs.Outcome.{AreRead, counts, IsDone, IsOutcome}
 use Rattle.upgrade_cli.specs.Run.{of_stop, status_of, Answers, AllDone, LinePut}
-use Rattle.upgrade_cli.specs.Headline.{Headline, ReadsBack, IsWritten, AreWritten, by_path, MeansTheSame}
+use Rattle.upgrade_cli.specs.Headline.{Headline, IsWritten, AreWritten, by_path, MeansTheSame}
+use Rattle.upgrade_cli.proofs.Clear.{clear_is_read}
 use Rattle.upgrade_cli.proofs.Refusals.{shaped}
 
 -- ---- what is written
 
-read_back : (bytes : List ℕ) (t : File) → ReadsBack bytes t
-read_back bytes t r =
+of_form : (bytes : List ℕ) (t : File) → HasForm V74 bytes t → IsRead V83 (rewritten t)
+of_form bytes t r =
     let is = grouped_is_php bytes t r in
     subst (λ g. IsRead V83 g) (sym (all_rules_group bytes t r).same) (record { reads = is.reads; only = is.only })
 
@@ -46,22 +48,22 @@ edits_apart t =
     subst (λ (bs : List ℕ). AreApart 0 (edits t) (length bs)) (syntax_is_rewritten.bytes (all_on (patches t.statements)) t)
     (edits_are_apart (draft_of t))
 
-file_written : (bytes : List ℕ) (t : File) → Reads V74 bytes t → IsWritten bytes t (file_printed (rewritten t))
-file_written bytes t r = record {
+file_written : ShapedIsRead → (bytes : List ℕ) (t : File) → Reads V74 bytes t → IsWritten bytes t (file_printed (rewritten t))
+file_written law bytes t r = record {
   source = r;
   printed = refl;
   spliced_in = sym (makes_rewritten t) ∙ ap (λ bs. spliced bs (edits t)) (is_printed V74 bytes t r);
   apart = subst (λ (bs : List ℕ). AreApart 0 (edits t) (length bs)) (is_printed V74 bytes t r) (edits_apart t);
-  reads_back = read_back bytes t;
+  reads_back = record { clear = clear_is_read law bytes t r; form = of_form bytes t };
 }
 
-are_written : (files : List ports.File) (trees : List File) → AreRead files trees → AreWritten files trees
-are_written [] [] r = tt
-are_written (f ∷ []) (t ∷ []) r = (file_written f.1 t r.reads, tt)
-are_written [] (t ∷ ts) r = tt
-are_written (f ∷ []) [] r = tt
-are_written (f ∷ []) (t ∷ u ∷ ts) r = absurd r
-are_written (f ∷ g ∷ fs) trees r = absurd r
+are_written : ShapedIsRead → (files : List ports.File) (trees : List File) → AreRead files trees → AreWritten files trees
+are_written law [] [] r = tt
+are_written law (f ∷ []) (t ∷ []) r = (file_written law f.1 t r.reads, tt)
+are_written law [] (t ∷ ts) r = tt
+are_written law (f ∷ []) [] r = tt
+are_written law (f ∷ []) (t ∷ u ∷ ts) r = absurd r
+are_written law (f ∷ g ∷ fs) trees r = absurd r
 
 -- ---- the meaning
 
@@ -88,14 +90,14 @@ means_the_same files h =
 -- ---- all of it
 
 -- all was done, and the line was put
-done_headline : (files before : List ports.File) (after : Option (List ports.File)) (held held' : Option (List ℕ)) (s : Summary) (result : Status)
+done_headline : ShapedIsRead → (files before : List ports.File) (after : Option (List ports.File)) (held held' : Option (List ℕ)) (s : Summary) (result : Status)
     → IsDone files (Some before) after s → result ≡ status_of (Ok s) → IfSome held (λ old. held' ≡ Some (old ++ summary_line s))
     → Headline files before after held held' result
-done_headline files before after held held' s result d e l = record {
+done_headline law files before after held held' s result d e l = record {
   trees = d.trees;
   read = d.read;
   target = d.target;
-  written = are_written files d.trees d.read;
+  written = are_written law files d.trees d.read;
   line = line_of held l;
   status = e ∙ ap (λ (x : Summary). status_of (Ok x)) d.counted;
   means_the_same = means_the_same (by_path files d.trees) (are_shaped files d.trees d.read);
@@ -114,12 +116,12 @@ not_done stop.SourceFault h = h
 not_done stop.TargetFault h = h
 not_done stop.Memory h = h
 
-came_headline : (files before : List ports.File) (after : Option (List ports.File)) (held held' : Option (List ℕ)) (came : Result Summary Stop) (result : Status)
+came_headline : ShapedIsRead → (files before : List ports.File) (after : Option (List ports.File)) (held held' : Option (List ℕ)) (came : Result Summary Stop) (result : Status)
     → IsOutcome files (Some before) after came → AllDone result → result ≡ status_of came
     → ((s : Summary) → came ≡ Ok s → IfSome held (λ old. held' ≡ Some (old ++ summary_line s)))
     → Headline files before after held held' result
-came_headline files before after held held' (Ok s) result o a e l = done_headline files before after held held' s result o e (l s refl)
-came_headline files before after held held' (Err x) result o a e l = absurd (not_done x (subst (λ (y : Status). AllDone y) e a))
+came_headline law files before after held held' (Ok s) result o a e l = done_headline law files before after held held' s result o e (l s refl)
+came_headline law files before after held held' (Err x) result o a e l = absurd (not_done x (subst (λ (y : Status). AllDone y) e a))
 
 -- the line of what was done
 line_done : (result : Status) (came : Result Summary Stop) (held held' : Option (List ℕ)) (o o' : ℕ) → AllDone result
@@ -148,13 +150,13 @@ wanted status.Fault w a h = absurd a
 wanted status.Memory w a h = absurd a
 
 -- what a run came to, where all was done
-pub run_headline : (b : Bool) (fs ds after : Option (List ports.File)) (held held' : Option (List ℕ)) (o o' : ℕ) (came : Result Summary Stop) (result : Status)
+pub run_headline : ShapedIsRead → (b : Bool) (fs ds after : Option (List ports.File)) (held held' : Option (List ℕ)) (o o' : ℕ) (came : Result Summary Stop) (result : Status)
     → (b ≡ false → came ≡ Err stop.Usage) → (b ≡ true → IfSome fs (λ f. IsOutcome f ds after came))
     → Answers result (status_of came) → IfSome held (λ old. LinePut result came old held' o o')
     → IfSome fs (λ f. IfSome ds (λ d. AllDone result → Headline f d after held held' result))
-run_headline b None ds after held held' o o' came result usage told answer line = tt
-run_headline b (Some f) None after held held' o o' came result usage told answer line = tt
-run_headline true (Some f) (Some d) after held held' o o' came result usage told answer line =
-    λ a. came_headline f d after held held' came result (told refl) a (wanted result (status_of came) a answer) (line_done result came held held' o o' a line)
-run_headline false (Some f) (Some d) after held held' o o' came result usage told answer line =
+run_headline law b None ds after held held' o o' came result usage told answer line = tt
+run_headline law b (Some f) None after held held' o o' came result usage told answer line = tt
+run_headline law true (Some f) (Some d) after held held' o o' came result usage told answer line =
+    λ a. came_headline law f d after held held' came result (told refl) a (wanted result (status_of came) a answer) (line_done result came held held' o o' a line)
+run_headline law false (Some f) (Some d) after held held' o o' came result usage told answer line =
     λ a. absurd (not_done stop.Usage (subst (λ (y : Status). AllDone y) (wanted result (status_of came) a answer ∙ ap status_of (usage refl)) a))

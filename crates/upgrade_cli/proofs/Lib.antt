@@ -1,3 +1,4 @@
+pub mod Clear
 pub mod Counting
 pub mod Decided
 pub mod Headlines

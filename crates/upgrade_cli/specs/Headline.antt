@@ -12,17 +12,20 @@ use Rattle.php_meaning.specs.Asking.{asks_nothing}
 use Rattle.syntax_rules.specs.NestedTernary.{program}
 use Rattle.syntax_rules.specs.Rewritten.{edits, rewritten}
 use Rattle.syntax_rules.specs.Keeps.{all_rewritten}
+use Rattle.rewritten_tokens.specs.Written.{HasTokens}
 use Rattle.written_reading.specs.Laws.{IsRead}
 use Rattle.io_ports.specs.Files as ports
 use Rattle.upgrade_cli.specs.declared.stop.Status.{Status}
 use Rattle.upgrade_cli.specs.Lines.{summary_line}
-use Rattle.upgrade_cli.specs.Reports.{marks}
+use Rattle.upgrade_cli.specs.Reports.{reports, marks}
 use Rattle.upgrade_cli.specs.Outcome.{AreRead, with_written, counts}
 use Rattle.upgrade_cli.specs.Run.{status_of}
 
--- 8.3 reads in what is written exactly the rewritten tree, where the source has the form of `echo` statements.
-abbrev pub ReadsBack : List ℕ → File → Type 0
-ReadsBack bytes tree = HasForm V74 bytes tree → IsRead V83 (rewritten tree)
+-- 8.3 reads in what is written exactly the rewritten tree, and no other: of a source without a report, where the written bytes
+-- have the rewritten tree's tokens in 8.3, and of a source of the form of `echo` statements in any case.
+pub record ReadsBack (bytes : List ℕ) (tree : File) : Type 0 where
+  pub clear : reports tree ≡ [] → HasTokens (rewritten tree) → IsRead V83 (rewritten tree)
+  pub form : HasForm V74 bytes tree → IsRead V83 (rewritten tree)
 
 -- What is written of a file's bytes, which 7.4 reads as this tree by all of its tokens and all of its grammar: the rewritten
 -- tree, printed. It is the bytes with the file's edits made, and the edits stand apart within them: each other byte stays.
