@@ -7,7 +7,7 @@ use crate::{
 };
 use std::alloc::{AllocError, Global};
 use std::test::Fail;
-use std::{fs, process};
+use std::{env, fs, process};
 
 fn file(alloc: Global, path: &str, bytes: &[u8]) -> Result<(PathText, Bytes), AllocError>
     ensures { IfOk result (λ f. f ≡ (path.now, bytes.now)) }
@@ -104,7 +104,8 @@ fn a_sink_fails_where_it_is_told(rt: HostRuntime) -> Result<(), Fail> {
 // A folder of this test's own, without files.
 fn fresh_folder(rt: &HostRuntime, test: &str) -> Result<String, Fail> {
     let id = process::id(rt.process());
-    let folder = format!(in rt.alloc(); "/tmp/io_ports_{test}_{id}")?;
+    let top = env::temp_dir(rt)?.into_string();
+    let folder = format!(in rt.alloc(); "{top}/io_ports_{test}_{id}")?;
     if fs::exists(rt, folder.as_str())? {
         fs::remove_dir_all(rt, folder.as_str())?;
     }

@@ -8,7 +8,7 @@ use crate::{
 };
 use std::alloc::{AllocError, Global};
 use std::test::Fail;
-use std::{fs, process};
+use std::{env, fs, process};
 
 // A report of a place of `a.php`.
 fn report_of(alloc: Global, start: u32, end: u32, code: u16) -> Result<Report, AllocError>
@@ -161,7 +161,8 @@ fn a_sink_is_retired(rt: HostRuntime) -> Result<(), Fail> {
 fn a_file_is_made_at_the_first_put(rt: HostRuntime) -> Result<(), Fail> {
     let alloc = rt.alloc();
     let id = process::id(rt.process());
-    let path = format!(in alloc; "/tmp/io_ports_sink_{id}")?;
+    let top = env::temp_dir(&rt)?.into_string();
+    let path = format!(in alloc; "{top}/io_ports_sink_{id}")?;
     let mut sink = FileSink::new(rt.clone()?, alloc, path.as_str())?;
     assert_eq!(rt; sink.put(b""), Ok(()));
     assert_eq!(rt; fs::read(&rt, path.as_str())?.len(), 0);
