@@ -1,78 +1,112 @@
-// Files that are built by hand, upgraded.
-ghost use Rattle.std.specs.Prelude.{◌≡◌, IfOk, codes};
-ghost use Rattle.php_tree.specs.declared.node.Part as parts;
+// Files that are built by hand, and their edits by hand.
+mod trees;
+
+ghost use Rattle.std.specs.Prelude.{◌≡◌, ◌<◌, ◌^◌, length};
 ghost use Rattle.php_tree.specs.Tree.{file_printed};
 ghost use Rattle.php_tree.specs.Whole.{file};
 ghost use Rattle.syntax_edits.specs.Quotable.{AreQuotable};
 
 use crate::{edits_of, upgraded};
-use php_tree::{FileTree, Node, NodeKind, Part, Token, TokenKind, Version};
-use span_edits::Bytes;
-use sqlite_items::Items;
-use std::alloc::{AllocError, Global};
+use php_tree::FileTree;
+use std::alloc::Global;
+use std::process::Abort;
 use std::test::Fail;
+use trees::{comment, name, offset, real, unset, variable_in_text};
 
-// A token of these bytes.
-fn token(
+// Whether a file gets these edits and becomes this text.
+fn assert_made(
+    rt: &impl Abort,
     alloc: Global,
-    kind: TokenKind,
-    lead: &str,
-    text: &str,
-    start: u32,
-) -> Result<Token, AllocError>
-    ensures { IfOk result (λ t. t ≡ record { kind = kind; lead = lead.now; text = text.now; start = start }) }
+    tree: &FileTree,
+    source: &str,
+    edits: &[(u32, u32, &str)],
+    target: &str,
+) -> Result<(), Fail>
+    requires quotable { AreQuotable (file tree.now).statements }
+    requires bytes { source.now ≡ file_printed (file tree.now) }
+    requires short { length source.now < 2 ^ 32 }
 {
-    Ok(Token {
-        kind,
-        lead: Bytes::new(Vec::from_slice(alloc, lead.as_bytes())?),
-        text: Bytes::new(Vec::from_slice(alloc, text.as_bytes())?),
-        start,
-    })
-}
-
-// A node of these parts.
-fn node(kind: NodeKind, parts: Vec<Part>) -> Node
-    ensures { result ≡ record { kind = kind; parts = parts.items } }
-{
-    Node {
-        kind,
-        parts: Items::from_vec(parts),
+    let list = edits_of(alloc, tree)?;
+    assert_eq!(rt; list.len(), edits.len());
+    for (edit, (start, end, text)) in list.iter().zip(edits) {
+        assert_eq!(rt; (edit.span.start, edit.span.end), (*start, *end));
+        assert_eq!(rt; edit.text.as_slice(), text.as_bytes());
     }
-}
-
-const OFFSET: &str = "<?php $s{0};";
-
-// `$s{0}`
-fn offset(alloc: Global) -> Result<FileTree, AllocError>
-    ensures quotable { IfOk result (λ f. AreQuotable (file f).statements) }
-    ensures bytes { IfOk result (λ f. file_printed (file f) ≡ codes "<?php $s{0};") }
-{
-    let mut variable = Vec::new(alloc);
-    variable.push(Part::Leaf(token(alloc, TokenKind::Variable, "<?php ", "$s", 6)?))?;
-    let mut number = Vec::new(alloc);
-    number.push(Part::Leaf(token(alloc, TokenKind::Int, "", "0", 9)?))?;
-    let mut offset = Vec::new(alloc);
-    offset.push(Part::Child(node(NodeKind::Variable, variable)))?;
-    offset.push(Part::Leaf(token(alloc, TokenKind::Op, "", "{", 8)?))?;
-    offset.push(Part::Child(node(NodeKind::Number, number)))?;
-    offset.push(Part::Leaf(token(alloc, TokenKind::Op, "", "}", 10)?))?;
-    let mut statement = Vec::new(alloc);
-    statement.push(Part::Child(node(NodeKind::BraceOffset, offset)))?;
-    statement.push(Part::Leaf(token(alloc, TokenKind::Semi, "", ";", 11)?))?;
-    let mut statements = Items::new(alloc);
-    statements.push(node(NodeKind::ExprStmt, statement))?;
-    let end = token(alloc, TokenKind::End, "", "", 12)?;
-    Ok(FileTree::new(Version::V74, statements, end))
+    let upgrade = upgraded(alloc, tree, source.as_bytes())?;
+    assert_eq!(rt; upgrade.bytes.as_slice(), target.as_bytes());
+    assert_eq!(rt; upgrade.edits, edits.len());
+    Ok(())
 }
 
 #[test]
 fn an_offset_in_braces_gets_brackets(rt: HostRuntime) -> Result<(), Fail> {
     let alloc = rt.alloc();
-    let tree = offset(alloc)?;
-    let edits = edits_of(alloc, &tree)?;
-    assert_eq!(rt; edits.len(), 2);
-    let made = upgraded(alloc, &tree, OFFSET.as_bytes())?;
-    assert_eq!(rt; made.bytes.as_slice(), b"<?php $s[0];".as_slice());
-    assert_eq!(rt; made.edits, 2);
-    Ok(())
+    assert_made(
+        &rt,
+        alloc,
+        &offset(alloc)?,
+        "<?php $s{0};",
+        &[(8, 9, "["), (10, 11, "]")],
+        "<?php $s[0];",
+    )
+}
+
+#[test]
+fn a_name_loses_its_comment_and_leaves_its_keyword(rt: HostRuntime) -> Result<(), Fail> {
+    let alloc = rt.alloc();
+    assert_made(
+        &rt,
+        alloc,
+        &name(alloc)?,
+        "<?php return\\A /**/ \\B;",
+        &[(12, 12, " "), (14, 20, "")],
+        "<?php return \\A\\B;",
+    )
+}
+
+#[test]
+fn a_brace_stands_before_its_dollar(rt: HostRuntime) -> Result<(), Fail> {
+    let alloc = rt.alloc();
+    assert_made(
+        &rt,
+        alloc,
+        &variable_in_text(alloc)?,
+        "<?php \"${x}\";",
+        &[(7, 9, "{$")],
+        "<?php \"{$x}\";",
+    )
+}
+
+#[test]
+fn casts_become_float_and_null(rt: HostRuntime) -> Result<(), Fail> {
+    let alloc = rt.alloc();
+    assert_made(
+        &rt,
+        alloc,
+        &real(alloc)?,
+        "<?php ( Real )$a;",
+        &[(6, 14, "(float)")],
+        "<?php (float)$a;",
+    )?;
+    assert_made(
+        &rt,
+        alloc,
+        &unset(alloc)?,
+        "<?php (unset) $a;",
+        &[(6, 16, "(null)")],
+        "<?php (null);",
+    )
+}
+
+#[test]
+fn a_comment_before_the_end_gets_a_space(rt: HostRuntime) -> Result<(), Fail> {
+    let alloc = rt.alloc();
+    assert_made(
+        &rt,
+        alloc,
+        &comment(alloc)?,
+        "<?php #[A]\n",
+        &[(7, 7, " ")],
+        "<?php # [A]\n",
+    )
 }
