@@ -6,12 +6,14 @@ ghost use Rattle.php_tree.specs.Tree.{file_printed};
 ghost use Rattle.php_tree.specs.Whole.{file};
 ghost use Rattle.syntax_edits.specs.Quotable.{AreQuotable};
 
+use crate::walk::walk;
+use crate::writer::Writer;
 use crate::{edits_of, upgraded};
 use php_tree::FileTree;
 use std::alloc::Global;
 use std::process::Abort;
 use std::test::Fail;
-use trees::{comment, name, offset, real, unset, variable_in_text};
+use trees::{comment, name, nested, offset, real, unset, variable_in_text};
 
 // Whether a file gets these edits and becomes this text.
 fn assert_made(
@@ -35,6 +37,20 @@ fn assert_made(
     let upgrade = upgraded(alloc, tree, source.as_bytes())?;
     assert_eq!(rt; upgrade.bytes.as_slice(), target.as_bytes());
     assert_eq!(rt; upgrade.edits, edits.len());
+    Ok(())
+}
+
+#[test]
+fn a_nested_ternary_gets_parentheses(rt: HostRuntime) -> Result<(), Fail> {
+    let alloc = rt.alloc();
+    let mut writer = Writer::new(alloc);
+    walk(&mut writer, &nested(alloc)?)?;
+    let edits = writer.into_edits()?;
+    assert_eq!(rt; edits.len(), 2);
+    for (edit, (place, text)) in edits.iter().zip([(0, "("), (11, ")")]) {
+        assert_eq!(rt; (edit.span.start, edit.span.end), (place, place));
+        assert_eq!(rt; edit.text.as_slice(), text.as_bytes());
+    }
     Ok(())
 }
 

@@ -1,6 +1,6 @@
 // Trees of short files.
 ghost use Rattle.std.specs.Prelude.{◌≡◌, IfOk, codes};
-ghost use Rattle.php_tree.specs.Tree.{file_printed};
+ghost use Rattle.php_tree.specs.Tree.{alone, file_printed, forest_of};
 ghost use Rattle.php_tree.specs.Whole.{file};
 ghost use Rattle.syntax_edits.specs.Quotable.{AreQuotable};
 
@@ -35,6 +35,42 @@ fn node(kind: NodeKind, parts: Vec<Part>) -> Node
         kind,
         parts: Items::from_vec(parts),
     }
+}
+
+// A token of these bytes, wherever it stands.
+fn word(alloc: Global, kind: TokenKind, lead: &str, text: &str) -> Result<Token, AllocError> {
+    token(alloc, kind, lead, text, 0)
+}
+
+/// `$a ? 1 : $b ? 2 : 3`, each operand a token.
+pub fn nested(alloc: Global) -> Result<Node, AllocError>
+    ensures { IfOk result (λ n. AreQuotable (alone (n.kind, forest_of n.parts))) }
+{
+    let a = word(alloc, TokenKind::Variable, "", "$a")?;
+    let mark = word(alloc, TokenKind::Op, " ", "?")?;
+    let one = word(alloc, TokenKind::Int, " ", "1")?;
+    let colon = word(alloc, TokenKind::Op, " ", ":")?;
+    let b = word(alloc, TokenKind::Variable, " ", "$b")?;
+    let parts = [
+        Part::Leaf(a),
+        Part::Leaf(mark),
+        Part::Leaf(one),
+        Part::Leaf(colon),
+        Part::Leaf(b),
+    ];
+    let inner = node(NodeKind::Ternary, Vec::from_array(alloc, parts)?);
+    let mark = word(alloc, TokenKind::Op, " ", "?")?;
+    let two = word(alloc, TokenKind::Int, " ", "2")?;
+    let colon = word(alloc, TokenKind::Op, " ", ":")?;
+    let three = word(alloc, TokenKind::Int, " ", "3")?;
+    let parts = [
+        Part::Child(inner),
+        Part::Leaf(mark),
+        Part::Leaf(two),
+        Part::Leaf(colon),
+        Part::Leaf(three),
+    ];
+    Ok(node(NodeKind::Ternary, Vec::from_array(alloc, parts)?))
 }
 
 /// `$s{0}`
