@@ -45,23 +45,30 @@ if_left false at x = refl
 own_left : (k : NodeKind) (s : Standing) (more at : ℕ) (f : Forest) → AreLeft (refused_tokens k s more at f)
 own_left k s more at none = refl
 own_left k s zero at (leaf x f) =
-    both_left (refused_if _ at x) (refused_tokens k (past s (class_by (head_at x f).more (terminal x))) (head_at x f).more (behind at x) f) (if_left _ at x)
+    both_left (refused_if _ at x)
+    (refused_tokens k (past s (class_by (head_at x f).more (terminal x))) (head_at x f).more (behind at x) f)
+    (if_left _ at x)
     (own_left k (past s (class_by (head_at x f).more (terminal x))) (head_at x f).more (behind at x) f)
 own_left k s (suc more) at (leaf x f) =
-    both_left (refused_if _ at x) (refused_tokens k s more (behind at x) f) (if_left _ at x) (own_left k s more (behind at x) f)
+    both_left (refused_if _ at x) (refused_tokens k s more (behind at x) f) (if_left _ at x)
+    (own_left k s more (behind at x) f)
 own_left k s more at (node j b f) = own_left k (past_node s) zero (end_of at b) f
 
-nodes_left : (around : Bool → Option Around) (is_first : Bool) (at : ℕ) (f : Forest) → AreLeft (in_nodes rule.ReservedName around is_first at f)
+nodes_left : (around : Bool → Option Around) (is_first : Bool) (at : ℕ) (f : Forest)
+    → AreLeft (in_nodes rule.ReservedName around is_first at f)
 nodes_left around is_first at none = refl
 nodes_left around is_first at (leaf x f) = nodes_left around false (behind at x) f
 nodes_left around is_first at (node k c f) =
-    both_left (in_nodes rule.ReservedName (within k c) true at c ++ refused_tokens k at_first zero at c) (in_nodes rule.ReservedName around false (end_of at c) f)
+    both_left (in_nodes rule.ReservedName (within k c) true at c ++ refused_tokens k at_first zero at c)
+    (in_nodes rule.ReservedName around false (end_of at c) f)
     (both_left (in_nodes rule.ReservedName (within k c) true at c) (refused_tokens k at_first zero at c) (nodes_left (within k c) true at c) (own_left k at_first zero at c))
     (nodes_left around false (end_of at c) f)
 
 enums_left : (before : Terminal) (at : ℕ) (xs : List Token) → AreLeft (enums before at xs)
 enums_left before at [] = refl
-enums_left before at (x ∷ xs) = both_left (refused_if _ at x) (enums (terminal x) (behind at x) xs) (if_left _ at x) (enums_left (terminal x) (behind at x) xs)
+enums_left before at (x ∷ xs) =
+    both_left (refused_if _ at x) (enums (terminal x) (behind at x) xs) (if_left _ at x)
+    (enums_left (terminal x) (behind at x) xs)
 
 words_left : (f : File) → undecided_places rule.ReservedName f ≡ places rule.ReservedName f
 words_left f =
@@ -74,7 +81,8 @@ empty_both : (ps qs : List Place) → ps ++ qs ≡ [] → (ps ≡ []) × (qs ≡
 empty_both [] qs e = (refl, e)
 empty_both (p ∷ ps) qs e = absurd cc
 
-by_verdict : (v : Verdict) (p : Place) (ps : List Place) → cond (is_left v) (p ∷ ps) ps ≡ [] → (has_cause v ≡ false) × (ps ≡ [])
+by_verdict : (v : Verdict) (p : Place) (ps : List Place) → cond (is_left v) (p ∷ ps) ps ≡ []
+    → (has_cause v ≡ false) × (ps ≡ [])
 by_verdict keeps p ps e = (refl, e)
 by_verdict (edited edits) p ps e = (refl, e)
 by_verdict (undecided cause) p ps e = absurd cc
@@ -85,12 +93,14 @@ none_left (p ∷ ps) e = let r = by_verdict p.verdict p (filter is_undecided ps)
 
 clear : (bytes : List ℕ) (f : File) → Reads V74 bytes f → reports f ≡ [] → NoneReported f.statements
 clear bytes f r e =
-    let both = empty_both (undecided_places rule.UnsetCast f) (undecided_places rule.ReservedName f) (sym (two_rules f) ∙ e) in
+    let both = empty_both (undecided_places rule.UnsetCast f) (undecided_places rule.ReservedName f)
+    (sym (two_rules f) ∙ e) in
     nothing_reported.by_places bytes f r (none_left (places rule.UnsetCast f) both.0) (sym (words_left f) ∙ both.1)
 
 -- ---- what 8.3 reads
 
-pub clear_is_read : ShapedIsRead → (bytes : List ℕ) (f : File) → Reads V74 bytes f → reports f ≡ [] → HasTokens (rewritten f) → IsRead V83 (rewritten f)
+pub clear_is_read : ShapedIsRead → (bytes : List ℕ) (f : File) → Reads V74 bytes f → reports f ≡ []
+    → HasTokens (rewritten f) → IsRead V83 (rewritten f)
 clear_is_read shaped_is_read bytes f r e tokens =
     let spelled = sources_are_spelled V74 bytes f (subst (TokensOf V74 bytes) r.parsed.text r.lexed) in
     shaped_is_read bytes f r (rewritten_has_shape f (shaped bytes f r) spelled (clear bytes f r e)) tokens

@@ -44,16 +44,19 @@ one_if false start end es = refl
 
 -- ---- rules on nodes
 
-by_if : (b : Bool) (change : NewTree → NewTree) (at : ℕ) (t : Tree) → AreDecided (node_places at t.1 (verdict_by (becomes_if b change) at t))
+by_if : (b : Bool) (change : NewTree → NewTree) (at : ℕ) (t : Tree)
+    → AreDecided (node_places at t.1 (verdict_by (becomes_if b change) at t))
 by_if true change at t = refl
 by_if false change at t = refl
 
 module _ (r : RuleId) (decides : (a : Option Around) (at : ℕ) (t : Tree) → AreDecided (at_node r a at t)) where
-  nodes : (around : Bool → Option Around) (is_first : Bool) (at : ℕ) (f : Forest) → AreDecided (in_nodes r around is_first at f)
+  nodes : (around : Bool → Option Around) (is_first : Bool) (at : ℕ) (f : Forest)
+      → AreDecided (in_nodes r around is_first at f)
   nodes around is_first at none = refl
   nodes around is_first at (leaf x f) = nodes around false (behind at x) f
   nodes around is_first at (node k c f) =
-      two (in_nodes r (within k c) true at c ++ at_node r (around is_first) at (k, c)) (in_nodes r around false (end_of at c) f)
+      two (in_nodes r (within k c) true at c ++ at_node r (around is_first) at (k, c))
+      (in_nodes r around false (end_of at c) f)
       (two (in_nodes r (within k c) true at c) (at_node r (around is_first) at (k, c)) (nodes (within k c) true at c) (decides (around is_first) at (k, c)))
       (nodes around false (end_of at c) f)
 
@@ -62,7 +65,8 @@ module _ (r : RuleId) (decides : (a : Option Around) (at : ℕ) (t : Tree) → A
 dollars : (last : Option Token) (at : ℕ) (f : Forest) → AreDecided (dollar_braces last at f)
 dollars last at none = refl
 dollars last at (leaf t f) =
-    two (if is_dollar_brace t.kind then token_place at t (edited (opening_edits last at t f)) ∷ [] else []) (dollar_braces (Some t) (behind at t) f)
+    two (if is_dollar_brace t.kind then token_place at t (edited (opening_edits last at t f)) ∷ [] else [])
+    (dollar_braces (Some t) (behind at t) f)
     (one_if (is_dollar_brace t.kind) _ _ (opening_edits last at t f)) (dollars (Some t) (behind at t) f)
 dollars last at (node k c f) = dollars None (end_of at c) f
 
@@ -80,7 +84,8 @@ in_lead s at (b ∷ bs) =
 
 in_leads : (at : ℕ) (ts : List Token) → AreDecided (hash_comments at ts)
 in_leads at [] = refl
-in_leads at (t ∷ ts) = two (comments outside at t.lead) (hash_comments (behind at t) ts) (in_lead outside at t.lead) (in_leads (behind at t) ts)
+in_leads at (t ∷ ts) =
+    two (comments outside at t.lead) (hash_comments (behind at t) ts) (in_lead outside at t.lead) (in_leads (behind at t) ts)
 
 -- ---- names
 
@@ -93,12 +98,15 @@ in_draft at no_more = refl
 in_draft at (new_leaf t d) =
     two (if_edited at t (edits_from at (joined (token_pieces t)))) (edited_tokens (at + length (before (token_pieces t))) d)
     (if_any at t (edits_from at (joined (token_pieces t)))) (in_draft (at + length (before (token_pieces t))) d)
-in_draft at (new_node k c d) = two (edited_tokens at c) (edited_tokens (at + length (before (pieces c))) d) (in_draft at c) (in_draft (at + length (before (pieces c))) d)
+in_draft at (new_node k c d) =
+    two (edited_tokens at c) (edited_tokens (at + length (before (pieces c))) d) (in_draft at c)
+    (in_draft (at + length (before (pieces c))) d)
 
 -- ---- each rule
 
 pub nested_ternaries : (f : File) → undecided_places rule.NestedTernary f ≡ []
-nested_ternaries f = nodes rule.NestedTernary (λ a at t. by_if (is_nested (kind_if_first a) t.0) in_parens at t) at_top true 0 f.statements
+nested_ternaries f =
+    nodes rule.NestedTernary (λ a at t. by_if (is_nested (kind_if_first a) t.0) in_parens at t) at_top true 0 f.statements
 
 pub dots : (f : File) → undecided_places rule.DotPrecedence f ≡ []
 dots f = nodes rule.DotPrecedence (λ a at t. by_if (is_regrouped a t) in_parens at t) at_top true 0 f.statements

@@ -48,7 +48,8 @@ edits_apart t =
     subst (λ (bs : List ℕ). AreApart 0 (edits t) (length bs)) (syntax_is_rewritten.bytes (all_on (patches t.statements)) t)
     (edits_are_apart (draft_of t))
 
-file_written : ShapedIsRead → (bytes : List ℕ) (t : File) → Reads V74 bytes t → IsWritten bytes t (file_printed (rewritten t))
+file_written : ShapedIsRead → (bytes : List ℕ) (t : File) → Reads V74 bytes t
+    → IsWritten bytes t (file_printed (rewritten t))
 file_written law bytes t r = record {
   source = r;
   printed = refl;
@@ -67,7 +68,8 @@ are_written law (f ∷ g ∷ fs) trees r = absurd r
 
 -- ---- the meaning
 
-are_shaped : (files : List ports.File) (trees : List File) → AreRead files trees → All (λ f. Shape V74 f.1) (by_path files trees)
+are_shaped : (files : List ports.File) (trees : List File) → AreRead files trees
+    → All (λ f. Shape V74 f.1) (by_path files trees)
 are_shaped [] [] r = λ k d below. absurd (omega (arith, below))
 are_shaped (f ∷ []) (t ∷ []) r = λ k d below. one k d below
   where
@@ -90,8 +92,10 @@ means_the_same files h =
 -- ---- all of it
 
 -- all was done, and the line was put
-done_headline : ShapedIsRead → (files before : List ports.File) (after : Option (List ports.File)) (held held' : Option (List ℕ)) (s : Summary) (result : Status)
-    → IsDone files (Some before) after s → result ≡ status_of (Ok s) → IfSome held (λ old. held' ≡ Some (old ++ summary_line s))
+done_headline : ShapedIsRead
+    → (files before : List ports.File) (after : Option (List ports.File)) (held held' : Option (List ℕ)) (s : Summary) (result : Status)
+    → IsDone files (Some before) after s → result ≡ status_of (Ok s)
+    → IfSome held (λ old. held' ≡ Some (old ++ summary_line s))
     → Headline files before after held held' result
 done_headline law files before after held held' s result d e l = record {
   trees = d.trees;
@@ -103,7 +107,8 @@ done_headline law files before after held held' s result d e l = record {
   means_the_same = means_the_same (by_path files d.trees) (are_shaped files d.trees d.read);
 }
   where
-    line_of : (h : Option (List ℕ)) → IfSome h (λ old. held' ≡ Some (old ++ summary_line s)) → IfSome h (λ old. held' ≡ Some (old ++ summary_line (counts d.trees)))
+    line_of : (h : Option (List ℕ)) → IfSome h (λ old. held' ≡ Some (old ++ summary_line s))
+        → IfSome h (λ old. held' ≡ Some (old ++ summary_line (counts d.trees)))
     line_of None x = tt
     line_of (Some old) x = x ∙ ap (λ n. Some (old ++ summary_line n)) d.counted
 
@@ -116,19 +121,25 @@ not_done stop.SourceFault h = h
 not_done stop.TargetFault h = h
 not_done stop.Memory h = h
 
-came_headline : ShapedIsRead → (files before : List ports.File) (after : Option (List ports.File)) (held held' : Option (List ℕ)) (came : Result Summary Stop) (result : Status)
+came_headline : ShapedIsRead
+    → (files before : List ports.File) (after : Option (List ports.File)) (held held' : Option (List ℕ)) (came : Result Summary Stop) (result : Status)
     → IsOutcome files (Some before) after came → AllDone result → result ≡ status_of came
     → ((s : Summary) → came ≡ Ok s → IfSome held (λ old. held' ≡ Some (old ++ summary_line s)))
     → Headline files before after held held' result
-came_headline law files before after held held' (Ok s) result o a e l = done_headline law files before after held held' s result o e (l s refl)
-came_headline law files before after held held' (Err x) result o a e l = absurd (not_done x (subst (λ (y : Status). AllDone y) e a))
+came_headline law files before after held held' (Ok s) result o a e l =
+    done_headline law files before after held held' s result o e (l s refl)
+came_headline law files before after held held' (Err x) result o a e l =
+    absurd (not_done x (subst (λ (y : Status). AllDone y) e a))
 
 -- the line of what was done
 line_done : (result : Status) (came : Result Summary Stop) (held held' : Option (List ℕ)) (o o' : ℕ) → AllDone result
-    → IfSome held (λ old. LinePut result came old held' o o') → (s : Summary) → came ≡ Ok s → IfSome held (λ old. held' ≡ Some (old ++ summary_line s))
+    → IfSome held (λ old. LinePut result came old held' o o') → (s : Summary) → came ≡ Ok s
+    → IfSome held (λ old. held' ≡ Some (old ++ summary_line s))
 line_done result came None held' o o' a l s e = tt
-line_done status.Done came (Some old) held' o o' a l s e = subst (λ (x : Result Summary Stop). LinePut status.Done x old held' o o') e l
-line_done status.Reported came (Some old) held' o o' a l s e = subst (λ (x : Result Summary Stop). LinePut status.Reported x old held' o o') e l
+line_done status.Done came (Some old) held' o o' a l s e =
+    subst (λ (x : Result Summary Stop). LinePut status.Done x old held' o o') e l
+line_done status.Reported came (Some old) held' o o' a l s e =
+    subst (λ (x : Result Summary Stop). LinePut status.Reported x old held' o o') e l
 line_done status.Usage came (Some old) held' o o' a l s e = absurd a
 line_done status.Source came (Some old) held' o o' a l s e = absurd a
 line_done status.Settings came (Some old) held' o o' a l s e = absurd a
@@ -150,13 +161,16 @@ wanted status.Fault w a h = absurd a
 wanted status.Memory w a h = absurd a
 
 -- what a run came to, where all was done
-pub run_headline : ShapedIsRead → (b : Bool) (fs ds after : Option (List ports.File)) (held held' : Option (List ℕ)) (o o' : ℕ) (came : Result Summary Stop) (result : Status)
+pub run_headline : ShapedIsRead
+    → (b : Bool) (fs ds after : Option (List ports.File)) (held held' : Option (List ℕ)) (o o' : ℕ) (came : Result Summary Stop) (result : Status)
     → (b ≡ false → came ≡ Err stop.Usage) → (b ≡ true → IfSome fs (λ f. IsOutcome f ds after came))
     → Answers result (status_of came) → IfSome held (λ old. LinePut result came old held' o o')
     → IfSome fs (λ f. IfSome ds (λ d. AllDone result → Headline f d after held held' result))
 run_headline law b None ds after held held' o o' came result usage told answer line = tt
 run_headline law b (Some f) None after held held' o o' came result usage told answer line = tt
 run_headline law true (Some f) (Some d) after held held' o o' came result usage told answer line =
-    λ a. came_headline law f d after held held' came result (told refl) a (wanted result (status_of came) a answer) (line_done result came held held' o o' a line)
+    λ a. came_headline law f d after held held' came result (told refl) a (wanted result (status_of came) a answer)
+    (line_done result came held held' o o' a line)
 run_headline law false (Some f) (Some d) after held held' o o' came result usage told answer line =
-    λ a. absurd (not_done stop.Usage (subst (λ (y : Status). AllDone y) (wanted result (status_of came) a answer ∙ ap status_of (usage refl)) a))
+    λ a. absurd
+    (not_done stop.Usage (subst (λ (y : Status). AllDone y) (wanted result (status_of came) a answer ∙ ap status_of (usage refl)) a))

@@ -55,7 +55,9 @@ pub record MeansTheSame (files : List (Bytes × File)) : Type 0 where
 
 -- The sources have these trees in 7.4. The target holds what is written of them, and its other files. The line has the counts,
 -- and the status is 2 exactly where they have a report. The rewritten trees do in 8.3 what the sources do in 7.4.
-pub record Headline (files before : List ports.File) (after : Option (List ports.File)) (held held' : Option (List ℕ)) (result : Status) : Type 0 where
+pub record Headline
+    (files before : List ports.File) (after : Option (List ports.File)) (held held' : Option (List ℕ)) (result : Status)
+    : Type 0 where
   pub trees : List File
   pub read : AreRead files trees
   pub target : after ≡ Some (with_written files trees before)

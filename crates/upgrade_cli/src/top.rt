@@ -17,7 +17,8 @@ use written_reading::shaped_is_read;
 // Puts the line of what a run came to, and answers its status unless that fails.
 fn answer<O: Sink>(alloc: Global, out: &mut O, came: &Result<Summary, Stop>) -> Status
     ensures answer { spec.Answers result (spec.status_of came.now) }
-    ensures line { IfSome (O.held out.old) (λ old. spec.LinePut result came.now old (O.held out.new) (O.faults out.old) (O.faults out.new)) }
+    ensures line { IfSome (O.held out.old) (λ old.
+        spec.LinePut result came.now old (O.held out.new) (O.faults out.old) (O.faults out.new)) }
     ensures cause { spec.OutCause result came.now (O.faults out.old) (O.faults out.new) }
 {
     let Ok(line) = line_of(alloc, came) else {
@@ -40,10 +41,12 @@ fn outcome<T: SourceTree, D: TargetTree>(
     ensures usage { are_upgrade (map string_bytes words.now) ≡ false → result ≡ Err Stop.Usage }
     ensures usage_only { result ≡ Err Stop.Usage → are_upgrade (map string_bytes words.now) ≡ false }
     ensures source_untouched { are_upgrade (map string_bytes words.now) ≡ false → source.new ≡ source.old }
-    ensures told { are_upgrade (map string_bytes words.now) ≡ true → IfSome (T.files source.old) (λ fs. IsOutcome fs (D.files target.old) (D.files target.new) result) }
+    ensures told { are_upgrade (map string_bytes words.now) ≡ true → IfSome (T.files source.old) (λ fs.
+        IsOutcome fs (D.files target.old) (D.files target.new) result) }
     ensures kept { spec.Keeps result (target.new ≡ target.old) }
     ensures untouched { IfSome (T.files source.old) (λ fs. ((ts : List File) → AreRead fs ts → ⊥) → target.new ≡ target.old) }
-    ensures cause { spec.HaveCauses result (T.faults source.old) (T.faults source.new) (D.faults target.old) (D.faults target.new) }
+    ensures cause { spec.HaveCauses result
+        (T.faults source.old) (T.faults source.new) (D.faults target.old) (D.faults target.new) }
 {
     if !are_in_grammar(words) {
         return Err(Stop::Usage);
@@ -65,22 +68,31 @@ pub fn run<T: SourceTree, D: TargetTree, O: Sink>(
     ensures usage_only { result ≡ Status.Usage → are_upgrade (map string_bytes words.now) ≡ false }
     ensures usage_source { are_upgrade (map string_bytes words.now) ≡ false → source.new ≡ source.old }
     ensures usage_target { are_upgrade (map string_bytes words.now) ≡ false → target.new ≡ target.old }
-    ensures usage_line { IfSome (O.held out.old) (λ old. result ≡ Status.Usage → spec.Added old (spec.usage_line) (O.held out.new)) }
+    ensures usage_line { IfSome (O.held out.old) (λ old.
+        result ≡ Status.Usage → spec.Added old (spec.usage_line) (O.held out.new)) }
 
     // With good words each status only where it should come, with its line, and with what the target holds then.
-    ensures told { are_upgrade (map string_bytes words.now) ≡ true → IfSome (T.files source.old) (λ fs. spec.Told fs (D.files target.old) (D.files target.new) (O.held out.old) (O.held out.new) (O.faults out.old) (O.faults out.new) result) }
+    ensures told { are_upgrade (map string_bytes words.now) ≡ true → IfSome (T.files source.old) (λ fs.
+        spec.Told fs (D.files target.old) (D.files target.new)
+        (O.held out.old) (O.held out.new) (O.faults out.old) (O.faults out.new) result) }
 
     // .. and wherever it should come, unless a count rose or memory ran out
-    ensures exact { are_upgrade (map string_bytes words.now) ≡ true → IfSome (T.files source.old) (λ fs. spec.IsExact fs result) }
+    ensures exact { are_upgrade (map string_bytes words.now) ≡ true →
+        IfSome (T.files source.old) (λ fs. spec.IsExact fs result) }
     ensures others { spec.IsOfUpgrade result }
 
     // The headline: where all was done, what stands in the target, and that it does in 8.3 what the source does in 7.4.
-    ensures headline { IfSome (T.files source.old) (λ fs. IfSome (D.files target.old) (λ ds. spec.AllDone result → Headline fs ds (D.files target.new) (O.held out.old) (O.held out.new) result)) }
+    ensures headline { IfSome (T.files source.old) (λ fs. IfSome (D.files target.old) (λ ds. spec.AllDone result →
+        Headline fs ds (D.files target.new) (O.held out.old) (O.held out.new) result)) }
 
     // 74 only where a count rose; where one rose the status is 74 or 71
-    ensures fault { result ≡ Status.Fault → spec.AnyRose (T.faults source.old) (T.faults source.new) (D.faults target.old) (D.faults target.new) (O.faults out.old) (O.faults out.new) }
-    ensures quiet { spec.Unless result (spec.NoneRose (T.faults source.old) (T.faults source.new) (D.faults target.old) (D.faults target.new) (O.faults out.old) (O.faults out.new)) }
-    ensures fault_line { IfSome (O.held out.old) (λ old. result ≡ Status.Fault → spec.FaultLine (T.faults source.old) (T.faults source.new) (D.faults target.old) (D.faults target.new) (O.faults out.old) (O.faults out.new) old (O.held out.new)) }
+    ensures fault { result ≡ Status.Fault → spec.AnyRose (T.faults source.old) (T.faults source.new)
+        (D.faults target.old) (D.faults target.new) (O.faults out.old) (O.faults out.new) }
+    ensures quiet { spec.Unless result (spec.NoneRose (T.faults source.old) (T.faults source.new)
+        (D.faults target.old) (D.faults target.new) (O.faults out.old) (O.faults out.new)) }
+    ensures fault_line { IfSome (O.held out.old) (λ old. result ≡ Status.Fault →
+        spec.FaultLine (T.faults source.old) (T.faults source.new) (D.faults target.old) (D.faults target.new)
+        (O.faults out.old) (O.faults out.new) old (O.held out.new)) }
 
     // the target is called only where nothing is refused
     ensures kept { spec.KeepsAt result (target.new ≡ target.old) }

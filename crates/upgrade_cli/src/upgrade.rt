@@ -91,7 +91,8 @@ pub fn upgrade<T: SourceTree, D: TargetTree>(
     ensures kept { Keeps result (target.new ≡ target.old) }
     ensures untouched { IfSome (T.files source.old) (λ fs. ((ts : List File) → spec.AreRead fs ts → ⊥) → target.new ≡ target.old) }
     ensures only { spec.IsNoUsage result }
-    ensures cause { HaveCauses result (T.faults source.old) (T.faults source.new) (D.faults target.old) (D.faults target.new) }
+    ensures cause { HaveCauses result
+        (T.faults source.old) (T.faults source.new) (D.faults target.old) (D.faults target.new) }
 {
     let paths = list_sources(alloc, source)?;
     match paths.as_slice() {
