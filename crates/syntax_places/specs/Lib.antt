@@ -1,4 +1,5 @@
 pub mod Seen
+pub mod ChildEnds
 pub mod Parts
 pub mod NodeRules
 pub mod Standings

@@ -6,10 +6,11 @@ ghost use Rattle.std.specs.Prelude.{◌≡◌, ◌++◌, IfOk, OnOk};
 ghost use Rattle.php_tree.specs.Tree.{forest_of};
 ghost use Rattle.syntax_rules.specs.BraceOffset.{brace_offset, is_brace_offset as is_brace_offset_as};
 ghost use Rattle.syntax_places.specs.Seen.{edited, verdict_of};
+ghost use Rattle.syntax_places.specs.ChildEnds.{child_ends};
 ghost use Rattle.syntax_places.specs.NodeRules.{bracket_edit, edits_at};
 
 use crate::edits::replaced;
-use crate::ends::{past_bytes, past_node, past_token};
+use crate::ends::{first_end, other_ends, past_bytes, past_token};
 use php_tree::{Node, NodeKind, Part, Token};
 use rule_tables::{Decision, Edit};
 use std::alloc::{AllocError, Global};
@@ -38,19 +39,24 @@ fn bracket(alloc: Global, at: u32, token: &Token, edits: &mut Vec<Edit>) -> Resu
 }
 
 #[tactic(auto, using(crate::proofs::EditLemmas::bracket_leaf, crate::proofs::EditLemmas::bracket_node))]
-/// Brackets for the braces of a node, which begins at a place.
-pub fn bracketed(alloc: Global, at: u32, node: &Node) -> Result<Decision, AllocError>
+/// Brackets for the braces of a node, which begins at a place, and whose child nodes end at others.
+pub fn bracketed(alloc: Global, at: u32, node: &Node, ends: &[u32]) -> Result<Decision, AllocError>
+    requires { ends.now ≡ child_ends at (forest_of node.now.parts) }
     ensures { IfOk result (λ d. verdict_of d ≡ edited (edits_at at brace_offset (node.now.kind, forest_of node.now.parts))) }
 {
     let mut edits = Vec::new(alloc);
     let mut place = at;
+    let mut ahead = ends;
     for part in node.parts.as_slice() {
         match part {
             Part::Leaf(token) => {
                 bracket(alloc, place, token, &mut edits)?;
                 place = past_token(place, token)?;
             }
-            Part::Child(inner) => place = past_node(place, inner)?,
+            Part::Child(_) => {
+                place = first_end(ahead);
+                ahead = other_ends(ahead);
+            }
         }
     }
     Ok(Decision::Change(edits))

@@ -4,6 +4,8 @@
 // After:  "{$a}"
 ghost use Rattle.std.specs.Prelude.{◌≡◌, ◌==◌, ◌&&◌, ◌++◌, ◌∷◌, [], false, not, drop, if◌then◌else◌, None, Some, map, option_copied, IfOk, OnOk};
 ghost use Rattle.php_tree.specs.Tree.{forest_of};
+ghost use Rattle.php_tree.specs.Places.{behind as behind_token, end_of};
+ghost use Rattle.syntax_places.specs.ChildEnds.{child_ends};
 ghost use Rattle.syntax_rules.specs.DollarBrace.{ends_bare as ends_bare_of, is_dollar_brace as is_dollar_brace_as, is_piece as is_piece_as};
 ghost use Rattle.syntax_rules.specs.Together.{is_quoted as is_quoted_as};
 ghost use Rattle.syntax_places.specs.Seen.{edited, seen, token_place, verdict_of};
@@ -11,7 +13,7 @@ ghost use Rattle.syntax_places.specs.DollarBraces.{dollar_braces, escaping, of_q
 ghost use Rattle.syntax_places.specs.DollarEdits.{name_edits, node_edits, own_edits};
 
 use crate::edits::{inserted, replaced};
-use crate::ends::{past_bytes, past_node, past_token};
+use crate::ends::{first_end, other_ends, past_bytes, past_token};
 use crate::found::add;
 use crate::parts::{first_leaf, first_node, others};
 use crate::placed::Placed;
@@ -111,15 +113,17 @@ fn before_name(
     }
 }
 
-// The edits before an expression and the brace behind it.
+// The edits before an expression, which ends at a place, and the brace behind it.
 fn before_node(
     alloc: Global,
     at: u32,
     token: &Token,
     node: &Node,
+    behind: u32,
     close: Option<&Token>,
     edits: &mut Vec<Edit>,
 ) -> Result<(), AllocError>
+    requires { behind ≡ end_of (behind_token at token.now) (forest_of node.now.parts) }
     ensures { OnOk result (edits.new.items ≡ edits.old.items
         ++ node_edits at token.now (node.now.kind, forest_of node.now.parts) (option_copied close.entry)) }
 {
@@ -127,7 +131,7 @@ fn before_node(
         Some(brace) => {
             let start = past_bytes(at, token.lead.as_slice())?;
             let end = past_bytes(start, token.text.as_slice())?;
-            let first = past_bytes(past_node(end, node)?, brace.lead.as_slice())?;
+            let first = past_bytes(behind, brace.lead.as_slice())?;
             let last = past_bytes(first, brace.text.as_slice())?;
             edits.push(replaced(alloc, start, end, "{${")?)?;
             edits.push(replaced(alloc, first, last, "}}")?)?;
@@ -143,13 +147,15 @@ fn open(
     at: u32,
     token: &Token,
     rest: &[Part],
+    ends: &[u32],
     edits: &mut Vec<Edit>,
 ) -> Result<(), AllocError>
+    requires { ends.now ≡ child_ends (behind_token at token.now) (forest_of rest.now) }
     ensures { OnOk result (edits.new.items ≡ edits.old.items ++ own_edits at token.now (forest_of rest.now)) }
 {
     let follower = first_leaf(others(rest));
     match first_node(rest) {
-        Some(node) => before_node(alloc, at, token, node, follower, edits),
+        Some(node) => before_node(alloc, at, token, node, first_end(ends), follower, edits),
         None => before_name(alloc, at, token, first_leaf(rest), follower, edits),
     }
 }
@@ -162,12 +168,14 @@ fn decided(
     at: u32,
     token: &Token,
     rest: &[Part],
+    ends: &[u32],
 ) -> Result<Decision, AllocError>
+    requires { ends.now ≡ child_ends (behind_token at token.now) (forest_of rest.now) }
     ensures { IfOk result (λ d. verdict_of d ≡ edited (opening_edits (option_copied last.entry) at token.now (forest_of rest.now))) }
 {
     let mut edits = Vec::new(alloc);
     escape(alloc, last, at, &mut edits)?;
-    open(alloc, at, token, rest, &mut edits)?;
+    open(alloc, at, token, rest, ends, &mut edits)?;
     Ok(Decision::Change(edits))
 }
 
@@ -178,8 +186,10 @@ fn add_if(
     at: u32,
     token: &Token,
     rest: &[Part],
+    ends: &[u32],
     out: &mut Vec<Placed>,
 ) -> Result<(), AllocError>
+    requires { ends.now ≡ child_ends (behind_token at token.now) (forest_of rest.now) }
     ensures { OnOk result (map seen out.new.items ≡ map seen out.old.items ++ (if is_dollar_brace_as token.now.kind
         then token_place at token.now (edited (opening_edits (option_copied last.entry) at token.now (forest_of rest.now))) ∷ [] else [])) }
 {
@@ -188,7 +198,7 @@ fn add_if(
     }
     let start = past_bytes(at, token.lead.as_slice())?;
     let end = past_bytes(start, token.text.as_slice())?;
-    let decision = decided(alloc, last, at, token, rest)?;
+    let decision = decided(alloc, last, at, token, rest, ends)?;
     add(start, end, decision, out)
 }
 
@@ -202,47 +212,54 @@ fn tail(parts: &[Part]) -> &[Part]
     }
 }
 
-// Puts the `${` among some parts, which begin at a place, behind other places.
+// Puts the `${` among some parts, which begin at a place, and whose nodes end at others, behind other places.
 fn add_among(
     alloc: Global,
     parts: &[Part],
     at: u32,
+    ends: &[u32],
     out: &mut Vec<Placed>,
 ) -> Result<(), AllocError>
+    requires { ends.now ≡ child_ends at (forest_of parts.now) }
     ensures { OnOk result (map seen out.new.items ≡ map seen out.old.items ++ dollar_braces None at (forest_of parts.now)) }
 {
     let mut last: Option<&Token> = None;
     let mut place = at;
     let mut rest = parts;
+    let mut ahead = ends;
     for part in parts {
         rest = tail(rest);
         match part {
             Part::Leaf(token) => {
-                add_if(alloc, last, place, token, rest, out)?;
+                add_if(alloc, last, place, token, rest, ahead, out)?;
                 last = Some(token);
                 place = past_token(place, token)?;
             }
-            Part::Child(inner) => {
+            Part::Child(_) => {
                 last = None;
-                place = past_node(place, inner)?;
+                place = first_end(ahead);
+                ahead = other_ends(ahead);
             }
         }
     }
     Ok(())
 }
 
-/// Puts the `${` of a node itself, which begins at a place, behind other places: a quoted text has some.
+/// Puts the `${` of a node itself, which begins at a place, and whose child nodes end at others, behind other places: a
+/// quoted text has some.
 pub fn add_dollar_braces(
     alloc: Global,
     node: &Node,
     at: u32,
+    ends: &[u32],
     out: &mut Vec<Placed>,
 ) -> Result<(), AllocError>
+    requires { ends.now ≡ child_ends at (forest_of node.now.parts) }
     ensures { OnOk result (map seen out.new.items ≡ map seen out.old.items
         ++ of_quoted at (node.now.kind, forest_of node.now.parts)) }
 {
     if is_quoted(node.kind) {
-        add_among(alloc, node.parts.as_slice(), at, out)
+        add_among(alloc, node.parts.as_slice(), at, ends, out)
     } else {
         Ok(())
     }

@@ -1,8 +1,9 @@
 // Where nodes end, and where their texts begin.
-ghost use Rattle.std.specs.Prelude.{◌≡◌, ◌+◌, length, IfOk, option_copied};
+ghost use Rattle.std.specs.Prelude.{◌≡◌, ◌+◌, drop, length, IfOk, option_copied};
 ghost use Rattle.php_tree.specs.Tree.{forest_of, leaves};
-ghost use Rattle.php_tree.specs.Places.{behind, end_of};
+ghost use Rattle.php_tree.specs.Places.{behind};
 ghost use Rattle.php_tree.specs.Ids.{first_of};
+ghost use Rattle.syntax_places.specs.ChildEnds.{first_end as first_end_of};
 ghost use Rattle.syntax_places.specs.NodeRules.{text_start};
 
 use php_tree::{Node, Part, Token};
@@ -35,18 +36,24 @@ pub fn past_token(at: u32, token: &Token) -> Result<u32, AllocError>
     )
 }
 
-/// The place behind a node that begins at a place.
-pub fn past_node(at: u32, node: &Node) -> Result<u32, AllocError>
-    ensures { IfOk result (λ place. place ≡ end_of at (forest_of node.now.parts)) }
+/// The first of some places, 0 where there is none.
+pub fn first_end(ends: &[u32]) -> u32
+    ensures { result ≡ first_end_of ends.now }
 {
-    let mut place = at;
-    for part in node.parts.as_slice() {
-        match part {
-            Part::Leaf(token) => place = past_token(place, token)?,
-            Part::Child(inner) => place = past_node(place, inner)?,
-        }
+    match ends {
+        [] => 0,
+        [end, ..] => *end,
     }
-    Ok(place)
+}
+
+/// The places behind the first one.
+pub fn other_ends(ends: &[u32]) -> &[u32]
+    ensures { result.now ≡ drop 1 ends.now }
+{
+    match ends {
+        [] => ends,
+        [_, behind @ ..] => behind,
+    }
 }
 
 // The first token inside a node.

@@ -5,6 +5,7 @@ ghost use Rattle.php_tree.specs.Places.{end_of};
 ghost use Rattle.rule_tables.specs.declared.rule.RuleId.TheVariants as rule_id;
 ghost use Rattle.tracked_changes.specs.Edits.{replacement};
 ghost use Rattle.syntax_places.specs.Seen.{edited, seen, verdict_of};
+ghost use Rattle.syntax_places.specs.ChildEnds.{child_ends};
 ghost use Rattle.syntax_places.specs.NodeRules.{around_in, node_places, ruling, text_start, verdict_by};
 
 use crate::brace_offset::{bracketed, is_brace_offset};
@@ -80,13 +81,15 @@ fn brace_offset(
     is_first: bool,
     node: &Node,
     at: u32,
+    ends: &[u32],
 ) -> Result<Option<Decision>, AllocError>
+    requires { ends.now ≡ child_ends at (forest_of node.now.parts) }
     ensures { IfOk result (λ d. option_map verdict_of d ≡ verdict_by
         (ruling rule_id.BraceOffset (around_in parent.entry is_first) (node.now.kind, forest_of node.now.parts)) at
         (node.now.kind, forest_of node.now.parts)) }
 {
     if is_brace_offset(node.kind) {
-        Ok(Some(bracketed(alloc, at, node)?))
+        Ok(Some(bracketed(alloc, at, node, ends)?))
     } else {
         Ok(None)
     }
@@ -138,9 +141,11 @@ fn decided(
     at: u32,
     start: u32,
     end: u32,
+    ends: &[u32],
 ) -> Result<Option<Decision>, AllocError>
     requires start { start ≡ text_start at (leaves (forest_of node.now.parts)) }
     requires end { end ≡ end_of at (forest_of node.now.parts) }
+    requires ends { ends.now ≡ child_ends at (forest_of node.now.parts) }
     ensures { IfOk result (λ d. option_map verdict_of d ≡ verdict_by
         (ruling rule (around_in parent.entry is_first) (node.now.kind, forest_of node.now.parts)) at
         (node.now.kind, forest_of node.now.parts)) }
@@ -148,7 +153,7 @@ fn decided(
     match rule {
         RuleId::NestedTernary => nested_ternary(alloc, parent, is_first, node, at, start, end),
         RuleId::DotPrecedence => dot_precedence(alloc, parent, is_first, node, at, start, end),
-        RuleId::BraceOffset => brace_offset(alloc, parent, is_first, node, at),
+        RuleId::BraceOffset => brace_offset(alloc, parent, is_first, node, at, ends),
         RuleId::RealCast => real_cast(alloc, parent, is_first, node, at, start),
         RuleId::UnsetCast => unset_cast(alloc, parent, is_first, node, at, start, end),
         RuleId::HashComment => Ok(None),
@@ -171,7 +176,8 @@ fn decided(
     }
 }
 
-/// Puts the place of a rule at a node, which stands between two places, behind others, if it is one.
+/// Puts the place of a rule at a node, which stands between two places, and whose child nodes end at others, behind other
+/// places, if it is one.
 pub fn add_node(
     alloc: Global,
     rule: RuleId,
@@ -180,15 +186,17 @@ pub fn add_node(
     node: &Node,
     at: u32,
     end: u32,
+    ends: &[u32],
     out: &mut Vec<Placed>,
 ) -> Result<(), AllocError>
-    requires { end ≡ end_of at (forest_of node.now.parts) }
+    requires end { end ≡ end_of at (forest_of node.now.parts) }
+    requires ends { ends.now ≡ child_ends at (forest_of node.now.parts) }
     ensures { OnOk result (map seen out.new.items ≡ map seen out.old.items ++ node_places at (forest_of node.now.parts)
         (verdict_by (ruling rule (around_in parent.entry is_first) (node.now.kind, forest_of node.now.parts)) at
         (node.now.kind, forest_of node.now.parts))) }
 {
     let start = ends::text_start(at, node)?;
-    match decided(alloc, rule, parent, is_first, node, at, start, end)? {
+    match decided(alloc, rule, parent, is_first, node, at, start, end, ends)? {
         Some(decision) => add(start, end, decision, out),
         None => Ok(()),
     }

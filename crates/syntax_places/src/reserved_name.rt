@@ -6,11 +6,12 @@ ghost use Rattle.std.specs.Prelude.{◌≡◌, ◌++◌, suc, zero, drop, map, I
 ghost use Rattle.php_tree.specs.Tree.{forest_of, leaf as leaf_then};
 ghost use Rattle.php_tree.specs.Places.{behind as behind_token};
 ghost use Rattle.syntax_places.specs.Seen.{seen};
+ghost use Rattle.syntax_places.specs.ChildEnds.{child_ends};
 ghost use Rattle.syntax_places.specs.NameHeads.{begins as head, shown_if_any};
 ghost use Rattle.syntax_places.specs.ReservedName as spec;
 ghost use Rattle.syntax_places.specs.TokenStandings.{standing_of};
 
-use crate::ends::{past_node, past_token};
+use crate::ends::{first_end, other_ends, past_token};
 use crate::name_heads::{Ahead, begins, in_front};
 use crate::parts::first_leaf;
 use crate::placed::Placed;
@@ -234,8 +235,15 @@ fn step(
     go_on(kind, spot, spot.more - 1, token, rest, out)
 }
 
-/// Puts the tokens of a node itself that 8.3 refuses behind other places, where the node begins at a place.
-pub fn add_reserved(node: &Node, at: u32, out: &mut Vec<Placed>) -> Result<(), AllocError>
+/// Puts the tokens of a node itself that 8.3 refuses behind other places, where the node begins at a place, and its child nodes
+/// end at others.
+pub fn add_reserved(
+    node: &Node,
+    at: u32,
+    ends: &[u32],
+    out: &mut Vec<Placed>,
+) -> Result<(), AllocError>
+    requires { ends.now ≡ child_ends at (forest_of node.now.parts) }
     ensures { OnOk result (map seen out.new.items ≡ map seen out.old.items
         ++ spec.of_reserved at (node.now.kind, forest_of node.now.parts)) }
 {
@@ -245,15 +253,19 @@ pub fn add_reserved(node: &Node, at: u32, out: &mut Vec<Placed>) -> Result<(), A
         standing: at_first(),
     };
     let mut rest = node.parts.as_slice();
+    let mut ahead = ends;
     for part in node.parts.as_slice() {
         rest = tail(rest);
         match part {
             Part::Leaf(token) => spot = step(node.kind, spot, token, rest, out)?,
-            Part::Child(inner) => spot = WordSpot {
-                place: past_node(spot.place, inner)?,
-                more: 0,
-                standing: past_inner(spot.standing),
-            },
+            Part::Child(_) => {
+                spot = WordSpot {
+                    place: first_end(ahead),
+                    more: 0,
+                    standing: past_inner(spot.standing),
+                };
+                ahead = other_ends(ahead);
+            }
         }
     }
     Ok(())

@@ -5,6 +5,7 @@ ghost use Rattle.php_tree.specs.Whole.{file};
 ghost use Rattle.php_tree.specs.Places.{end_of};
 ghost use Rattle.syntax_rules.specs.Around.{at_top, within};
 ghost use Rattle.syntax_places.specs.Seen.{seen};
+ghost use Rattle.syntax_places.specs.ChildEnds.{child_ends};
 ghost use Rattle.syntax_places.specs.NodeRules.{around_in};
 ghost use Rattle.syntax_places.specs.Places.{at_node, in_nodes};
 
@@ -17,7 +18,8 @@ use php_tree::{FileTree, Node, Part};
 use rule_tables::RuleId;
 use std::alloc::{AllocError, Global};
 
-// Puts the places of a rule at a node itself, which stands between two places, behind others.
+// Puts the places of a rule at a node itself, which stands between two places, and whose child nodes end at others, behind
+// other places.
 fn visit(
     alloc: Global,
     rule: RuleId,
@@ -26,35 +28,41 @@ fn visit(
     node: &Node,
     at: u32,
     end: u32,
+    ends: &[u32],
     out: &mut Vec<Placed>,
 ) -> Result<(), AllocError>
-    requires { end ≡ end_of at (forest_of node.now.parts) }
+    requires end { end ≡ end_of at (forest_of node.now.parts) }
+    requires ends { ends.now ≡ child_ends at (forest_of node.now.parts) }
     ensures { OnOk result (map seen out.new.items ≡ map seen out.old.items
         ++ at_node rule (around_in parent.entry is_first) at (node.now.kind, forest_of node.now.parts)) }
 {
     match rule {
-        RuleId::NestedTernary => add_node(alloc, rule, parent, is_first, node, at, end, out),
-        RuleId::DotPrecedence => add_node(alloc, rule, parent, is_first, node, at, end, out),
-        RuleId::BraceOffset => add_node(alloc, rule, parent, is_first, node, at, end, out),
-        RuleId::RealCast => add_node(alloc, rule, parent, is_first, node, at, end, out),
-        RuleId::UnsetCast => add_node(alloc, rule, parent, is_first, node, at, end, out),
-        RuleId::HashComment => add_node(alloc, rule, parent, is_first, node, at, end, out),
-        RuleId::SplitName => add_node(alloc, rule, parent, is_first, node, at, end, out),
-        RuleId::DollarBrace => add_dollar_braces(alloc, node, at, out),
-        RuleId::ReservedName => add_reserved(node, at, out),
-        RuleId::LooseCompare => add_node(alloc, rule, parent, is_first, node, at, end, out),
-        RuleId::WordArithmetic => add_node(alloc, rule, parent, is_first, node, at, end, out),
-        RuleId::NextKey => add_node(alloc, rule, parent, is_first, node, at, end, out),
-        RuleId::OldConstructor => add_node(alloc, rule, parent, is_first, node, at, end, out),
-        RuleId::InheritedStatic => add_node(alloc, rule, parent, is_first, node, at, end, out),
-        RuleId::DynamicProperty => add_node(alloc, rule, parent, is_first, node, at, end, out),
-        RuleId::GetClass => add_node(alloc, rule, parent, is_first, node, at, end, out),
-        RuleId::StaticCall => add_node(alloc, rule, parent, is_first, node, at, end, out),
-        RuleId::BareConstant => add_node(alloc, rule, parent, is_first, node, at, end, out),
-        RuleId::RemovedCall => add_node(alloc, rule, parent, is_first, node, at, end, out),
-        RuleId::ImplodeOrder => add_node(alloc, rule, parent, is_first, node, at, end, out),
-        RuleId::SubstrFalse => add_node(alloc, rule, parent, is_first, node, at, end, out),
-        RuleId::StrposNeedle => add_node(alloc, rule, parent, is_first, node, at, end, out),
+        RuleId::NestedTernary => add_node(alloc, rule, parent, is_first, node, at, end, ends, out),
+        RuleId::DotPrecedence => add_node(alloc, rule, parent, is_first, node, at, end, ends, out),
+        RuleId::BraceOffset => add_node(alloc, rule, parent, is_first, node, at, end, ends, out),
+        RuleId::RealCast => add_node(alloc, rule, parent, is_first, node, at, end, ends, out),
+        RuleId::UnsetCast => add_node(alloc, rule, parent, is_first, node, at, end, ends, out),
+        RuleId::HashComment => add_node(alloc, rule, parent, is_first, node, at, end, ends, out),
+        RuleId::SplitName => add_node(alloc, rule, parent, is_first, node, at, end, ends, out),
+        RuleId::DollarBrace => add_dollar_braces(alloc, node, at, ends, out),
+        RuleId::ReservedName => add_reserved(node, at, ends, out),
+        RuleId::LooseCompare => add_node(alloc, rule, parent, is_first, node, at, end, ends, out),
+        RuleId::WordArithmetic => add_node(alloc, rule, parent, is_first, node, at, end, ends, out),
+        RuleId::NextKey => add_node(alloc, rule, parent, is_first, node, at, end, ends, out),
+        RuleId::OldConstructor => add_node(alloc, rule, parent, is_first, node, at, end, ends, out),
+        RuleId::InheritedStatic => add_node(
+            alloc, rule, parent, is_first, node, at, end, ends, out,
+        ),
+        RuleId::DynamicProperty => add_node(
+            alloc, rule, parent, is_first, node, at, end, ends, out,
+        ),
+        RuleId::GetClass => add_node(alloc, rule, parent, is_first, node, at, end, ends, out),
+        RuleId::StaticCall => add_node(alloc, rule, parent, is_first, node, at, end, ends, out),
+        RuleId::BareConstant => add_node(alloc, rule, parent, is_first, node, at, end, ends, out),
+        RuleId::RemovedCall => add_node(alloc, rule, parent, is_first, node, at, end, ends, out),
+        RuleId::ImplodeOrder => add_node(alloc, rule, parent, is_first, node, at, end, ends, out),
+        RuleId::SubstrFalse => add_node(alloc, rule, parent, is_first, node, at, end, ends, out),
+        RuleId::StrposNeedle => add_node(alloc, rule, parent, is_first, node, at, end, ends, out),
     }
 }
 
@@ -74,15 +82,29 @@ pub fn walk(
         ++ at_node rule (around_in parent.entry is_first) at (node.now.kind, forest_of node.now.parts))) }
 {
     let mut place = at;
+    let mut ends = Vec::new(alloc);
     let mut first = true;
     for part in node.parts.as_slice() {
         match part {
             Part::Leaf(token) => place = past_token(place, token)?,
-            Part::Child(inner) => place = walk(alloc, rule, Some(node), first, inner, place, out)?,
+            Part::Child(inner) => {
+                place = walk(alloc, rule, Some(node), first, inner, place, out)?;
+                ends.push(place)?;
+            }
         }
         first = false;
     }
-    visit(alloc, rule, parent, is_first, node, at, place, out)?;
+    visit(
+        alloc,
+        rule,
+        parent,
+        is_first,
+        node,
+        at,
+        place,
+        ends.as_slice(),
+        out,
+    )?;
     Ok(place)
 }
 
