@@ -4,3 +4,4 @@ pub mod NodeEdits
 pub mod DollarLemmas
 pub mod NameHeadLemmas
 pub mod NamesFoundLemmas
+pub mod FirstTexts

@@ -1,12 +1,9 @@
 // Where nodes end, and where their texts begin.
-ghost use Rattle.std.specs.Prelude.{◌≡◌, ◌+◌, drop, length, IfOk, option_copied};
-ghost use Rattle.php_tree.specs.Tree.{forest_of, leaves};
+ghost use Rattle.std.specs.Prelude.{◌≡◌, ◌+◌, drop, length, Some, IfOk};
 ghost use Rattle.php_tree.specs.Places.{behind};
-ghost use Rattle.php_tree.specs.Ids.{first_of};
-ghost use Rattle.syntax_places.specs.ChildEnds.{first_end as first_end_of};
-ghost use Rattle.syntax_places.specs.NodeRules.{text_start};
+ghost use Rattle.syntax_places.specs.ChildEnds.{first_end as first_end_of, first_place as first_place_of, or_place as or_place_of};
 
-use php_tree::{Node, Part, Token};
+use php_tree::Token;
 use std::alloc::AllocError;
 
 /// The place behind so many bytes that begin at a place. No file is so long that there is none.
@@ -56,29 +53,32 @@ pub fn other_ends(ends: &[u32]) -> &[u32]
     }
 }
 
-// The first token inside a node.
-fn first_token(node: &Node) -> Option<&Token>
-    ensures { option_copied result ≡ first_of (leaves (forest_of node.now.parts)) }
+/// Where the first text begins: at a place that was found before, or in a token whose trivia begin at a place.
+pub fn first_in(start: Option<u32>, at: u32, token: &Token) -> Result<Option<u32>, AllocError>
+    ensures { IfOk result (λ s. s ≡ first_place_of start (Some (at + length token.now.lead))) }
 {
-    for part in node.parts.as_slice() {
-        match part {
-            Part::Leaf(token) => return Some(token),
-            Part::Child(inner) => {
-                if let Some(token) = first_token(inner) {
-                    return Some(token);
-                }
-            }
-        }
+    match start {
+        Some(place) => Ok(Some(place)),
+        None => Ok(Some(past_bytes(at, token.lead.as_slice())?)),
     }
-    None
 }
 
-/// Where the text of a node's first token begins, where the node begins at a place.
-pub fn text_start(at: u32, node: &Node) -> Result<u32, AllocError>
-    ensures { IfOk result (λ place. place ≡ text_start at (leaves (forest_of node.now.parts))) }
+/// The first of two places, if there is one.
+pub fn first_place(start: Option<u32>, other: Option<u32>) -> Option<u32>
+    ensures { result ≡ first_place_of start other }
 {
-    match first_token(node) {
-        Some(token) => past_bytes(at, token.lead.as_slice()),
-        None => Ok(at),
+    match start {
+        Some(place) => Some(place),
+        None => other,
+    }
+}
+
+/// A place that is found, or another one.
+pub fn or_place(at: u32, start: Option<u32>) -> u32
+    ensures { result ≡ or_place_of at start }
+{
+    match start {
+        Some(place) => place,
+        None => at,
     }
 }

@@ -12,7 +12,6 @@ use crate::brace_offset::{bracketed, is_brace_offset};
 use crate::casts::{real, unset};
 use crate::dot_precedence::is_regrouped;
 use crate::edits::wrapped;
-use crate::ends;
 use crate::found::add;
 use crate::nested_ternary::is_nested;
 use crate::placed::Placed;
@@ -185,17 +184,18 @@ pub fn add_node(
     is_first: bool,
     node: &Node,
     at: u32,
+    start: u32,
     end: u32,
     ends: &[u32],
     out: &mut Vec<Placed>,
 ) -> Result<(), AllocError>
+    requires start { start ≡ text_start at (leaves (forest_of node.now.parts)) }
     requires end { end ≡ end_of at (forest_of node.now.parts) }
     requires ends { ends.now ≡ child_ends at (forest_of node.now.parts) }
     ensures { OnOk result (map seen out.new.items ≡ map seen out.old.items ++ node_places at (forest_of node.now.parts)
         (verdict_by (ruling rule (around_in parent.entry is_first) (node.now.kind, forest_of node.now.parts)) at
         (node.now.kind, forest_of node.now.parts))) }
 {
-    let start = ends::text_start(at, node)?;
     match decided(alloc, rule, parent, is_first, node, at, start, end, ends)? {
         Some(decision) => add(start, end, decision, out),
         None => Ok(()),

@@ -3,4 +3,4 @@ use Rattle.syntax_places.proofs.NodeEdits.{starts_before}
 use Rattle.syntax_places.proofs.nodes.add_node.Goals as goal
 
 pub add-requires : goal.add-requires
-add-requires c = starts_before c.args.at c.in_ok-start.start c.args.end (forest_of c.args.node.now.parts) c.in_ok-start.ensures c.requires.end
+add-requires c = starts_before c.args.at c.args.start c.args.end (forest_of c.args.node.now.parts) c.requires.start c.requires.end
