@@ -1,16 +1,18 @@
 -- Whole names are those of the tokens in parts.
-use Rattle.std.proofs.Common.{◌≡◌, ℕ, Bool, true, false, cond, not, ◌&&◌, ◌||◌, List, [], ◌∷◌, ◌++◌, map, refl, sym, ap, ◌∙◌, subst, append_assoc}
+use Rattle.std.proofs.Common.{◌≡◌, ℕ, Bool, true, false, cond, not, ◌&&◌, ◌||◌, codes, List, [], ◌∷◌, ◌++◌, map, refl, sym, ap, ◌∙◌, subst, append_assoc}
+use Rattle.std.specs.Str.{bytes_eq, str_to_ascii_lowercase}
 use Rattle.php_tree.specs.declared.token.TokenKind.{TokenKind}
 use Rattle.php_tree.specs.declared.token.TokenKind.TheVariants as token
 use Rattle.php_spellings.specs.Bytes.{is_empty, begins_by}
 use Rattle.php_lexer.specs.Lexed.{Lexeme}
 use Rattle.tracked_changes.specs.Pieces.{Piece, new_bytes, old_bytes, before, after}
 use Rattle.tracked_changes.specs.Draft.{NewToken}
+use Rattle.tracked_changes.specs.Tokens.{is_text}
 use Rattle.syntax_rules.specs.SplitName as names
 use Rattle.rewritten_tokens.specs.Whole.{is_label_kind, is_name_kind, is_keyword_kind, is_namespace, is_backslash, is_one, before_tokens, whole_tokens}
 use Rattle.rewritten_tokens.specs.Written.{new_lexeme}
 use Rattle.rewritten_tokens.specs.Drafted.{before_all, all_whole, joins}
-use Rattle.rewritten_tokens.specs.Parted.{bare, parted, SamePart, HasText, NamesStay, WholeOfParts}
+use Rattle.rewritten_tokens.specs.Parted.{bare, parted, may_be_part, SamePart, HasText, NamesStay, WholeOfParts}
 
 -- ---- bytes
 
@@ -46,13 +48,26 @@ by_front (x ∷ xs) ys h = refl
 -- what is first of a whole name is the same before and after
 abbrev SameFront : List NewToken → Type 0
 SameFront [] = Unit {0}
-SameFront (u ∷ us) = names.begins_root (before u.text) ≡ begins_by 92 (after u.text)
+SameFront (u ∷ us) = may_be_part u.kind ≡ true → names.begins_root (before u.text) ≡ begins_by 92 (after u.text)
 
-one_front : (t u : NewToken) → SamePart t → HasText t → names.begins_root (before (names.one_name t u).text) ≡ begins_by 92 (after (names.one_name t u).text)
-one_front t u same text =
+-- what joins what follows may be a part of a name
+kind_by : (k : TokenKind) (a b c d e : Bool) → (((names.is_op k && a) && b) || (((names.is_label k || (names.is_keyword k && c)) && d) && e)) ≡ true → may_be_part k ≡ true
+kind_by token.Label a b c d e h = refl
+kind_by token.Keyword a b c d e h = refl
+kind_by token.Op a b c d e h = refl
+kind_by token.Name a b c d e h = refl
+kind_by _ a b c d e h = absurd cc
+
+joins_part : (t u : NewToken) → names.is_one t u ≡ true → may_be_part t.kind ≡ true
+joins_part t u h =
+    kind_by t.kind (is_text (codes "\\") t) (names.is_label u.kind || (names.is_name u.kind && not (names.begins_root (before u.text))))
+    (bytes_eq (str_to_ascii_lowercase (before t.text)) (codes "namespace")) (names.is_name u.kind) (names.begins_root (before u.text)) h
+
+one_front : (t u : NewToken) → SamePart t → HasText t → may_be_part t.kind ≡ true → names.begins_root (before (names.one_name t u).text) ≡ begins_by 92 (after (names.one_name t u).text)
+one_front t u same text part =
     ap names.begins_root (before_append (t.text ++ names.deleted (before u.lead)) u.text ∙ ap (λ (l : List ℕ). l ++ before u.text) (before_append t.text (names.deleted (before u.lead))) ∙ append_assoc (before t.text) (before (names.deleted (before u.lead))) (before u.text))
     ∙ root_front (before t.text) (before (names.deleted (before u.lead)) ++ before u.text) text.old
-    ∙ same.front
+    ∙ same.front part
     ∙ sym (by_front (after t.text) (after u.text) text.new)
     ∙ sym (ap (begins_by 92) (joined_text t u))
 
@@ -75,9 +90,20 @@ shape p l n r true d = refl
 shape p l n r false true = refl
 shape p l n r false false = refl
 
-one_is : (t u : NewToken) → SamePart t → names.begins_root (before u.text) ≡ begins_by 92 (after u.text) → names.is_one t u ≡ is_one t.kind (after t.text) u.kind (after u.text)
+name_part : (k : TokenKind) → names.is_name k ≡ true → may_be_part k ≡ true
+name_part token.Name e = refl
+name_part _ e = absurd cc
+
+-- how a text begins is asked of names alone
+of_names : (p l n r s w : Bool) → (n ≡ true → r ≡ s) → ((p && (l || (n && not r))) || ((w && n) && r)) ≡ ((p && (l || (n && not s))) || ((w && n) && s))
+of_names p l true r s w f = rw (f refl) refl
+of_names p l false r s true f = refl
+of_names p l false r s false f = refl
+
+one_is : (t u : NewToken) → SamePart t → (may_be_part u.kind ≡ true → names.begins_root (before u.text) ≡ begins_by 92 (after u.text)) → names.is_one t u ≡ is_one t.kind (after t.text) u.kind (after u.text)
 one_is t u same front =
-    rw (same.backslash, same.word, front, label_is t.kind, label_is u.kind, name_is u.kind, if_and (is_keyword_kind t.kind) (is_namespace (after t.text)))
+    of_names (names.is_backslash t) (names.is_label u.kind) (names.is_name u.kind) (names.begins_root (before u.text)) (begins_by 92 (after u.text)) (names.is_label t.kind || names.is_namespace t) (λ h. front (name_part u.kind h))
+    ∙ rw (same.backslash, same.word, label_is t.kind, label_is u.kind, name_is u.kind, if_and (is_keyword_kind t.kind) (is_namespace (after t.text)))
     (shape (is_backslash t.kind (after t.text)) (is_label_kind u.kind) (is_name_kind u.kind) (begins_by 92 (after u.text)) (is_label_kind t.kind) (is_keyword_kind t.kind && is_namespace (after t.text)))
 
 -- ---- tokens without the trivia before the first
@@ -116,7 +142,7 @@ apart_drafts : (t : NewToken) (us : List NewToken) → joins t us ≡ false → 
 apart_drafts t [] h = refl
 apart_drafts t (u ∷ us) h = rw h refl
 
-one_tokens : (t u : NewToken) (us : List NewToken) → SamePart t → names.begins_root (before u.text) ≡ begins_by 92 (after u.text) → names.is_one t u ≡ true → before_tokens (new_lexeme t) (bare_first (map new_lexeme (u ∷ us))) ≡ new_lexeme (names.one_name t u) ∷ map new_lexeme us
+one_tokens : (t u : NewToken) (us : List NewToken) → SamePart t → (may_be_part u.kind ≡ true → names.begins_root (before u.text) ≡ begins_by 92 (after u.text)) → names.is_one t u ≡ true → before_tokens (new_lexeme t) (bare_first (map new_lexeme (u ∷ us))) ≡ new_lexeme (names.one_name t u) ∷ map new_lexeme us
 one_tokens t u us same front h =
     let one : is_one t.kind (after t.text) u.kind (after u.text) ≡ true = sym (one_is t u same front) ∙ h in
     rw one (ap (λ (l : List ℕ). record { kind = token.Name; lead = after t.lead; text = l } ∷ map new_lexeme us) (sym (joined_text t u)))
@@ -146,7 +172,7 @@ module _ (t : NewToken) (ts : List NewToken) (same : SamePart t) (ih : Parts ts)
             ∙ ap (before_tokens (new_lexeme t)) (sym (bare_whole (map new_lexeme (parted ts))))
             ∙ ap (λ (l : List Lexeme). before_tokens (new_lexeme t) (whole_tokens l)) (sym (bare_is (parted ts)))
             ∙ ap (λ (b : Bool). whole_tokens (new_lexeme t ∷ map new_lexeme (cond b (bare (parted ts)) (parted ts)))) (sym there);
-        front = subst SameFront (sym whole) (one_front t u same text);
+        front = subst SameFront (sym whole) (λ part. one_front t u same text (joins_part t u h));
       }
 
   parts_by : (b : Bool) → joins t (all_whole ts) ≡ b → (joins t (all_whole ts) ≡ true → HasText t) → Parts (t ∷ ts)

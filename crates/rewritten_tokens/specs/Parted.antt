@@ -1,5 +1,7 @@
 -- A draft's tokens with the trivia inside names deleted, each name still in parts: as 7.4 has them.
-use Rattle.std.specs.Prelude.{◌≡◌, true, false, if◌then◌else◌, List, [], ◌∷◌, map}
+use Rattle.std.specs.Prelude.{◌≡◌, Bool, true, false, if◌then◌else◌, List, [], ◌∷◌, map}
+use Rattle.php_tree.specs.declared.token.TokenKind.{TokenKind}
+use Rattle.php_tree.specs.declared.token.TokenKind.TheVariants as token
 use Rattle.php_spellings.specs.Bytes.{is_empty, begins_by}
 use Rattle.tracked_changes.specs.Pieces.{before, after}
 use Rattle.tracked_changes.specs.Draft.{NewToken}
@@ -18,11 +20,19 @@ abbrev pub parted : List NewToken → List NewToken
 parted [] = []
 parted (t ∷ ts) = t ∷ (if joins t (all_whole ts) then bare (parted ts) else parted ts)
 
+-- whether tokens of the kind may be parts of names
+abbrev pub may_be_part : TokenKind → Bool
+may_be_part token.Label = true
+may_be_part token.Keyword = true
+may_be_part token.Op = true
+may_be_part token.Name = true
+may_be_part _ = false
+
 -- A token is the same part of a name before and after the changes.
 pub record SamePart (t : NewToken) : Type 0 where
   pub backslash : names.is_backslash t ≡ is_backslash t.kind (after t.text)
   pub word : names.is_namespace t ≡ (if is_keyword_kind t.kind then is_namespace (after t.text) else false)
-  pub front : names.begins_root (before t.text) ≡ begins_by 92 (after t.text)
+  pub front : may_be_part t.kind ≡ true → names.begins_root (before t.text) ≡ begins_by 92 (after t.text)
 
 -- A token has a text before and after the changes.
 pub record HasText (t : NewToken) : Type 0 where
