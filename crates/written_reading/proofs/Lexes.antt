@@ -3,6 +3,4 @@ use Rattle.rewritten_tokens.proofs.Parts.{parts_are_written}
 use Rattle.written_reading.specs.Parted.{RowsAreLexed}
 
 pub rows_are_lexed : RowsAreLexed
-rows_are_lexed rows bytes f read reported safe =
-    let r = rows bytes f read reported safe in
-    parts_are_written bytes f r.row read r.within r.texts r.stay r.steps r.common r.apart r.same
+rows_are_lexed bytes f read r = parts_are_written bytes f r.row read r.within r.texts r.stay r.steps r.common r.apart r.same

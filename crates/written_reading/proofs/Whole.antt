@@ -16,7 +16,7 @@ use Rattle.written_reading.specs.Laws.{ShapedIsRead, RewrittenIsRead}
 use Rattle.written_reading.proofs.Sources.{sources_are_spelled}
 
 -- the texts of a file that 7.4 reads
-spelled : (bytes : List ℕ) (f : File) → Reads V74 bytes f → AreSpelled f.statements
+pub spelled : (bytes : List ℕ) (f : File) → Reads V74 bytes f → AreSpelled f.statements
 spelled bytes f r = sources_are_spelled V74 bytes f (subst (TokensOf V74 bytes) r.parsed.text r.lexed)
 
 -- that files with the shape are read
@@ -31,5 +31,5 @@ shaped_is_read file_is_read bytes f r shape tokens =
     record { reads = reads; only = λ g h. one_tree V83 (file_printed (rewritten f)) g (rewritten f) h reads }
 
 pub rewritten_is_read : ShapedIsRead → RewrittenHasShape → RewrittenIsRead
-rewritten_is_read shaped_is_read shapes lexes bytes f r reported safe =
-    shaped_is_read bytes f r (shapes f (file_has_shape V74 r.tokens f r.parsed).0 (spelled bytes f r) reported) (lexes bytes f r reported safe)
+rewritten_is_read shaped_is_read shapes bytes f r reported tokens =
+    shaped_is_read bytes f r (shapes f (file_has_shape V74 r.tokens f r.parsed).0 (spelled bytes f r) reported) tokens

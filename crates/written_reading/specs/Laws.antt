@@ -9,7 +9,7 @@ use Rattle.php_shapes.specs.Shapes.{Shape}
 use Rattle.php_reading.specs.Reading.{Reads}
 use Rattle.syntax_rules.specs.Rewritten.{rewritten}
 use Rattle.rewritten_shapes.specs.Laws.{AreSpelled, NoneReported, is_namespace_label, opens_name}
-use Rattle.rewritten_tokens.specs.Written.{NoNullsafeText, HasTokens}
+use Rattle.rewritten_tokens.specs.Written.{HasTokens}
 
 -- ---- the texts of tokens
 
@@ -50,23 +50,12 @@ ShapedIsRead =
     HasTokens (rewritten f) →
     IsRead V83 (rewritten f)
 
--- A file that 7.4 reads has the tokens of 8.3 once it is rewritten, where the rules report nothing that stops compiling, and
--- no simple variable of a quoted text stands directly before `?->` and a letter.
-abbrev pub RewrittenIsLexed : Type 0
-RewrittenIsLexed =
-    (bytes : List ℕ) (f : File) →
-    Reads V74 bytes f →
-    NoneReported f.statements →
-    NoNullsafeText f →
-    HasTokens (rewritten f)
-
--- Where rewritten files have their tokens, each file that 7.4 reads is read by 8.3 once it is rewritten, where the rules report
--- nothing that stops compiling.
+-- A file that 7.4 reads is read by 8.3 once it is rewritten, where the rules report nothing that stops compiling, and it then
+-- has the tokens of 8.3.
 abbrev pub RewrittenIsRead : Type 0
 RewrittenIsRead =
-    RewrittenIsLexed →
     (bytes : List ℕ) (f : File) →
     Reads V74 bytes f →
     NoneReported f.statements →
-    NoNullsafeText f →
+    HasTokens (rewritten f) →
     IsRead V83 (rewritten f)

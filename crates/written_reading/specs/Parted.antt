@@ -6,14 +6,13 @@ use Rattle.php_lexer.specs.Lexed.{start}
 use Rattle.php_relexing.specs.Tiles.{Tile}
 use Rattle.php_relexing.specs.Spelled.{Steps, spelled}
 use Rattle.php_reading.specs.Reading.{Reads}
-use Rattle.rewritten_shapes.specs.Laws.{NoneReported}
+use Rattle.syntax_rules.specs.Rewritten.{rewritten}
 use Rattle.rewritten_tokens.specs.Names.{all_common}
 use Rattle.rewritten_tokens.specs.Whole.{all_apart}
-use Rattle.rewritten_tokens.specs.Written.{new_lexeme, draft_tokens, NoNullsafeText}
+use Rattle.rewritten_tokens.specs.Written.{new_lexeme, draft_tokens, HasTokens}
 use Rattle.rewritten_tokens.specs.Drafted.{names_within}
 use Rattle.rewritten_tokens.specs.Parted.{parted, NamesStay}
 use Rattle.rewritten_tokens.specs.Spaced.{nameless_draft, in_parts, PartsHaveText}
-use Rattle.written_reading.specs.Laws.{RewrittenIsLexed}
 
 -- In 7.4 the rewritten bytes have a row of tokens and trivia that is the draft's, with names in parts, and 8.3 takes the row
 -- as 7.4 does.
@@ -27,15 +26,6 @@ pub record HasRow (f : File) : Type 0 where
   pub apart : all_apart row ≡ true
   pub same : spelled [] row ≡ map new_lexeme (parted (in_parts f)) ++ new_lexeme (nameless_draft f).end ∷ []
 
--- Each file that 7.4 reads has such a row, where the rules report nothing that stops compiling.
-abbrev pub RowsAreThere : Type 0
-RowsAreThere =
-    (bytes : List ℕ) (f : File) →
-    Reads V74 bytes f →
-    NoneReported f.statements →
-    NoNullsafeText f →
-    HasRow f
-
--- Where files have such rows, they have the tokens of 8.3 once they are rewritten.
+-- A file that 7.4 reads and that has such a row has the tokens of 8.3 once it is rewritten.
 abbrev pub RowsAreLexed : Type 0
-RowsAreLexed = RowsAreThere → RewrittenIsLexed
+RowsAreLexed = (bytes : List ℕ) (f : File) → Reads V74 bytes f → HasRow f → HasTokens (rewritten f)

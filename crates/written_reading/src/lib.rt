@@ -14,8 +14,8 @@ pub fn no_name_is_namespace()
     ensures { NoNameIsNamespace }
 {}
 
-/// Files that 7.4 has a row of tokens for, once they are rewritten but for the joining of names, have the
-/// tokens of 8.3 once they are rewritten.
+/// A file that 7.4 has a row of tokens for, once it is rewritten but for the joining of names, has the
+/// tokens of 8.3 once it is rewritten.
 pub fn rows_are_lexed()
     ensures { RowsAreLexed }
 {}
@@ -28,8 +28,8 @@ pub fn shaped_is_read()
     php_shapes::files_with_the_shape_are_read();
 }
 
-/// Where rewritten files have their tokens, each file that 7.4 reads is read by 8.3 from its bytes once
-/// it is rewritten, and no other file is, where the rules report nothing that stops compiling.
+/// A file that 7.4 reads is read by 8.3 from its bytes once it is rewritten, and no other file is, where
+/// the rules report nothing that stops compiling, and it then has the tokens of 8.3.
 pub fn rewritten_is_read()
     ensures { RewrittenIsRead }
 {
