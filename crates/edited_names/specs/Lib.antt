@@ -1,0 +1,5 @@
+pub mod Fronts
+pub mod Leads
+pub mod Named
+pub mod NamesPut
+pub mod Apart
