@@ -43,7 +43,7 @@ is_one_of [] n = false
 is_one_of (c ∷ cs) n = nat_eq (code c) n || is_one_of cs n
 
 -- whether a test holds of all labels
-abbrev labels_hold : (ℕ → Bool) → Bool
+abbrev pub labels_hold : (ℕ → Bool) → Bool
 labels_hold q = q (code t.Label) && (q (code t.Match) && (q (code t.Readonly) && q (code t.MixedOrNever)))
 
 -- whether a test holds of each class that is taken where a form of 7.4 asks for this one; words are left to another test
@@ -79,7 +79,7 @@ label_holds q t.MixedOrNever h e =
     both_right (q (code t.Readonly)) _ (both_right (q (code t.Match)) _ (both_right (q (code t.Label)) _ h))
 label_holds q _ h e = absurd cc
 
-label_or : (q : ℕ → Bool) (c own : Terminal) → (q (code c) && labels_hold q) ≡ true → (is_any_label own || same_class c own) ≡ true → q (code own) ≡ true
+pub label_or : (q : ℕ → Bool) (c own : Terminal) → (q (code c) && labels_hold q) ≡ true → (is_any_label own || same_class c own) ≡ true → q (code own) ≡ true
 label_or q c own h e =
     by_either (is_any_label own) (same_class c own) (q (code own)) (label_holds q own (both_right (q (code c)) (labels_hold q) h))
     (same q c own (both_left (q (code c)) (labels_hold q) h)) e

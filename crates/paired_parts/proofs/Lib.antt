@@ -6,3 +6,7 @@ pub mod Edges
 pub mod Stops
 pub mod Fronts
 pub mod Pairing
+pub mod States
+pub mod NameTokens
+pub mod TraitNames
+pub mod NameRuns

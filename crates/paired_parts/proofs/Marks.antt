@@ -133,6 +133,12 @@ pub arrow : (x : Token) → accepts V74 t.Arrow x ≡ true → x.kind ≡ kind.O
 unfolding signs
 arrow x e = sign_kind t.Arrow x refl e
 
+pub arrow_text : (x : Token) → accepts V74 t.Arrow x ≡ true → x.text ≡ 45 ∷ 62 ∷ []
+unfolding operators signs
+arrow_text x e =
+    let o : same_class t.Arrow (operator x.text) ≡ true = ap (λ (sort : TokenKind). same_class t.Arrow (terminal_by sort x.text)) (sym (arrow x e)) ∙ e in
+    low_word (45 ∷ 62 ∷ []) x.text refl (one_alone (45 ∷ 62 ∷ []) x.text (found t.Arrow t.OtherOp operators x.text refl o))
+
 pub question : (x : Token) → accepts V74 t.Question x ≡ true → x.kind ≡ kind.Op
 unfolding signs
 question x e = sign_kind t.Question x refl e

@@ -17,6 +17,7 @@ use Rattle.php_shapes.specs.Places.{is_expression}
 use Rattle.php_shapes.specs.Quoted.{interpolated, quoted_part, simple_key}
 use Rattle.php_shapes.specs.Shapes.{Fits, is_nothing, is_word, is_kind, is_place, is_inside, is_both, is_first, is_second, no_more, once_more, is_tokens, IsNode, is_node}
 use Rattle.syntax_rules.specs.DotPrecedence.{is_binary}
+use Rattle.syntax_rules.specs.SplitName.{is_label}
 use Rattle.rewritten_shapes.proofs.NameParts.{label_token}
 use Rattle.paired_parts.specs.Laws.{ShapedFilesArePaired}
 use Rattle.paired_parts.specs.Paired as pairs
@@ -204,12 +205,12 @@ fine_node j r c f e p o q =
 
 -- ---- uses of traits
 
-plain_front : (f g : Forest) → PlainTraits (f +++ g) → PlainTraits f
+pub plain_front : (f g : Forest) → PlainTraits (f +++ g) → PlainTraits f
 plain_front none g w = tt
 plain_front (leaf x f) g w = plain_front f g w
 plain_front (node j c f) g w = (w.0, w.1, plain_front f g w.2)
 
-plain_rest : (f g : Forest) → PlainTraits (f +++ g) → PlainTraits g
+pub plain_rest : (f g : Forest) → PlainTraits (f +++ g) → PlainTraits g
 plain_rest none g w = w
 plain_rest (leaf x f) g w = plain_rest f g w
 plain_rest (node j c f) g w = plain_rest f g w.2
@@ -218,9 +219,9 @@ plain_rest (node j c f) g w = plain_rest f g w.2
 plain_paired : (f : Forest) (u : Token) → are_plain (f +++ leaf u none) ≡ true → Paired f
 plain_paired none u e = pairs.no_part
 plain_paired (leaf x none) u e =
-    pairs.token (both_left (is_code_token x) _ (both_left (is_plain x) true e)) pairs.no_part
+    pairs.token (both_left (is_code_token x) _ (both_left (is_plain x) _ e)) pairs.no_part
 plain_paired (leaf x (leaf y f)) u e =
-    pairs.token (both_left (is_code_token x) _ (both_left (is_plain x) _ e)) (plain_paired (leaf y f) u (both_right (is_plain x) _ e))
+    pairs.token (both_left (is_code_token x) _ (both_left (is_plain x) _ e)) (plain_paired (leaf y f) u (both_right (not (is_mark 92 x) || is_label y.kind) _ (both_right (is_plain x) _ e)))
 plain_paired (leaf x (node j c f)) u e = absurd cc
 plain_paired (node j c f) u e = absurd cc
 
@@ -284,6 +285,13 @@ past_code (leaf x f) g e =
     ∙ past_code f g (both_right (is_code_token x) (are_code f) e)
 past_code (node j c f) g e = absurd cc
 
+-- behind `use` and names
+pub past_names : (x : Token) (g h : Forest) → accepts V74 t.Use x ≡ true → Fits V74 (names V74) g → has_plain_rules (leaf x (g +++ h)) ≡ has_plain_rules h
+unfolding outer
+past_names x g h p q =
+    past_code (leaf x none) (g +++ h) (both_true (is_code_token x) true (code_taken t.Use x refl p) refl)
+    ∙ past_code g h (fits_code {r = names V74} refl q)
+
 rules_paired : (h : Forest) → Fits V74 (word t.Semi ||| (word t.OpenBrace ~ tokens ~ word t.CloseBrace)) h → has_plain_rules h ≡ true → Paired h
 unfolding outer
 rules_paired h (is_first (is_word {x} p)) w = pairs.token (code_taken t.Semi x refl p) pairs.no_part
@@ -320,7 +328,7 @@ simple_part (is_second (is_first (is_inside {c} (is_both (is_inside (is_word {x}
     pairs.simple (subst (IsSimple k.Offset) (sym same) (pairs.with_offset (told.variable x p) (told.open_bracket b q) (key_is r u (told.close_bracket u w)))) o
 simple_part (is_second (is_second (is_inside {c} (is_both (is_inside (is_word {x} p) m) (is_both (is_word {x = b} q) (is_word {x = u} w) d2) d1) near))) h o =
     let same : c ≡ node k.Variable (leaf x none) (leaf b (leaf u none)) = d1 ∙ ap (node k.Variable (leaf x none)) d2 in
-    pairs.simple (subst (IsSimple k.Prop) (sym same) (pairs.with_property (told.variable x p) (told.arrow b q) (label_token u w))) o
+    pairs.simple (subst (IsSimple k.Prop) (sym same) (pairs.with_property (told.variable x p) (told.arrow b q) (told.arrow_text b q) (label_token u w))) o
 
 -- ---- steps
 

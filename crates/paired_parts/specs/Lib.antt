@@ -1,4 +1,5 @@
 pub mod Laws
+pub mod Names
 pub mod Paired
 pub mod Tokens
 pub mod Traits

@@ -1,5 +1,5 @@
 -- Trees whose braces stand in pairs and whose quoted texts are whole, part by part, as tokens are read in modes.
-use Rattle.std.specs.Prelude.{◌≡◌, Bool, true, false, not, ◌||◌}
+use Rattle.std.specs.Prelude.{◌≡◌, Bool, true, false, not, ◌||◌, [], ◌∷◌}
 use Rattle.php_tree.specs.declared.kind.NodeKind.{NodeKind}
 use Rattle.php_tree.specs.declared.kind.NodeKind.TheVariants as k
 use Rattle.php_tree.specs.declared.token.Token.{Token}
@@ -45,14 +45,14 @@ pub data IsKey : Forest → Type 0 where
   variable :
       {t u : Token} → t.kind ≡ kind.Variable → IsMark 93 u → IsKey (node k.Variable (leaf t none) (leaf u none))
 
--- A variable, alone, with a simple offset, or with a simple property.
+-- A variable, alone, with a simple offset, or with a simple property: `->` is 45 and 62.
 pub data IsSimple : NodeKind → Forest → Type 0 where
   alone : {t : Token} → t.kind ≡ kind.Variable → IsSimple k.Variable (leaf t none)
   with_offset :
       {t o : Token} {f : Forest} → t.kind ≡ kind.Variable → IsMark 91 o → IsKey f →
       IsSimple k.Offset (node k.Variable (leaf t none) (leaf o f))
   with_property :
-      {t o u : Token} → t.kind ≡ kind.Variable → o.kind ≡ kind.Op → u.kind ≡ kind.Label →
+      {t o u : Token} → t.kind ≡ kind.Variable → o.kind ≡ kind.Op → o.text ≡ 45 ∷ 62 ∷ [] → u.kind ≡ kind.Label →
       IsSimple k.Prop (node k.Variable (leaf t none) (leaf o (leaf u none)))
 
 -- ---- parts

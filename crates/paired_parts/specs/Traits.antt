@@ -7,17 +7,18 @@ use Rattle.php_tree.specs.declared.token.Token.{Token}
 use Rattle.php_tree.specs.Tree.{Forest, none, leaf, node}
 use Rattle.php_terminals.specs.Classify.{terminal}
 use Rattle.php_terminals.specs.Marks.{closes, opens}
+use Rattle.syntax_rules.specs.SplitName.{is_label}
 use Rattle.paired_parts.specs.Tokens.{is_code_token, is_mark}
 
 -- whether a token is no bracket and belongs to no quoted text
 abbrev pub is_plain : Token → Bool
 is_plain t = is_code_token t && not (opens (terminal t) || closes (terminal t))
 
--- whether all tokens are so but the last, which is `}`
+-- whether all tokens are so but the last, which is `}`, and a label stands behind each `\`
 abbrev pub are_plain : Forest → Bool
 are_plain none = true
 are_plain (leaf t none) = true
-are_plain (leaf t (leaf u f)) = is_plain t && are_plain (leaf u f)
+are_plain (leaf t (leaf u f)) = is_plain t && ((not (is_mark 92 t) || is_label u.kind) && are_plain (leaf u f))
 are_plain (leaf t (node k c f)) = false
 are_plain (node k c f) = false
 
@@ -31,7 +32,7 @@ abbrev pub is_trait_use : NodeKind → Bool
 is_trait_use k.TraitUse = true
 is_trait_use _ = false
 
--- Between the braces of each use of traits stand no brackets and no quoted texts.
+-- Between the braces of each use of traits stand no brackets and no quoted texts, and a label behind each `\`.
 abbrev pub PlainTraits : Forest → Type 0
 PlainTraits none = Unit {0}
 PlainTraits (leaf t f) = PlainTraits f
