@@ -1,25 +1,20 @@
--- Files without a report: 8.3 reads what is written of them, where it has its tokens.
-use Rattle.std.proofs.Common.{◌≡◌, ℕ, zero, suc, Bool, true, false, cond, List, [], ◌∷◌, ◌++◌, refl, ap, sym, ◌∙◌, subst}
+-- Files without a report: 8.3 reads what is written of them.
+use Rattle.std.proofs.Common.{◌≡◌, ℕ, zero, suc, Bool, true, false, cond, List, [], ◌∷◌, ◌++◌, refl, ap, sym, ◌∙◌}
 use Rattle.std.specs.Prelude.{filter, Option}
 use Rattle.std.proofs.lemmas.List.Elements.{filter-append}
 use Rattle.rule_tables.specs.declared.rule.RuleId.TheVariants as rule
 use Rattle.php_tree.specs.declared.token.Token.{Token}
 use Rattle.php_tree.specs.declared.kind.NodeKind.{NodeKind}
-use Rattle.php_tree.specs.declared.version.Version.TheVariants.{V74, V83}
+use Rattle.php_tree.specs.declared.version.Version.TheVariants.{V74}
 use Rattle.php_tree.specs.Tree.{Forest, none, leaf, node, File, file_leaves}
 use Rattle.php_tree.specs.Places.{behind, end_of}
 use Rattle.php_terminals.specs.declared.terminal.Terminal.{Terminal}
 use Rattle.php_terminals.specs.declared.terminal.Terminal.TheVariants as t
 use Rattle.php_terminals.specs.Classify.{terminal}
-use Rattle.php_lexer.specs.Lexed.{TokensOf}
 use Rattle.php_reading.specs.Reading.{Reads}
 use Rattle.syntax_rules.specs.Around.{Around, within, at_top}
-use Rattle.syntax_rules.specs.Rewritten.{rewritten}
 use Rattle.rewritten_shapes.specs.Laws.{NoneReported}
-use Rattle.rewritten_shapes.proofs.Wholly.{rewritten_has_shape}
-use Rattle.rewritten_tokens.specs.Written.{HasTokens}
-use Rattle.written_reading.specs.Laws.{IsRead, ShapedIsRead}
-use Rattle.written_reading.proofs.Sources.{sources_are_spelled}
+use Rattle.edited_rows.specs.Laws.{WrittenFilesAreRead}
 use Rattle.syntax_places.specs.Seen.{Verdict, keeps, edited, undecided, Place}
 use Rattle.syntax_places.specs.Places.{in_nodes, places}
 use Rattle.syntax_places.specs.ReservedName.{Standing, at_first, past, past_node, class_by, refused_if, refused_tokens, enums}
@@ -27,8 +22,8 @@ use Rattle.syntax_places.specs.NameHeads.{head_at}
 use Rattle.nothing_reported.specs.Laws.{has_cause, AreDecided}
 use Rattle.nothing_reported.proofs.AllNodes.{nothing_reported}
 use Rattle.upgrade_cli.specs.Reports.{is_left, is_undecided, reports, undecided_places}
+use Rattle.upgrade_cli.specs.Headline.{ReadsBack}
 use Rattle.upgrade_cli.proofs.Counting.{two_rules}
-use Rattle.upgrade_cli.proofs.Refusals.{shaped}
 
 -- ---- each refused word stays
 
@@ -99,8 +94,6 @@ clear bytes f r e =
 
 -- ---- what 8.3 reads
 
-pub clear_is_read : ShapedIsRead → (bytes : List ℕ) (f : File) → Reads V74 bytes f → reports f ≡ []
-    → HasTokens (rewritten f) → IsRead V83 (rewritten f)
-clear_is_read shaped_is_read bytes f r e tokens =
-    let spelled = sources_are_spelled V74 bytes f (subst (TokensOf V74 bytes) r.parsed.text r.lexed) in
-    shaped_is_read bytes f r (rewritten_has_shape f (shaped bytes f r) spelled (clear bytes f r e)) tokens
+pub clear_is_read : WrittenFilesAreRead → (bytes : List ℕ) (f : File) → Reads V74 bytes f → ReadsBack f
+clear_is_read written_is_read bytes f r e plain =
+    written_is_read bytes f r (clear bytes f r e) plain.nullsafe plain.traits plain.texts

@@ -4,9 +4,8 @@ use Rattle.std.specs.Prelude.{Option, Some, None, IfSome, Result, Ok, Err}
 use Rattle.span_edits.specs.EditList.{AreApart}
 use Rattle.span_edits.specs.Splice.{spliced}
 use Rattle.php_tree.specs.Tree.{File, file_printed}
-use Rattle.php_tree.specs.declared.version.Version.TheVariants.{V74, V83}
+use Rattle.php_tree.specs.declared.version.Version.TheVariants.{V74}
 use Rattle.php_shapes.specs.Shapes.{Shape}
-use Rattle.echo_form.specs.Form.{Reads as HasForm}
 use Rattle.php_reading.specs.Reading.{Reads}
 use Rattle.php_reading.proofs.Trees.{is_printed}
 use Rattle.php_meaning.specs.World.{Bytes}
@@ -19,9 +18,7 @@ use Rattle.syntax_rules.specs.Keeps.{all_rewritten}
 use Rattle.syntax_rules.proofs.TogetherKeeps.{syntax_is_rewritten}
 use Rattle.syntax_edits.proofs.NextEdit.{makes_rewritten}
 use Rattle.rewriting_keeps.proofs.Single.{shaped_files_keep_meaning}
-use Rattle.grouped_reading.proofs.AllRules.{all_rules_group}
-use Rattle.grouped_reading.proofs.Whole.{grouped_is_php}
-use Rattle.written_reading.specs.Laws.{IsRead, ShapedIsRead}
+use Rattle.edited_rows.specs.Laws.{WrittenFilesAreRead}
 use Rattle.io_ports.specs.Files as ports
 use Rattle.upgrade_cli.specs.declared.stop.Status.{Status}
 use Rattle.upgrade_cli.specs.declared.stop.Status.TheVariants as status
@@ -38,27 +35,22 @@ use Rattle.upgrade_cli.proofs.Refusals.{shaped}
 
 -- ---- what is written
 
-of_form : (bytes : List ℕ) (t : File) → HasForm V74 bytes t → IsRead V83 (rewritten t)
-of_form bytes t r =
-    let is = grouped_is_php bytes t r in
-    subst (λ g. IsRead V83 g) (sym (all_rules_group bytes t r).same) (record { reads = is.reads; only = is.only })
-
 edits_apart : (t : File) → AreApart 0 (edits t) (length (file_printed t))
 edits_apart t =
     subst (λ (bs : List ℕ). AreApart 0 (edits t) (length bs)) (syntax_is_rewritten.bytes (all_on (patches t.statements)) t)
     (edits_are_apart (draft_of t))
 
-file_written : ShapedIsRead → (bytes : List ℕ) (t : File) → Reads V74 bytes t
+file_written : WrittenFilesAreRead → (bytes : List ℕ) (t : File) → Reads V74 bytes t
     → IsWritten bytes t (file_printed (rewritten t))
 file_written law bytes t r = record {
   source = r;
   printed = refl;
   spliced_in = sym (makes_rewritten t) ∙ ap (λ bs. spliced bs (edits t)) (is_printed V74 bytes t r);
   apart = subst (λ (bs : List ℕ). AreApart 0 (edits t) (length bs)) (is_printed V74 bytes t r) (edits_apart t);
-  reads_back = record { clear = clear_is_read law bytes t r; form = of_form bytes t };
+  reads_back = clear_is_read law bytes t r;
 }
 
-are_written : ShapedIsRead → (files : List ports.File) (trees : List File) → AreRead files trees → AreWritten files trees
+are_written : WrittenFilesAreRead → (files : List ports.File) (trees : List File) → AreRead files trees → AreWritten files trees
 are_written law [] [] r = tt
 are_written law (f ∷ []) (t ∷ []) r = (file_written law f.1 t r.reads, tt)
 are_written law [] (t ∷ ts) r = tt
@@ -92,7 +84,7 @@ means_the_same files h =
 -- ---- all of it
 
 -- all was done, and the line was put
-done_headline : ShapedIsRead
+done_headline : WrittenFilesAreRead
     → (files before : List ports.File) (after : Option (List ports.File)) (held held' : Option (List ℕ)) (s : Summary) (result : Status)
     → IsDone files (Some before) after s → result ≡ status_of (Ok s)
     → IfSome held (λ old. held' ≡ Some (old ++ summary_line s))
@@ -121,7 +113,7 @@ not_done stop.SourceFault h = h
 not_done stop.TargetFault h = h
 not_done stop.Memory h = h
 
-came_headline : ShapedIsRead
+came_headline : WrittenFilesAreRead
     → (files before : List ports.File) (after : Option (List ports.File)) (held held' : Option (List ℕ)) (came : Result Summary Stop) (result : Status)
     → IsOutcome files (Some before) after came → AllDone result → result ≡ status_of came
     → ((s : Summary) → came ≡ Ok s → IfSome held (λ old. held' ≡ Some (old ++ summary_line s)))
@@ -161,7 +153,7 @@ wanted status.Fault w a h = absurd a
 wanted status.Memory w a h = absurd a
 
 -- what a run came to, where all was done
-pub run_headline : ShapedIsRead
+pub run_headline : WrittenFilesAreRead
     → (b : Bool) (fs ds after : Option (List ports.File)) (held held' : Option (List ℕ)) (o o' : ℕ) (came : Result Summary Stop) (result : Status)
     → (b ≡ false → came ≡ Err stop.Usage) → (b ≡ true → IfSome fs (λ f. IsOutcome f ds after came))
     → Answers result (status_of came) → IfSome held (λ old. LinePut result came old held' o o')

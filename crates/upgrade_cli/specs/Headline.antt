@@ -5,15 +5,16 @@ use Rattle.span_edits.specs.Splice.{spliced}
 use Rattle.php_tree.specs.Tree.{File, file_printed}
 use Rattle.php_tree.specs.declared.version.Version.TheVariants.{V74, V83}
 use Rattle.php_reading.specs.Reading.{Reads}
-use Rattle.echo_form.specs.Form.{Reads as HasForm}
 use Rattle.php_meaning.specs.World.{Bytes}
 use Rattle.php_meaning.specs.Laws.{KeepsMeaning, KeepsRuns}
 use Rattle.php_meaning.specs.Asking.{asks_nothing}
 use Rattle.syntax_rules.specs.NestedTernary.{program}
 use Rattle.syntax_rules.specs.Rewritten.{edits, rewritten}
 use Rattle.syntax_rules.specs.Keeps.{all_rewritten}
-use Rattle.rewritten_tokens.specs.Written.{HasTokens}
+use Rattle.rewritten_tokens.specs.Written.{NoNullsafeText}
 use Rattle.written_reading.specs.Laws.{IsRead}
+use Rattle.paired_parts.specs.Traits.{PlainTraits}
+use Rattle.edited_rows.specs.PlainTexts.{PlainTexts}
 use Rattle.io_ports.specs.Files as ports
 use Rattle.upgrade_cli.specs.declared.stop.Status.{Status}
 use Rattle.upgrade_cli.specs.Lines.{summary_line}
@@ -21,11 +22,17 @@ use Rattle.upgrade_cli.specs.Reports.{reports, marks}
 use Rattle.upgrade_cli.specs.Outcome.{AreRead, with_written, counts}
 use Rattle.upgrade_cli.specs.Run.{status_of}
 
--- 8.3 reads in what is written exactly the rewritten tree, and no other: of a source without a report, where the written bytes
--- have the rewritten tree's tokens in 8.3, and of a source of the form of `echo` statements in any case.
-pub record ReadsBack (bytes : List ℕ) (tree : File) : Type 0 where
-  pub clear : reports tree ≡ [] → HasTokens (rewritten tree) → IsRead V83 (rewritten tree)
-  pub form : HasForm V74 bytes tree → IsRead V83 (rewritten tree)
+-- The files of which it is said what 8.3 reads. Quoted texts have no `?->` and a letter directly behind a simple variable,
+-- which from 8.0 on belong to the variable (RFC "Nullsafe operator"). The other two are as PHP has them, where the grammar here
+-- takes more: between the braces of a trait's use names and words, and behind `{$` in a quoted text no operator leftmost.
+pub record IsPlain (tree : File) : Type 0 where
+  pub nullsafe : NoNullsafeText tree
+  pub traits : PlainTraits tree.statements
+  pub texts : PlainTexts tree.statements
+
+-- 8.3 reads in what is written exactly the rewritten tree, and no other, where the source has no report.
+abbrev pub ReadsBack : File → Type 0
+ReadsBack tree = reports tree ≡ [] → IsPlain tree → IsRead V83 (rewritten tree)
 
 -- What is written of a file's bytes, which 7.4 reads as this tree by all of its tokens and all of its grammar: the rewritten
 -- tree, printed. It is the bytes with the file's edits made, and the edits stand apart within them: each other byte stays.
@@ -34,7 +41,7 @@ pub record IsWritten (bytes : List ℕ) (tree : File) (out : List ℕ) : Type 0 
   pub printed : out ≡ file_printed (rewritten tree)
   pub spliced_in : out ≡ spliced bytes (edits tree)
   pub apart : AreApart 0 (edits tree) (length bytes)
-  pub reads_back : ReadsBack bytes tree
+  pub reads_back : ReadsBack tree
 
 abbrev pub AreWritten : List ports.File → List File → Type 0
 AreWritten (f ∷ fs) (t ∷ ts) = IsWritten f.1 t (file_printed (rewritten t)) × AreWritten fs ts

@@ -10,9 +10,9 @@ use crate::line::line_of;
 use crate::stop::{Status, Stop, Summary, status_of};
 use crate::upgrade::upgrade;
 use crate::words::are_in_grammar;
+use edited_rows::written_files_are_read;
 use io_ports::{PortFault, Sink, SourceTree, TargetTree};
 use std::alloc::Global;
-use written_reading::shaped_is_read;
 
 // Puts the line of what a run came to, and answers its status unless that fails.
 fn answer<O: Sink>(alloc: Global, out: &mut O, came: &Result<Summary, Stop>) -> Status
@@ -98,7 +98,7 @@ pub fn run<T: SourceTree, D: TargetTree, O: Sink>(
     ensures kept { spec.KeepsAt result (target.new ≡ target.old) }
     ensures untouched { IfSome (T.files source.old) (λ fs. ((ts : List File) → AreRead fs ts → ⊥) → target.new ≡ target.old) }
 {
-    shaped_is_read();
+    written_files_are_read();
     let came = outcome(alloc, words, source, target);
     answer(alloc, out, &came)
 }
