@@ -64,9 +64,11 @@ fn nodes_stand_at_most_500_deep(rt: HostRuntime) -> Result<(), Fail> {
     let deepest = in_parens(alloc, 498)?;
     let ran = run_on(alloc, deepest.as_slice(), NONE_FAILS)?;
     assert!(rt; ran.was(0, DONE, Some(deepest.as_slice())));
-    let deeper = in_parens(alloc, 499)?;
-    let ran = run_on(alloc, deeper.as_slice(), NONE_FAILS)?;
-    assert!(rt; ran.was(65, "source a.php\n", None));
+    for pairs in [499, 500_000] {
+        let deeper = in_parens(alloc, pairs)?;
+        let ran = run_on(alloc, deeper.as_slice(), NONE_FAILS)?;
+        assert!(rt; ran.was(65, "source a.php\n", None), "{pairs}");
+    }
     Ok(())
 }
 

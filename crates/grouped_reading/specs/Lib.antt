@@ -1,2 +1,0 @@
-pub mod AllRules
-pub mod GroupedReading
