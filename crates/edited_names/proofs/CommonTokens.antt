@@ -27,7 +27,8 @@ use Rattle.rewritten_tokens.specs.Levels.{stack_of}
 use Rattle.rewritten_tokens.specs.Names.{begins_nullsafe}
 use Rattle.rewritten_tokens.specs.Written.{begins_question}
 use Rattle.edited_tiles.proofs.Stepping.{longest_in}
-use Rattle.edited_names.specs.Apart.{is_variable_kind, is_safe, is_labelled, is_parted, are_apart}
+use Rattle.drafted_names.specs.Apart.{is_variable_kind, is_safe, is_labelled, is_parted}
+use Rattle.edited_names.specs.Apart.{are_apart}
 
 -- ---- a piece that begins with `?` holds the arrow behind it
 

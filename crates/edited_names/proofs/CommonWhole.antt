@@ -25,7 +25,8 @@ use Rattle.edited_tiles.proofs.Behind.{keyword_first}
 use Rattle.edited_tiles.proofs.Stepping.{longest_in, steps_behind}
 use Rattle.edited_names.specs.Leads.{is_hash, none_hash}
 use Rattle.edited_names.specs.Named.{all_space, is_dollar_brace, none_dollar}
-use Rattle.edited_names.specs.Apart.{is_variable_kind, are_apart, RowsAreCommon}
+use Rattle.drafted_names.specs.Apart.{is_variable_kind}
+use Rattle.edited_names.specs.Apart.{are_apart, RowsAreCommon}
 use Rattle.edited_names.proofs.TriviaTexts as texts
 use Rattle.edited_names.proofs.NamedModes.{mode_ok, modes_ok, stack_ok, behind_ok}
 use Rattle.edited_names.proofs.NameTiles.{not_space_word}

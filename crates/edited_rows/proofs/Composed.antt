@@ -19,10 +19,10 @@ use Rattle.rewritten_tokens.specs.Texts.{PartsHaveTexts}
 use Rattle.edited_names.specs.Leads.{is_hash, none_hash}
 use Rattle.edited_names.specs.Named.{is_dollar_brace, none_dollar, all_tiles, NamedKeeps}
 use Rattle.edited_names.specs.NamesPut.{LeadsStay, NamesRow, NamesArePut}
-use Rattle.edited_names.specs.Apart.{is_safe, is_labelled, is_parted, are_apart, RowsAreCommon}
+use Rattle.edited_names.specs.Apart.{are_apart, RowsAreCommon}
 use Rattle.edited_names.proofs.LeadsKept.{leads_of_files_stay}
 use Rattle.paired_parts.specs.Traits.{PlainTraits}
-use Rattle.drafted_names.specs.Apart.{names_apart, NamesAreApart, texts_apart, TextsAreSafe}
+use Rattle.drafted_names.specs.Apart.{is_labelled, is_parted, is_safe, names_apart, NamesAreApart, texts_apart, TextsAreSafe}
 use Rattle.drafted_names.specs.Laws.{NamesAreWithin, NamesOfFilesStay}
 use Rattle.written_reading.specs.Laws.{RewrittenIsRead}
 use Rattle.written_reading.specs.Parted.{HasRow, RowsAreLexed}
