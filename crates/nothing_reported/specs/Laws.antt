@@ -1,20 +1,14 @@
 -- Files in which the rules on syntax report nothing that stops compiling.
-use Rattle.std.specs.Prelude.{◌≡◌, ℕ, Bool, true, false, List, [], ◌∷◌}
+use Rattle.std.specs.Prelude.{◌≡◌, ℕ, true, false, List, [], ◌∷◌}
 use Rattle.rule_tables.specs.declared.rule.RuleId.TheVariants as rule
 use Rattle.php_tree.specs.declared.version.Version.TheVariants.{V74}
 use Rattle.php_tree.specs.Tree.{Forest, none, leaf, node, File}
 use Rattle.php_reading.specs.Reading.{Reads}
 use Rattle.syntax_rules.specs.Around.{at_top}
 use Rattle.syntax_rules.specs.SplitName.{is_name}
-use Rattle.syntax_places.specs.Seen.{Verdict, keeps, edited, undecided, Place}
+use Rattle.syntax_places.specs.Seen.{Place, has_cause}
 use Rattle.syntax_places.specs.Places.{in_nodes, places}
 use Rattle.rewritten_shapes.specs.Laws.{AreSpelled, NoneReported}
-
--- whether a place stays undecided for a cause
-abbrev pub has_cause : Verdict → Bool
-has_cause keeps = false
-has_cause (edited es) = false
-has_cause (undecided cause) = true
 
 -- None of these places stays undecided.
 abbrev pub AreDecided : List Place → Type 0

@@ -1,5 +1,5 @@
 -- A place of a rule and what is decided there, as contracts see it.
-use Rattle.std.specs.Prelude.{ℕ, ◌+◌, ◌*◌, ◌^◌, List, length}
+use Rattle.std.specs.Prelude.{ℕ, ◌+◌, ◌*◌, ◌^◌, Bool, true, false, List, length}
 use Rattle.span_edits.specs.declared.edit.Edit.{Edit}
 use Rattle.rule_tables.specs.declared.decision.Decision.{Decision}
 use Rattle.rule_tables.specs.declared.decision.Decision.TheVariants.{Keep, Change, Undecided}
@@ -12,6 +12,12 @@ pub data Verdict : Type 0 where
   keeps : Verdict
   edited : List Edit → Verdict
   undecided : ℕ → Verdict
+
+-- whether a place stays undecided for a cause
+abbrev pub has_cause : Verdict → Bool
+has_cause keeps = false
+has_cause (edited es) = false
+has_cause (undecided cause) = true
 
 -- a place: its first byte, the byte behind its last one, and what is decided there
 pub record Place : Type 0 where

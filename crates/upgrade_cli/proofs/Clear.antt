@@ -15,13 +15,13 @@ use Rattle.php_reading.specs.Reading.{Reads}
 use Rattle.syntax_rules.specs.Around.{Around, within, at_top}
 use Rattle.rewritten_shapes.specs.Laws.{NoneReported}
 use Rattle.edited_rows.specs.Laws.{WrittenFilesAreRead}
-use Rattle.syntax_places.specs.Seen.{Verdict, keeps, edited, undecided, Place}
+use Rattle.syntax_places.specs.Seen.{Verdict, keeps, edited, undecided, Place, has_cause}
 use Rattle.syntax_places.specs.Places.{in_nodes, places}
 use Rattle.syntax_places.specs.ReservedName.{Standing, at_first, past, past_node, class_by, refused_if, refused_tokens, enums}
 use Rattle.syntax_places.specs.NameHeads.{head_at}
-use Rattle.nothing_reported.specs.Laws.{has_cause, AreDecided}
+use Rattle.nothing_reported.specs.Laws.{AreDecided}
 use Rattle.nothing_reported.proofs.AllNodes.{nothing_reported}
-use Rattle.upgrade_cli.specs.Reports.{is_left, is_undecided, reports, undecided_places}
+use Rattle.upgrade_cli.specs.Reports.{is_undecided, reports, undecided_places}
 use Rattle.upgrade_cli.specs.Headline.{ReadsBack}
 use Rattle.upgrade_cli.proofs.Counting.{two_rules}
 
@@ -76,7 +76,7 @@ empty_both : (ps qs : List Place) → ps ++ qs ≡ [] → (ps ≡ []) × (qs ≡
 empty_both [] qs e = (refl, e)
 empty_both (p ∷ ps) qs e = absurd cc
 
-by_verdict : (v : Verdict) (p : Place) (ps : List Place) → cond (is_left v) (p ∷ ps) ps ≡ []
+by_verdict : (v : Verdict) (p : Place) (ps : List Place) → cond (has_cause v) (p ∷ ps) ps ≡ []
     → (has_cause v ≡ false) × (ps ≡ [])
 by_verdict keeps p ps e = (refl, e)
 by_verdict (edited edits) p ps e = (refl, e)

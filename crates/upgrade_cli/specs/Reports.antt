@@ -5,17 +5,12 @@ use Rattle.rule_tables.specs.declared.rule.RuleId.TheVariants as rule
 use Rattle.php_tree.specs.Tree.{File}
 use Rattle.php_meaning.specs.World.{Bytes}
 use Rattle.php_meaning.specs.Run.{Mark, CompileOf}
-use Rattle.syntax_places.specs.Seen.{Verdict, keeps, edited, undecided, Place}
+use Rattle.syntax_places.specs.Seen.{Place, has_cause}
 use Rattle.syntax_places.specs.Places.{places}
 
 -- whether a place stays as it is, for a cause
-abbrev pub is_left : Verdict → Bool
-is_left keeps = false
-is_left (edited edits) = false
-is_left (undecided cause) = true
-
 abbrev pub is_undecided : Place → Bool
-is_undecided p = is_left p.verdict
+is_undecided p = has_cause p.verdict
 
 -- the places at which a rule is undecided
 abbrev pub undecided_places : RuleId → File → List Place
