@@ -16,11 +16,12 @@ use Rattle.php_terminals.specs.declared.terminal.Terminal.{Terminal}
 use Rattle.php_terminals.specs.declared.terminal.Terminal.TheVariants as t
 use Rattle.syntax_rules.specs.Around.{Around, within, at_top}
 use Rattle.syntax_rules.specs.UnsetCast.{is_edited, is_undecided, unset_cast}
-use Rattle.syntax_places.specs.Seen.{Place}
+use Rattle.token_places.specs.Seen.{Place}
 use Rattle.syntax_places.specs.NodeRules.{stays, becomes_if, verdict_by, node_places}
 use Rattle.syntax_places.specs.Places.{at_node, in_nodes}
 use Rattle.syntax_places.specs.ReservedName as own
-use Rattle.syntax_places.specs.ReservedName.{Standing, at_first, enums, of_reserved}
+use Rattle.syntax_places.specs.ReservedName.{Standing, at_first, of_reserved}
+use Rattle.token_places.specs.Enums.{enums}
 use Rattle.rewritten_shapes.specs.Laws.{AreSpelled, NoneReported}
 use Rattle.rewritten_shapes.specs.RefusedWords as words
 use Rattle.rewritten_shapes.specs.RefusedWords.{has_refused}

@@ -9,10 +9,11 @@ use Rattle.php_terminals.specs.Classify.{name, terminal, terminal_by}
 use Rattle.php_terminals.specs.Words.{front, is_word}
 use Rattle.tracked_changes.specs.Draft.{NewToken, rewritten, rewritten_token, unchanged_token}
 use Rattle.syntax_rules.specs.SplitName.{is_one, one_name}
-use Rattle.syntax_places.specs.Seen.{Place}
-use Rattle.syntax_places.specs.NameHeads.{Head, single, head_of, begins, head_at}
-use Rattle.syntax_places.specs.ReservedName.{class_by, is_last, refused_if}
-use Rattle.syntax_places.proofs.NamesFoundLemmas.{fits, skipped}
+use Rattle.token_places.specs.Seen.{Place}
+use Rattle.token_places.specs.NameHeads.{Head, single, head_of, begins, head_at}
+use Rattle.syntax_places.specs.ReservedName.{class_by, is_last}
+use Rattle.token_places.specs.Refused.{refused_if}
+use Rattle.token_places.proofs.NamesFoundLemmas.{fits, skipped}
 use Rattle.rewritten_shapes.specs.RefusedWords.{named}
 
 -- the parts behind the first so many tokens, with whole names

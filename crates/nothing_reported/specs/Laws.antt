@@ -6,7 +6,7 @@ use Rattle.php_tree.specs.Tree.{Forest, none, leaf, node, File}
 use Rattle.php_reading.specs.Reading.{Reads}
 use Rattle.syntax_rules.specs.Around.{at_top}
 use Rattle.syntax_rules.specs.SplitName.{is_name}
-use Rattle.syntax_places.specs.Seen.{Place, has_cause}
+use Rattle.token_places.specs.Seen.{Place, has_cause}
 use Rattle.syntax_places.specs.Places.{in_nodes, places}
 use Rattle.rewritten_shapes.specs.Laws.{AreSpelled, NoneReported}
 

@@ -12,7 +12,7 @@ use Rattle.tracked_changes.proofs.Joining.{edits_from-append}
 use Rattle.tracked_changes.proofs.Unchanged.{OnlyKept, kept_append, joined_kept, no_edits, unchanged_kept, before-unchanged}
 use Rattle.syntax_rules.specs.DollarBrace.{ends_bare, opened, with_offset, plain}
 use Rattle.syntax_places.specs.DollarEdits.{ends_or, own_edits}
-use Rattle.syntax_places.proofs.EditLemmas.{kept_edits, end_is}
+use Rattle.token_places.proofs.EditLemmas.{kept_edits, end_is}
 
 -- `{$` before what stays
 one_opening : (at : ℕ) (t : Token) (b : List ℕ) (ks : List Piece) → OnlyKept ks

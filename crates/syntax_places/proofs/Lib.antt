@@ -1,7 +1,5 @@
-pub mod EditLemmas
 pub mod PartLemmas
+pub mod FirstTexts
+pub mod BracketLemmas
 pub mod NodeEdits
 pub mod DollarLemmas
-pub mod NameHeadLemmas
-pub mod NamesFoundLemmas
-pub mod FirstTexts

@@ -18,9 +18,9 @@ use Rattle.rule_tables.specs.declared.rule.RuleId.TheVariants.{UnsetCast}
 use Rattle.rule_tables.specs.Causes.{cause_number}
 use Rattle.syntax_rules.specs.Casts.{is_cast}
 use Rattle.syntax_rules.specs.RealCast.{is_real_cast, real_cast}
-use Rattle.syntax_places.specs.Seen.{edited, undecided}
+use Rattle.token_places.specs.Seen.{edited, undecided}
 use Rattle.syntax_places.specs.NodeRules.{stays, ruling, becomes_if, verdict_by, real_verdict, unset_verdict, edits_at, text_start}
-use Rattle.syntax_places.proofs.EditLemmas.{behind_kept, kept_anew, kept_begin, kept_edits, end_is}
+use Rattle.token_places.proofs.EditLemmas.{behind_kept, kept_anew, kept_begin, kept_edits, end_is}
 
 -- ---- where the text of a node begins
 

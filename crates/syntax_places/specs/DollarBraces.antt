@@ -8,7 +8,7 @@ use Rattle.tracked_changes.specs.Draft.{pieces, unchanged, unchanged_token}
 use Rattle.tracked_changes.specs.Edits.{joined, edits_from, replacement}
 use Rattle.syntax_rules.specs.DollarBrace.{is_dollar_brace, is_piece, ends_bare, opened}
 use Rattle.syntax_rules.specs.Together.{is_quoted}
-use Rattle.syntax_places.specs.Seen.{Place, edited, token_place}
+use Rattle.token_places.specs.Seen.{Place, edited, token_place}
 
 -- A backslash before the last byte of a piece of text, where that is a `$` which would else belong to the part behind it.
 abbrev pub escaping : Option Token → ℕ → List Edit

@@ -1,14 +1,8 @@
-pub mod Seen
 pub mod ChildEnds
 pub mod Parts
 pub mod NodeRules
-pub mod Standings
-pub mod Comments
 pub mod DollarBraces
 pub mod DollarEdits
-pub mod Names
-pub mod NameHeads
-pub mod NamesFound
 pub mod ReservedName
 pub mod TokenStandings
 pub mod Places

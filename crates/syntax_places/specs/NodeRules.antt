@@ -24,7 +24,7 @@ use Rattle.syntax_rules.specs.RealCast.{is_real_cast, real_cast}
 use Rattle.syntax_rules.specs.UnsetCast.{of_variable, is_edited, is_undecided, unset_cast}
 use Rattle.syntax_rules.specs.Written.{as_it_stands}
 use Rattle.syntax_places.specs.Parts.{first_leaf}
-use Rattle.syntax_places.specs.Seen.{Verdict, edited, undecided, Place}
+use Rattle.token_places.specs.Seen.{Verdict, edited, undecided, Place}
 
 -- where a node stands, by the node around it
 abbrev pub around_in : Option (Bor Node) → Bool → Option Around

@@ -6,12 +6,13 @@ use Rattle.php_tree.specs.Tree.{Forest, none, leaf, node, Tree, File, file_leave
 use Rattle.php_tree.specs.Places.{behind, end_of}
 use Rattle.php_terminals.specs.declared.terminal.Terminal.TheVariants as t
 use Rattle.syntax_rules.specs.Around.{Around, within, at_top}
-use Rattle.syntax_places.specs.Seen.{Place}
+use Rattle.token_places.specs.Seen.{Place}
 use Rattle.syntax_places.specs.NodeRules.{ruling, verdict_by, node_places}
-use Rattle.syntax_places.specs.Comments.{hash_comments}
+use Rattle.token_places.specs.Comments.{hash_comments}
 use Rattle.syntax_places.specs.DollarBraces.{of_quoted}
-use Rattle.syntax_places.specs.Names.{split_names}
-use Rattle.syntax_places.specs.ReservedName.{of_reserved, enums}
+use Rattle.token_places.specs.Names.{split_names}
+use Rattle.syntax_places.specs.ReservedName.{of_reserved}
+use Rattle.token_places.specs.Enums.{enums}
 
 -- the places of a rule at a node itself, whose trivia begin at a place: the node, or some of its own tokens
 abbrev pub at_node : RuleId → Option Around → ℕ → Tree → List Place

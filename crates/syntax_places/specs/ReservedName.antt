@@ -1,22 +1,16 @@
--- Words that 8.3 refuses where 7.4 takes them as labels: `match`, `readonly`, `mixed`, `never` and, before a word, `enum`. (PHP
--- manual, "List of Keywords" and "List of other reserved words"; RFCs on match expressions and on enumerations; UPGRADING 8.0,
--- 8.1 and 8.3.)
-use Rattle.std.specs.Prelude.{ℕ, zero, suc, Bool, true, false, not, ◌==◌, ◌&&◌, ◌||◌, if◌then◌else◌, List, [], ◌∷◌, ◌++◌, codes}
-use Rattle.rule_tables.specs.declared.cause.Cause.TheVariants.{Always}
-use Rattle.rule_tables.specs.Causes.{cause_number}
-use Rattle.php_tree.specs.declared.token.Token.{Token}
-use Rattle.php_tree.specs.declared.token.TokenKind.{TokenKind}
-use Rattle.php_tree.specs.declared.token.TokenKind.TheVariants as token
+-- Words that 8.3 refuses where 7.4 takes them as labels: `match`, `readonly`, `mixed` and `never`. (PHP manual, "List of Keywords"
+-- and "List of other reserved words"; RFC on match expressions; UPGRADING 8.0, 8.1 and 8.3.)
+use Rattle.std.specs.Prelude.{ℕ, zero, suc, Bool, true, false, not, ◌&&◌, ◌||◌, if◌then◌else◌, List, [], ◌++◌}
 use Rattle.php_tree.specs.declared.kind.NodeKind.{NodeKind}
 use Rattle.php_tree.specs.declared.kind.NodeKind.TheVariants as k
 use Rattle.php_tree.specs.Tree.{Forest, none, leaf, node, Tree}
 use Rattle.php_tree.specs.Places.{behind, end_of}
 use Rattle.php_terminals.specs.declared.terminal.Terminal.{Terminal}
 use Rattle.php_terminals.specs.declared.terminal.Terminal.TheVariants as t
-use Rattle.php_terminals.specs.Classify.{terminal, is_word_token}
-use Rattle.php_terminals.specs.Words.{is_word}
-use Rattle.syntax_places.specs.NameHeads.{head_at}
-use Rattle.syntax_places.specs.Seen.{Place, undecided, token_place}
+use Rattle.php_terminals.specs.Classify.{terminal}
+use Rattle.token_places.specs.NameHeads.{head_at}
+use Rattle.token_places.specs.Seen.{Place}
+use Rattle.token_places.specs.Refused.{refused_if}
 
 -- ---- classes of tokens
 
@@ -172,13 +166,6 @@ abbrev pub refuses_last : NodeKind → Standing → Terminal → Terminal → Bo
 refuses_last k.Use s x y = gives_type s.of_class x y
 refuses_last _ s x y = false
 
--- such a token: nothing can be written in its place
-abbrev pub refused : ℕ → Token → Place
-refused at x = token_place at x (undecided (cause_number Always))
-
-abbrev pub refused_if : Bool → ℕ → Token → List Place
-refused_if is_refused at x = if is_refused then refused at x ∷ [] else []
-
 -- whether no token stands behind it in its name
 abbrev pub is_last : ℕ → Bool
 is_last zero = true
@@ -196,47 +183,3 @@ refused_tokens kind s more at (node j b f) = refused_tokens kind (past_node s) z
 
 abbrev pub of_reserved : ℕ → Tree → List Place
 of_reserved at n = refused_tokens n.0 at_first zero at n.1
-
--- ---- `enum`
-
-abbrev pub is_label : TokenKind → Bool
-is_label token.Label = true
-is_label _ = false
-
--- whether each byte is white space
-abbrev pub are_white : List ℕ → Bool
-are_white [] = true
-are_white (b ∷ bs) = (b == 32 || b == 9 || b == 10 || b == 13) && are_white bs
-
--- whether there is white space, and nothing else
-abbrev pub is_white : List ℕ → Bool
-is_white [] = false
-is_white (b ∷ bs) = are_white (b ∷ bs)
-
--- `extends` and `implements`
-abbrev pub is_heading : Terminal → Bool
-is_heading t.Extends = true
-is_heading t.Implements = true
-is_heading _ = false
-
--- whether a word stands first, behind white space and no comment
-abbrev pub before_word : List Token → Bool
-before_word [] = false
-before_word (x ∷ xs) = is_white x.lead && is_word_token x && not (is_heading (terminal x))
-
--- whether a label behind a token of this class is a member's name, or a part of a name
-abbrev pub takes_label : Terminal → Bool
-takes_label t.Arrow = true
-takes_label t.DoubleColon = true
-takes_label t.Backslash = true
-takes_label _ = false
-
--- whether a token is such a label, behind one of a class and before others
-abbrev pub is_enum : Terminal → Token → List Token → Bool
-is_enum before x xs = is_label x.kind && is_word (codes "enum") x.text && before_word xs && not (takes_label before)
-
--- the labels `enum` that 8.1 reads as a keyword: white space and a word stand behind them (RFC "Enumerations")
-abbrev pub enums : Terminal → ℕ → List Token → List Place
-enums before at [] = []
-enums before at (x ∷ xs) =
-    refused_if (is_enum before x xs) at x ++ enums (terminal x) (behind at x) xs

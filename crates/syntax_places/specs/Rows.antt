@@ -7,7 +7,7 @@ use Rattle.php_tree.specs.declared.kind.NodeKind.TheVariants as kind
 use Rattle.php_tree.specs.Tree.{Forest, none, node, File}
 use Rattle.syntax_rules.specs.SplitName.{split_source}
 use Rattle.syntax_rules.specs.Written.{word, word_behind, op, variable, number, shown}
-use Rattle.syntax_places.specs.Seen.{Verdict, keeps, edited, undecided, Place}
+use Rattle.token_places.specs.Seen.{Verdict, keeps, edited, undecided, Place}
 use Rattle.syntax_places.specs.Places.{places}
 
 -- what is decided: the edits and a cause, 0 without one

@@ -5,15 +5,16 @@
 ghost use Rattle.std.specs.Prelude.{◌≡◌, ◌++◌, IfOk, OnOk};
 ghost use Rattle.php_tree.specs.Tree.{forest_of};
 ghost use Rattle.syntax_rules.specs.BraceOffset.{brace_offset, is_brace_offset as is_brace_offset_as};
-ghost use Rattle.syntax_places.specs.Seen.{edited, verdict_of};
+ghost use Rattle.token_places.specs.Seen.{edited, verdict_of};
 ghost use Rattle.syntax_places.specs.ChildEnds.{child_ends};
 ghost use Rattle.syntax_places.specs.NodeRules.{bracket_edit, edits_at};
 
-use crate::edits::replaced;
-use crate::ends::{first_end, other_ends, past_bytes, past_token};
+use crate::ends::{first_end, other_ends};
 use php_tree::{Node, NodeKind, Part, Token};
 use rule_tables::{Decision, Edit};
 use std::alloc::{AllocError, Global};
+use token_places::behind::{past_bytes, past_token};
+use token_places::edits::replaced;
 
 /// Whether a node is an offset in braces.
 pub fn is_brace_offset(kind: NodeKind) -> bool
@@ -22,7 +23,7 @@ pub fn is_brace_offset(kind: NodeKind) -> bool
     matches!(kind, NodeKind::BraceOffset)
 }
 
-#[tactic(auto, using(crate::proofs::EditLemmas::bracket_is))]
+#[tactic(auto, using(crate::proofs::BracketLemmas::bracket_is))]
 // A bracket in the place of a brace, whose trivia begin at a place.
 fn bracket(alloc: Global, at: u32, token: &Token, edits: &mut Vec<Edit>) -> Result<(), AllocError>
     ensures { OnOk result (edits.new.items ≡ edits.old.items ++ bracket_edit at token.now) }
@@ -38,7 +39,7 @@ fn bracket(alloc: Global, at: u32, token: &Token, edits: &mut Vec<Edit>) -> Resu
     Ok(())
 }
 
-#[tactic(auto, using(crate::proofs::EditLemmas::bracket_leaf, crate::proofs::EditLemmas::bracket_node))]
+#[tactic(auto, using(crate::proofs::BracketLemmas::bracket_leaf, crate::proofs::BracketLemmas::bracket_node))]
 /// Brackets for the braces of a node, which begins at a place, and whose child nodes end at others.
 pub fn bracketed(alloc: Global, at: u32, node: &Node, ends: &[u32]) -> Result<Decision, AllocError>
     requires { ends.now ≡ child_ends at (forest_of node.now.parts) }

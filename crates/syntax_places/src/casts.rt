@@ -7,15 +7,15 @@ ghost use Rattle.std.specs.Str.{bytes_eq};
 ghost use Rattle.php_tree.specs.Tree.{forest_of};
 ghost use Rattle.syntax_rules.specs.Casts.{bare as bare_as, first_text as first_text_of, is_cast as is_cast_as, is_cast_by as is_cast_by_as};
 ghost use Rattle.syntax_rules.specs.UnsetCast.{is_variable as is_variable_as, of_variable as of_variable_as};
-ghost use Rattle.syntax_places.specs.Seen.{verdict_of};
+ghost use Rattle.token_places.specs.Seen.{verdict_of};
 ghost use Rattle.syntax_places.specs.NodeRules.{is_plain as is_plain_as, real_verdict, unset_verdict};
 
-use crate::edits::{one, replaced};
-use crate::ends::past_bytes;
 use crate::parts::{first_leaf, first_node, has_none, others};
 use php_tree::{Node, NodeKind, Part, TokenKind};
 use rule_tables::{Cause, Decision};
 use std::alloc::{AllocError, Global};
+use token_places::behind::past_bytes;
+use token_places::edits::{one, replaced};
 
 // The text of a node's first part, where that is a token.
 fn first_text(parts: &[Part]) -> &[u8]

@@ -8,18 +8,19 @@ ghost use Rattle.php_tree.specs.Places.{behind as behind_token, end_of};
 ghost use Rattle.syntax_places.specs.ChildEnds.{child_ends};
 ghost use Rattle.syntax_rules.specs.DollarBrace.{ends_bare as ends_bare_of, is_dollar_brace as is_dollar_brace_as, is_piece as is_piece_as};
 ghost use Rattle.syntax_rules.specs.Together.{is_quoted as is_quoted_as};
-ghost use Rattle.syntax_places.specs.Seen.{edited, seen, token_place, verdict_of};
+ghost use Rattle.token_places.specs.Seen.{edited, seen, token_place, verdict_of};
 ghost use Rattle.syntax_places.specs.DollarBraces.{dollar_braces, escaping, of_quoted, opening_edits};
 ghost use Rattle.syntax_places.specs.DollarEdits.{name_edits, node_edits, own_edits};
 
-use crate::edits::{inserted, replaced};
-use crate::ends::{first_end, other_ends, past_bytes, past_token};
-use crate::found::add;
+use crate::ends::{first_end, other_ends};
 use crate::parts::{first_leaf, first_node, others};
-use crate::placed::Placed;
 use php_tree::{Node, NodeKind, Part, Token, TokenKind};
 use rule_tables::{Decision, Edit};
 use std::alloc::{AllocError, Global};
+use token_places::Placed;
+use token_places::behind::{past_bytes, past_token};
+use token_places::edits::{inserted, replaced};
+use token_places::found::add;
 
 fn is_quoted(kind: NodeKind) -> bool
     ensures { result ≡ is_quoted_as kind }

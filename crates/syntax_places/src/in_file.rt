@@ -3,19 +3,15 @@ ghost use Rattle.std.specs.Prelude.{◌≡◌, ◌++◌, true, map, IfOk, OnOk};
 ghost use Rattle.std.specs.List.Sorted.{IsNonDecreasingBy, IsPermutation};
 ghost use Rattle.php_tree.specs.Whole.{file};
 ghost use Rattle.rule_tables.specs.declared.rule.RuleId.TheVariants as rule_id;
-ghost use Rattle.syntax_places.specs.Seen.{order_of, seen};
+ghost use Rattle.token_places.specs.Seen.{order_of, seen};
 ghost use Rattle.syntax_places.specs.Places.{is_on_syntax, places as places_of};
 
-use crate::enums::add_enums;
-use crate::found::in_order;
-use crate::hash_comment::add_hash_comments;
-use crate::placed::Placed;
-use crate::split_name::add_names;
-use crate::tokens::tokens_of;
 use crate::walk::walk_file;
 use php_tree::FileTree;
 use rule_tables::RuleId;
 use std::alloc::{AllocError, Global};
+use token_places::found::in_order;
+use token_places::{Placed, add_enums, add_hash_comments, add_names, tokens_of};
 
 // Puts the words that 8.3 refuses behind other places.
 fn add_words(alloc: Global, tree: &FileTree, out: &mut Vec<Placed>) -> Result<(), AllocError>

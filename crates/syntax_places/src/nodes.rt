@@ -4,20 +4,20 @@ ghost use Rattle.php_tree.specs.Tree.{forest_of, leaves};
 ghost use Rattle.php_tree.specs.Places.{end_of};
 ghost use Rattle.rule_tables.specs.declared.rule.RuleId.TheVariants as rule_id;
 ghost use Rattle.tracked_changes.specs.Edits.{replacement};
-ghost use Rattle.syntax_places.specs.Seen.{edited, seen, verdict_of};
+ghost use Rattle.token_places.specs.Seen.{edited, seen, verdict_of};
 ghost use Rattle.syntax_places.specs.ChildEnds.{child_ends};
 ghost use Rattle.syntax_places.specs.NodeRules.{around_in, node_places, ruling, text_start, verdict_by};
 
 use crate::brace_offset::{bracketed, is_brace_offset};
 use crate::casts::{real, unset};
 use crate::dot_precedence::is_regrouped;
-use crate::edits::wrapped;
-use crate::found::add;
 use crate::nested_ternary::is_nested;
-use crate::placed::Placed;
 use php_tree::Node;
 use rule_tables::{Decision, RuleId};
 use std::alloc::{AllocError, Global};
+use token_places::Placed;
+use token_places::edits::wrapped;
+use token_places::found::add;
 
 // Parentheses round the bytes from a place to another one, where they are wanted.
 fn wrapped_if(

@@ -5,17 +5,14 @@
 ghost use Rattle.std.specs.Prelude.{◌≡◌, ◌++◌, suc, zero, drop, map, IfOk, OnOk};
 ghost use Rattle.php_tree.specs.Tree.{forest_of, leaf as leaf_then};
 ghost use Rattle.php_tree.specs.Places.{behind as behind_token};
-ghost use Rattle.syntax_places.specs.Seen.{seen};
+ghost use Rattle.token_places.specs.Seen.{seen};
 ghost use Rattle.syntax_places.specs.ChildEnds.{child_ends};
-ghost use Rattle.syntax_places.specs.NameHeads.{begins as head, shown_if_any};
+ghost use Rattle.token_places.specs.NameHeads.{begins as head, shown_if_any};
 ghost use Rattle.syntax_places.specs.ReservedName as spec;
 ghost use Rattle.syntax_places.specs.TokenStandings.{standing_of};
 
-use crate::ends::{first_end, other_ends, past_token};
-use crate::name_heads::{Ahead, begins, in_front};
+use crate::ends::{first_end, other_ends};
 use crate::parts::first_leaf;
-use crate::placed::Placed;
-use crate::refused::add_if;
 use crate::token_standing::{
     TokenStanding, at_first, class_by, declares, is_as, is_double_colon, is_keyword_now, is_match,
     is_root, is_type_now, past_class, past_inner,
@@ -24,6 +21,10 @@ use php_terminals::classify::terminal;
 use php_terminals::terminal::Terminal;
 use php_tree::{Node, NodeKind, Part, Token};
 use std::alloc::AllocError;
+use token_places::Placed;
+use token_places::behind::past_token;
+use token_places::name_heads::{Ahead, begins, in_front};
+use token_places::refused::add_if;
 
 /// Where a walk over a node's own tokens is: the place behind the last one, how many of the next ones are inside a name, and
 /// where the next one stands.

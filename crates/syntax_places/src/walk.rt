@@ -4,19 +4,20 @@ ghost use Rattle.php_tree.specs.Tree.{forest_of, leaves};
 ghost use Rattle.php_tree.specs.Whole.{file};
 ghost use Rattle.php_tree.specs.Places.{end_of};
 ghost use Rattle.syntax_rules.specs.Around.{at_top, within};
-ghost use Rattle.syntax_places.specs.Seen.{seen};
+ghost use Rattle.token_places.specs.Seen.{seen};
 ghost use Rattle.syntax_places.specs.ChildEnds.{child_ends, first_text};
 ghost use Rattle.syntax_places.specs.NodeRules.{around_in, text_start};
 ghost use Rattle.syntax_places.specs.Places.{at_node, in_nodes};
 
 use crate::dollar_brace::add_dollar_braces;
-use crate::ends::{first_in, first_place, or_place, past_token};
+use crate::ends::{first_in, first_place, or_place};
 use crate::nodes::add_node;
-use crate::placed::Placed;
 use crate::reserved_name::add_reserved;
 use php_tree::{FileTree, Node, Part};
 use rule_tables::RuleId;
 use std::alloc::{AllocError, Global};
+use token_places::Placed;
+use token_places::behind::past_token;
 
 // Puts the places of a rule at a node itself, which stands between two places, and whose child nodes end at others, behind
 // other places.

@@ -15,10 +15,12 @@ use Rattle.php_reading.specs.Reading.{Reads}
 use Rattle.syntax_rules.specs.Around.{Around, within, at_top}
 use Rattle.rewritten_shapes.specs.Laws.{NoneReported}
 use Rattle.edited_rows.specs.Laws.{WrittenFilesAreRead}
-use Rattle.syntax_places.specs.Seen.{Verdict, keeps, edited, undecided, Place, has_cause}
+use Rattle.token_places.specs.Seen.{Verdict, keeps, edited, undecided, Place, has_cause}
 use Rattle.syntax_places.specs.Places.{in_nodes, places}
-use Rattle.syntax_places.specs.ReservedName.{Standing, at_first, past, past_node, class_by, refused_if, refused_tokens, enums}
-use Rattle.syntax_places.specs.NameHeads.{head_at}
+use Rattle.syntax_places.specs.ReservedName.{Standing, at_first, past, past_node, class_by, refused_tokens}
+use Rattle.token_places.specs.Refused.{refused_if}
+use Rattle.token_places.specs.Enums.{enums}
+use Rattle.token_places.specs.NameHeads.{head_at}
 use Rattle.nothing_reported.specs.Laws.{AreDecided}
 use Rattle.nothing_reported.proofs.AllNodes.{nothing_reported}
 use Rattle.upgrade_cli.specs.Reports.{is_undecided, reports, undecided_places}

@@ -6,7 +6,7 @@ use Rattle.std.proofs.lemmas.List.Sums.{length-filter, sum_by-cons}
 use Rattle.std.proofs.lemmas.List.Sorted.{sum_by-IsPermutation}
 use Rattle.rule_tables.specs.declared.rule.RuleId.TheVariants as rule
 use Rattle.php_tree.specs.Tree.{File}
-use Rattle.syntax_places.specs.Seen.{Place}
+use Rattle.token_places.specs.Seen.{Place}
 use Rattle.syntax_places.specs.Places.{places}
 use Rattle.upgrade_cli.specs.Reports.{is_undecided, undecided_places, reports, one_if, undecided_in}
 use Rattle.upgrade_cli.proofs.Decided.{nested_ternaries, dots, brace_offsets, real_casts, hashes, names, dollar_signs}

@@ -21,11 +21,11 @@ use Rattle.syntax_rules.specs.HashComment.{Standing, outside, moved, begins_hash
 use Rattle.syntax_rules.specs.DollarBrace.{is_dollar_brace}
 use Rattle.syntax_rules.specs.SplitName.{split_name}
 use Rattle.syntax_rules.specs.Together.{is_quoted}
-use Rattle.syntax_places.specs.Seen.{Place, edited, token_place}
+use Rattle.token_places.specs.Seen.{Place, edited, token_place}
 use Rattle.syntax_places.specs.NodeRules.{becomes_if, is_nested, verdict_by, node_places}
-use Rattle.syntax_places.specs.Comments.{comment, comments, hash_comments}
+use Rattle.token_places.specs.Comments.{comment, comments, hash_comments}
 use Rattle.syntax_places.specs.DollarBraces.{opening_edits, dollar_braces}
-use Rattle.syntax_places.specs.Names.{if_edited, edited_tokens}
+use Rattle.token_places.specs.Names.{if_edited, edited_tokens}
 use Rattle.syntax_places.specs.Places.{at_node, in_nodes}
 use Rattle.upgrade_cli.specs.Reports.{is_undecided, undecided_places}
 

@@ -5,7 +5,7 @@ use Rattle.rule_tables.specs.declared.rule.RuleId.TheVariants as rule
 use Rattle.php_tree.specs.Tree.{File}
 use Rattle.php_meaning.specs.World.{Bytes}
 use Rattle.php_meaning.specs.Run.{Mark, CompileOf}
-use Rattle.syntax_places.specs.Seen.{Place, has_cause}
+use Rattle.token_places.specs.Seen.{Place, has_cause}
 use Rattle.syntax_places.specs.Places.{places}
 
 -- whether a place stays as it is, for a cause

@@ -1,7 +1,7 @@
 // The reports of a file.
 ghost use Rattle.std.specs.Prelude.{◌≡◌, ◌+◌, IfOk, length, map};
 ghost use Rattle.php_tree.specs.Whole.{file};
-ghost use Rattle.syntax_places.specs.Seen.{seen};
+ghost use Rattle.token_places.specs.Seen.{seen};
 ghost use Rattle.upgrade_cli.specs.Reports as spec;
 
 use php_tree::FileTree;

@@ -2,7 +2,6 @@
 ghost use Rattle.std.specs.Prelude.{◌≡◌, true};
 ghost use Rattle.syntax_places.specs.Places.{is_on_syntax};
 
-use crate::placed::Placed;
 use crate::places;
 use php_reading::read;
 use php_tree::Version;
@@ -12,6 +11,7 @@ use std::fmt::Write;
 use std::process::Abort;
 use std::str;
 use std::test::Fail;
+use token_places::Placed;
 
 // An edit, at the end.
 fn add_edit(out: &mut String, edit: &Edit) -> Result<(), Fail> {

@@ -2,7 +2,7 @@ use Rattle.std.proofs.Common.{◌+◌, drop, sym, ap, ◌∙◌}
 use Rattle.php_tree.specs.Tree.{forest_of}
 use Rattle.php_tree.proofs.Trees.{forest_of-Leaf, forest_of-Child}
 use Rattle.syntax_places.specs.ChildEnds.{child_ends, first_end}
-use Rattle.syntax_places.proofs.EditLemmas.{left_edits, leaf_step, node_step}
+use Rattle.syntax_places.proofs.BracketLemmas.{left_edits, leaf_step, node_step}
 use Rattle.syntax_places.proofs.brace_offset.bracketed.Goals as goal
 use Rattle.syntax_places.proofs.brace_offset.bracketed.Goals.{in-Leaf+in_ok-bracket-in-Leaf+in_ok-place-in-Leaf, in-Child}
 

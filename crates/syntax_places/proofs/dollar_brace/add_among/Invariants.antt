@@ -1,7 +1,7 @@
 use Rattle.std.proofs.Common.{◌≡◌, ◌++◌, None, drop, map, option_copied}
 use Rattle.php_tree.specs.Tree.{forest_of}
 use Rattle.syntax_places.specs.ChildEnds.{child_ends}
-use Rattle.syntax_places.specs.Seen.{seen}
+use Rattle.token_places.specs.Seen.{seen}
 use Rattle.syntax_places.specs.DollarBraces.{dollar_braces}
 use Rattle.syntax_places.proofs.dollar_brace.add_among.Given as goal
 

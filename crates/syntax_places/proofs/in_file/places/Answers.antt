@@ -2,7 +2,7 @@ use Rattle.std.proofs.Common.{map, ap, ◌∙◌, subst, ◌++◌}
 use Rattle.std.proofs.lemmas.List.Sorted.{IsPermutation-map}
 use Rattle.std.specs.List.Sorted.{IsPermutation}
 use Rattle.php_tree.specs.Whole.{file}
-use Rattle.syntax_places.specs.Seen.{seen}
+use Rattle.token_places.specs.Seen.{seen}
 use Rattle.syntax_places.specs.Places.{places}
 use Rattle.syntax_places.proofs.in_file.places.Goals as goal
 

@@ -1,7 +1,7 @@
 use Rattle.std.proofs.Common.{◌≡◌, zero, ◌++◌, drop, map}
 use Rattle.php_tree.specs.Tree.{forest_of}
 use Rattle.syntax_places.specs.ChildEnds.{child_ends}
-use Rattle.syntax_places.specs.Seen.{seen}
+use Rattle.token_places.specs.Seen.{seen}
 use Rattle.syntax_places.specs.ReservedName.{at_first, refused_tokens}
 use Rattle.syntax_places.specs.TokenStandings.{standing_of}
 use Rattle.syntax_places.proofs.reserved_name.add_reserved.Given as goal

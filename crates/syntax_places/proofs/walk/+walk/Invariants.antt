@@ -3,7 +3,7 @@ use Rattle.php_tree.specs.Tree.{forest_of}
 use Rattle.php_tree.specs.Places.{end_of}
 use Rattle.syntax_rules.specs.Around.{within}
 use Rattle.syntax_places.specs.ChildEnds.{child_ends, first_place, first_text}
-use Rattle.syntax_places.specs.Seen.{seen}
+use Rattle.token_places.specs.Seen.{seen}
 use Rattle.syntax_places.specs.Places.{in_nodes}
 use Rattle.syntax_places.proofs.walk.+walk.Given as goal
 

@@ -2,7 +2,7 @@ use Rattle.std.proofs.Common.{◌≡◌, ◌++◌, true, drop, map}
 use Rattle.php_tree.specs.Tree.{nodes_forest}
 use Rattle.php_tree.specs.Whole.{file}
 use Rattle.syntax_rules.specs.Around.{at_top}
-use Rattle.syntax_places.specs.Seen.{seen}
+use Rattle.token_places.specs.Seen.{seen}
 use Rattle.syntax_places.specs.Places.{in_nodes}
 use Rattle.syntax_places.proofs.walk.walk_file.Given as goal
 

@@ -1,7 +1,7 @@
 use Rattle.std.proofs.Common.{◌≡◌, ap, ◌∙◌, subst, map}
 use Rattle.std.specs.Prelude.{IfOk}
 use Rattle.php_tree.specs.Whole.{file}
-use Rattle.syntax_places.specs.Seen.{seen}
+use Rattle.token_places.specs.Seen.{seen}
 use Rattle.upgrade_cli.specs.Reports.{undecided_in}
 use Rattle.upgrade_cli.proofs.Counting.{counted_file}
 use Rattle.upgrade_cli.proofs.reports.report_count.Goals as goal

@@ -1,5 +1,5 @@
 use Rattle.std.proofs.Common.{◌≡◌, ◌+◌, drop, map}
-use Rattle.syntax_places.specs.Seen.{seen}
+use Rattle.token_places.specs.Seen.{seen}
 use Rattle.upgrade_cli.specs.Reports.{undecided_in}
 use Rattle.upgrade_cli.proofs.reports.undecided_in.Given as goal
 
