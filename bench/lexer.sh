@@ -8,7 +8,7 @@ work=$(mktemp -d)
 trap 'rm -rf "$work"' EXIT
 (cd "$top" && tar cf - --exclude out crates crates.txt HANDLES) | tar xf - -C "$work"
 cd "$work"
-echo 'lex_once: php_lexer php_tree span_edits sqlite_items thiserror' >> crates.txt
+echo 'lex_once: php_lexer php_terminals php_spellings php_tree span_edits sqlite_items thiserror' >> crates.txt
 mkdir -p crates/lex_once/src crates/lex_once/data
 : > crates/lex_once/stdin
 : > crates/lex_once/stdout
@@ -16,14 +16,14 @@ cat > crates/lex_once/src/main.rt <<'PROGRAM'
 // Lexes a file, and prints how many tokens it has.
 #![tactic(auto)]
 
-use php_lexer::lex;
+use php_lexer::lex_marks;
 use php_tree::Version;
 use std::fs;
 use std::io;
 
 fn main(rt: HostRuntime) -> io::Result<()> {
     let data = fs::read(&rt, "source.php")?;
-    match lex(rt.alloc(), Version::V74, data.as_slice()) {
+    match lex_marks(rt.alloc(), Version::V74, data.as_slice()) {
         Ok(found) => println!(rt; "{} tokens", found.len())?,
         Err(fault) => println!(rt; "{fault:?}")?,
     }

@@ -77,3 +77,8 @@ ArePhp (f ∷ fs) = EndsInPhp f.0 × ArePhp fs
 -- the files of a tree of sources
 abbrev pub IsSources : List File → Type 0
 IsSources files = IsTree files × ArePhp files
+
+-- no name stands twice
+abbrev pub AreDistinct : List File → Type 0
+AreDistinct [] = Unit {0}
+AreDistinct (f ∷ fs) = (content f.0 fs ≡ None) × AreDistinct fs

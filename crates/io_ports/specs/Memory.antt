@@ -13,6 +13,14 @@ use Rattle.io_ports.specs.declared.memory.target.MemoryTarget.{MemoryTarget}
 abbrev pub memory_source_files : MemorySource → List File
 memory_source_files s = s.files.items
 
+-- the settings files by name
+abbrev pub memory_source_stored : MemorySource → List File
+memory_source_stored s = s.stored.items
+
+abbrev pub calm_source_stored : CalmSource → List File
+calm_source_stored s = s.stored.items
+
+-- the files of a target by path in byte order
 abbrev pub memory_target_files : MemoryTarget → List File
 memory_target_files t = t.files.items
 

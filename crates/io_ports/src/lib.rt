@@ -1,11 +1,10 @@
-//! The outside: trees of files, sinks of bytes and of reports, their forms in memory, and thin
-//! adapters of the real thing.
+//! The outside: trees of files, sinks of bytes and of reports, and their forms in memory.
 #![tactic(auto)]
 
 mod calm;
 mod fault;
-mod host;
 mod memory;
+mod refusal;
 mod report;
 mod report_sink;
 mod reports;
@@ -17,8 +16,8 @@ mod tests;
 
 pub use calm::{CalmList, CalmSink, CalmSource, CalmTarget};
 pub use fault::PortFault;
-pub use host::{FileSink, FolderSource, FolderTarget, StdoutSink};
 pub use memory::{ListSink, MemorySink, MemorySource, MemoryTarget};
+pub use refusal::refused;
 pub use report::{Report, Weight};
 pub use report_sink::{ReportSink, retire};
 pub use reports::{

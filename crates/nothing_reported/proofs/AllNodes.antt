@@ -1,12 +1,9 @@
 -- Every node of a file.
-use Rattle.std.proofs.Common.{◌≡◌, ℕ, Bool, true, false, not, ◌&&◌, if◌then◌else◌, List, [], ◌∷◌, ◌++◌, Option, refl, sym, ◌∙◌, subst}
-use Rattle.rule_tables.specs.declared.cause.Cause.TheVariants.{Shape}
-use Rattle.rule_tables.specs.declared.rule.RuleId.TheVariants as rule
-use Rattle.rule_tables.specs.Causes.{cause_number}
+use Rattle.std.proofs.Common.{◌≡◌, ℕ, zero, suc, Bool, true, false, not, ◌&&◌, if◌then◌else◌, List, [], ◌∷◌, ◌++◌, Option, refl, sym, ◌∙◌, subst}
 use Rattle.php_tree.specs.declared.kind.NodeKind.{NodeKind}
 use Rattle.php_tree.specs.declared.kind.NodeKind.TheVariants as kind
 use Rattle.php_tree.specs.declared.version.Version.TheVariants.{V74}
-use Rattle.php_tree.specs.Tree.{Forest, none, leaf, node, Tree, File, file_leaves}
+use Rattle.php_tree.specs.Tree.{Forest, none, leaf, node, Tree, File, file_leaves, leaves}
 use Rattle.php_lexer.specs.Lexed.{TokensOf}
 use Rattle.php_reading.specs.Reading.{Reads}
 use Rattle.written_reading.proofs.Sources.{sources_are_spelled}
@@ -14,18 +11,20 @@ use Rattle.nothing_reported.proofs.NoNames.{old_sources}
 use Rattle.php_tree.specs.Places.{behind, end_of}
 use Rattle.php_terminals.specs.declared.terminal.Terminal.{Terminal}
 use Rattle.php_terminals.specs.declared.terminal.Terminal.TheVariants as t
-use Rattle.syntax_rules.specs.Around.{Around, within, at_top}
-use Rattle.syntax_rules.specs.UnsetCast.{is_edited, is_undecided, unset_cast}
-use Rattle.token_places.specs.Seen.{Place}
-use Rattle.syntax_places.specs.NodeRules.{stays, becomes_if, verdict_by, node_places}
-use Rattle.syntax_places.specs.Places.{at_node, in_nodes}
-use Rattle.syntax_places.specs.ReservedName as own
-use Rattle.syntax_places.specs.ReservedName.{Standing, at_first, of_reserved}
-use Rattle.token_places.specs.Enums.{enums}
+use Rattle.php_terminals.specs.Classify.{terminal}
+use Rattle.syntax_rules.specs.UnsetCast.{is_undecided}
+use Rattle.syntax_upgrade.specs.Found.{Report, undecided}
+use Rattle.rule_tables.specs.declared.cause.Cause.TheVariants.{Shape}
+use Rattle.rule_tables.specs.declared.rule.RuleId.TheVariants as rule
+use Rattle.syntax_upgrade.specs.Reports.{at_node, reports_in, text_start}
+use Rattle.syntax_upgrade.specs.NameHeads.{head_at}
+use Rattle.syntax_upgrade.specs.ReservedName as own
+use Rattle.syntax_upgrade.specs.ReservedName.{Standing, at_first, class_by, of_reserved, past, past_node, refused_if, refused_tokens}
+use Rattle.syntax_upgrade.specs.Enums.{enums}
 use Rattle.rewritten_shapes.specs.Laws.{AreSpelled, NoneReported}
 use Rattle.rewritten_shapes.specs.RefusedWords as words
 use Rattle.rewritten_shapes.specs.RefusedWords.{has_refused}
-use Rattle.nothing_reported.specs.Laws.{AreDecided, HasNoName, NothingReported, refused_words}
+use Rattle.nothing_reported.specs.Laws.{HasNoName, NothingReported}
 use Rattle.nothing_reported.proofs.Fronts.{or_none}
 use Rattle.nothing_reported.proofs.OwnWords.{none_anywhere, none_before, same_keyword, same_match}
 use Rattle.nothing_reported.proofs.ClassWords.{none_in_class}
@@ -72,40 +71,41 @@ none_refused kind.LabelStmt c at s n e = no_keyword kind.LabelStmt (λ s x y. re
 none_refused kind.Declare c at s n e = no_keyword kind.Declare (λ s x y. refl) c at e
 none_refused _ c at s n e = refl
 
-cast_decided : (a : Option Around) (at : ℕ) (x : Tree) → AreDecided (at_node rule.UnsetCast a at x) → is_undecided x ≡ false
-cast_decided a at x d = go (is_undecided x) refl
-  where
-    go : (b : Bool) → is_undecided x ≡ b → b ≡ false
-    go false p = refl
-    go true p =
-        let z : AreDecided (node_places at x.1 (verdict_by (if true then stays (cause_number Shape) else becomes_if (is_edited x) unset_cast) at x)) =
-        subst (λ (b : Bool). AreDecided (node_places at x.1 (verdict_by (if b then stays (cause_number Shape) else becomes_if (is_edited x) unset_cast) at x))) p d in
-        absurd (let y : true ≡ false = z.0 in cc)
+only_if : (b : Bool) (r : Report) → (if b then r ∷ [] else []) ≡ [] → b ≡ false
+only_if false r e = refl
+only_if true r e = absurd cc
+
+cast_decided : (at : ℕ) (x : Tree) → at_node at x ≡ [] → is_undecided x ≡ false
+cast_decided at x e = only_if (is_undecided x) (undecided rule.UnsetCast Shape (text_start at (leaves x.1)) (end_of at x.1)) e
 
 -- ---- all nodes
 
-empty_both : (ps qs : List Place) → ps ++ qs ≡ [] → (ps ≡ []) × (qs ≡ [])
+empty_both : (ps qs : List Report) → ps ++ qs ≡ [] → (ps ≡ []) × (qs ≡ [])
 empty_both [] qs e = (refl, e)
 empty_both (p ∷ ps) qs e = absurd cc
 
-decided_both : (ps qs : List Place) → AreDecided (ps ++ qs) → AreDecided ps × AreDecided qs
-decided_both [] qs d = (tt, d)
-decided_both (p ∷ ps) qs d = let r = decided_both ps qs d.1 in ((d.0, r.0), r.1)
+joined : (ps qs : List Report) → ps ≡ [] → qs ≡ [] → ps ++ qs ≡ []
+joined ps qs e h = rw (e, h) refl
 
-all_none : (f : Forest) (around : Bool → Option Around) (i : Bool) (at : ℕ) → AreSpelled f → HasNoName f → AreDecided (in_nodes rule.UnsetCast around i at f) → in_nodes rule.ReservedName around i at f ≡ [] → NoneReported f
-all_none none around i at s n d e = tt
-all_none (leaf x f) around i at s n d e = all_none f around false (behind at x) s.1 n.1 d e
-all_none (node k c f) around i at s n d e =
-    let inner = within k c in
-    let w = empty_both (in_nodes rule.ReservedName inner true at c ++ of_reserved at (k, c)) (in_nodes rule.ReservedName around false (end_of at c) f) e in
-    let v = empty_both (in_nodes rule.ReservedName inner true at c) (of_reserved at (k, c)) w.0 in
-    let a = decided_both (in_nodes rule.UnsetCast inner true at c ++ at_node rule.UnsetCast (around i) at (k, c)) (in_nodes rule.UnsetCast around false (end_of at c) f) d in
-    let b = decided_both (in_nodes rule.UnsetCast inner true at c) (at_node rule.UnsetCast (around i) at (k, c)) a.0 in (
-      cast_decided (around i) at (k, c) b.1,
-      none_refused k c at s.0 n.0 v.1,
-      all_none c inner true at s.0 n.0 b.0 v.0,
-      all_none f around false (end_of at c) s.1 n.1 a.1 w.1,
-    )
+-- no node is refused, and none of the own words of a node
+all_none : (k : NodeKind) (st : Standing) (more at : ℕ) (f : Forest) → AreSpelled f → HasNoName f → reports_in k st more at f ≡ []
+    → NoneReported f × (refused_tokens k st more at f ≡ [])
+all_none k st more at none s n e = (tt, refl)
+all_none k st zero at (leaf x f) s n e =
+    let p = empty_both (refused_if _ at x) (reports_in k (past st (class_by (head_at x f).more (terminal x))) (head_at x f).more (behind at x) f) e in
+    let r = all_none k (past st (class_by (head_at x f).more (terminal x))) (head_at x f).more (behind at x) f s.1 n.1 p.1 in
+    (r.0, joined (refused_if _ at x) (refused_tokens k (past st (class_by (head_at x f).more (terminal x))) (head_at x f).more (behind at x) f) p.0 r.1)
+all_none k st (suc more) at (leaf x f) s n e =
+    let p = empty_both (refused_if _ at x) (reports_in k st more (behind at x) f) e in
+    let r = all_none k st more (behind at x) f s.1 n.1 p.1 in
+    (r.0, joined (refused_if _ at x) (refused_tokens k st more (behind at x) f) p.0 r.1)
+all_none k st more at (node j b f) s n e =
+    let here = reports_in j at_first zero at b ++ at_node at (j, b) in
+    let p = empty_both here (reports_in k (past_node st) zero (end_of at b) f) e in
+    let q = empty_both (reports_in j at_first zero at b) (at_node at (j, b)) p.0 in
+    let inner = all_none j at_first zero at b s.0 n.0 q.0 in
+    let rest = all_none k (past_node st) zero (end_of at b) f s.1 n.1 p.1 in
+    ((cast_decided at (j, b) q.1, none_refused j b at s.0 n.0 inner.1, inner.0, rest.0), rest.1)
 
 -- a file that 7.4 reads has its tokens
 tokens_of : (bytes : List ℕ) (f : File) → Reads V74 bytes f → TokensOf V74 bytes (file_leaves f)
@@ -113,9 +113,9 @@ tokens_of bytes f r = subst (TokensOf V74 bytes) r.parsed.text r.lexed
 
 pub nothing_reported : NothingReported
 nothing_reported = record {
-  by_words = λ f s n d e. all_none f.statements at_top true 0 s n d e;
-  by_places = λ bytes f r d e.
+  by_words = λ f s n e. (all_none kind.Block at_first zero 0 f.statements s n e).0;
+  by_reports = λ bytes f r e.
       let tokens = tokens_of bytes f r in
-      all_none f.statements at_top true 0 (sources_are_spelled V74 bytes f tokens) (old_sources bytes f.statements (f.end ∷ []) tokens) d
-      (empty_both (refused_words f) (enums t.End 0 (file_leaves f)) e).0;
+      (all_none kind.Block at_first zero 0 f.statements (sources_are_spelled V74 bytes f tokens) (old_sources bytes f.statements (f.end ∷ []) tokens)
+      (empty_both (reports_in kind.Block at_first zero 0 f.statements) (enums t.End 0 (file_leaves f)) e).0).0;
 }

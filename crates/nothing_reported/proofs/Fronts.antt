@@ -9,11 +9,11 @@ use Rattle.php_terminals.specs.Classify.{name, terminal, terminal_by}
 use Rattle.php_terminals.specs.Words.{front, is_word}
 use Rattle.tracked_changes.specs.Draft.{NewToken, rewritten, rewritten_token, unchanged_token}
 use Rattle.syntax_rules.specs.SplitName.{is_one, one_name}
-use Rattle.token_places.specs.Seen.{Place}
-use Rattle.token_places.specs.NameHeads.{Head, single, head_of, begins, head_at}
-use Rattle.syntax_places.specs.ReservedName.{class_by, is_last}
-use Rattle.token_places.specs.Refused.{refused_if}
-use Rattle.token_places.proofs.NamesFoundLemmas.{fits, skipped}
+use Rattle.syntax_upgrade.specs.Found.{Report}
+use Rattle.syntax_upgrade.specs.NameHeads.{Head, single, head_of, begins, head_at}
+use Rattle.syntax_upgrade.specs.ReservedName.{class_by, is_last}
+use Rattle.syntax_upgrade.specs.ReservedName.{refused_if}
+use Rattle.nothing_reported.proofs.WholeHeads.{fits, skipped}
 use Rattle.rewritten_shapes.specs.RefusedWords.{named}
 
 -- the parts behind the first so many tokens, with whole names
@@ -74,7 +74,7 @@ same_test p x f e d = go (sort x f)
 -- ---- places
 
 -- no place where none is put in front, and none behind
-pub empty_if : (b : Bool) (at : ℕ) (x : Token) (ps : List Place) → refused_if b at x ++ ps ≡ [] → (b ≡ false) × (ps ≡ [])
+pub empty_if : (b : Bool) (at : ℕ) (x : Token) (ps : List Report) → refused_if b at x ++ ps ≡ [] → (b ≡ false) × (ps ≡ [])
 empty_if true at x ps e = absurd cc
 empty_if false at x ps e = (refl, e)
 

@@ -1,3 +1,4 @@
+pub mod WholeHeads
 pub mod Fronts
 pub mod OwnWords
 pub mod ClassWords

@@ -11,9 +11,9 @@ use Rattle.php_terminals.specs.Words.{is_word, label, labels}
 use Rattle.tracked_changes.specs.Pieces.{Piece, after, before}
 use Rattle.tracked_changes.specs.Draft.{NewToken, unchanged_token}
 use Rattle.syntax_rules.specs.SplitName.{begins_root, deleted, is_backslash, is_label, is_name, is_namespace, is_one, is_op, one_name}
-use Rattle.token_places.specs.NameHeads.{Head, single, head_at}
-use Rattle.syntax_places.specs.ReservedName as own
-use Rattle.token_places.proofs.NamesFoundLemmas.{skipped}
+use Rattle.syntax_upgrade.specs.NameHeads.{Head, single, head_at}
+use Rattle.syntax_upgrade.specs.ReservedName as own
+use Rattle.nothing_reported.proofs.WholeHeads.{skipped}
 use Rattle.rewritten_shapes.specs.Laws.{has_no_root}
 use Rattle.rewritten_shapes.proofs.OperatorWords.{low_word}
 use Rattle.nothing_reported.specs.Laws.{HasNoName}

@@ -7,10 +7,10 @@ use Rattle.php_tree.specs.Places.{behind, end_of}
 use Rattle.php_terminals.specs.declared.terminal.Terminal.{Terminal}
 use Rattle.php_terminals.specs.declared.terminal.Terminal.TheVariants as t
 use Rattle.php_terminals.specs.Classify.{terminal}
-use Rattle.token_places.specs.NameHeads.{head_at}
-use Rattle.syntax_places.specs.ReservedName as own
-use Rattle.syntax_places.specs.ReservedName.{Standing, class_by, is_last, next, past, past_node, refused_tokens, refuses, refuses_last}
-use Rattle.token_places.proofs.NamesFoundLemmas.{skipped_zero}
+use Rattle.syntax_upgrade.specs.NameHeads.{head_at}
+use Rattle.syntax_upgrade.specs.ReservedName as own
+use Rattle.syntax_upgrade.specs.ReservedName.{Standing, class_by, is_last, next, past, past_node, refused_tokens, refuses, refuses_last}
+use Rattle.nothing_reported.proofs.WholeHeads.{skipped_zero}
 use Rattle.rewritten_shapes.specs.RefusedWords as words
 use Rattle.rewritten_shapes.specs.RefusedWords.{has, has_before, named}
 use Rattle.nothing_reported.proofs.Fronts.{left, Sort, sort, front_token, front_is, alone_class, name_class, same_test, empty_if, alone_of, or_none}

@@ -13,10 +13,10 @@ use Rattle.php_terminals.specs.Classify.{cast, cast_letter, names_refused, openi
 use Rattle.php_terminals.specs.Words.{find_row, front, is_word, keyword, keywords, label, labels, operator, operators}
 use Rattle.tracked_changes.specs.Draft.{unchanged_token}
 use Rattle.syntax_rules.specs.SplitName.{is_label, is_name}
-use Rattle.token_places.specs.NameHeads.{head_at}
-use Rattle.syntax_places.specs.ReservedName as own
-use Rattle.syntax_places.specs.ReservedName.{Rank, first, second, later, Standing, at_first, class_by, gives_type, is_class_next, is_last, next, past, past_node, refused_tokens, refuses, refuses_last}
-use Rattle.token_places.proofs.NamesFoundLemmas.{skipped, skipped_zero}
+use Rattle.syntax_upgrade.specs.NameHeads.{head_at}
+use Rattle.syntax_upgrade.specs.ReservedName as own
+use Rattle.syntax_upgrade.specs.ReservedName.{Rank, first, second, later, Standing, at_first, class_by, gives_type, is_class_next, is_last, next, past, past_node, refused_tokens, refuses, refuses_last}
+use Rattle.nothing_reported.proofs.WholeHeads.{skipped, skipped_zero}
 use Rattle.rewritten_shapes.specs.Laws.{AreSpelled, has_no_root, is_label_text, is_spelled_by}
 use Rattle.rewritten_shapes.specs.RefusedWords as words
 use Rattle.rewritten_shapes.specs.RefusedWords.{in_use, in_uses, is_renamed, is_type_name, is_whole_name, named}

@@ -7,10 +7,10 @@ use Rattle.php_tree.specs.Places.{behind, end_of}
 use Rattle.php_terminals.specs.declared.terminal.Terminal.{Terminal}
 use Rattle.php_terminals.specs.declared.terminal.Terminal.TheVariants as t
 use Rattle.php_terminals.specs.Classify.{terminal}
-use Rattle.token_places.specs.NameHeads.{head_at}
-use Rattle.syntax_places.specs.ReservedName as own
-use Rattle.syntax_places.specs.ReservedName.{Rank, first, second, later, Standing, at_first, class_by, gives_type, is_class_next, is_last, next, past, past_node, refused_tokens, refuses, refuses_last}
-use Rattle.token_places.proofs.NamesFoundLemmas.{skipped_zero}
+use Rattle.syntax_upgrade.specs.NameHeads.{head_at}
+use Rattle.syntax_upgrade.specs.ReservedName as own
+use Rattle.syntax_upgrade.specs.ReservedName.{Rank, first, second, later, Standing, at_first, class_by, gives_type, is_class_next, is_last, next, past, past_node, refused_tokens, refuses, refuses_last}
+use Rattle.nothing_reported.proofs.WholeHeads.{skipped_zero}
 use Rattle.rewritten_shapes.specs.Laws.{AreSpelled}
 use Rattle.rewritten_shapes.specs.RefusedWords as words
 use Rattle.rewritten_shapes.specs.RefusedWords.{in_use, in_uses, is_renamed, is_type_name, is_whole_name, named}

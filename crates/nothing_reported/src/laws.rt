@@ -1,7 +1,7 @@
 // The places of rules, and what 8.3 takes.
 ghost use Rattle.nothing_reported.specs.Laws.{NothingReported};
 
-/// In a file without a refused word and without a cast `(unset)` that stays, nothing is reported that stops compiling.
+/// In a file without a report no node is one that 8.3 refuses.
 pub fn nothing_reported()
     ensures { NothingReported }
 {}

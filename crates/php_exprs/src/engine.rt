@@ -54,7 +54,7 @@ fn grow(
     requires low { depth (tree_in built).1 ≤ limit }
     ensures { (fuel : ℕ) → limit + 1 ≤ fuel + depth (tree_in built).1 → GivesTree result (limit + 1) (grown_at (php version) limit fuel sort (tree_in built) tokens.now) }
 {
-    match tail_of(version, sort, built.node(), tokens) {
+    match tail_of(version, sort, built.node(), built.edge(version), tokens) {
         None => Ok((built, tokens)),
         Some((kind, form)) => {
             if built.depth() > limit {

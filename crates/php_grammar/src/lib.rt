@@ -11,6 +11,7 @@ mod tables;
 mod tails;
 
 pub use asks::accepts;
+pub use edges::edge;
 pub use php_forms::item::{ANY, Form, Group, Item, Sort};
 pub use php_terminals::ahead::spanned;
 pub use php_terminals::terminal::Terminal;

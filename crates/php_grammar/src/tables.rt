@@ -3,6 +3,7 @@ ghost use Rattle.std.specs.Prelude.{◌≡◌};
 ghost use Rattle.php_tree.specs.Tree.{tree};
 ghost use Rattle.php_terminals.specs.Ahead.{first_of};
 ghost use Rattle.php_forms.specs.Forms.{form_view};
+ghost use Rattle.php_grammar.specs.Edges.{edge};
 ghost use Rattle.php_grammar.specs.Tables.{form, parts, plain_variable_form, tail};
 
 use crate::operands::class_ref_form;
@@ -276,15 +277,16 @@ pub fn parts_of(version: Version, group: Group, tokens: &[Token]) -> &'static [I
     }
 }
 
-/// The form that goes on behind the node, or none where the node ends.
-pub fn tail_of(version: Version, sort: Sort, node: &Node, tokens: &[Token]) -> Option<Form>
+/// The form that goes on behind the node, which is of this edge, or none where the node ends.
+pub fn tail_of(version: Version, sort: Sort, node: &Node, own: u8, tokens: &[Token]) -> Option<Form>
+    requires { own ≡ edge version (tree node.now) }
     ensures { form_view result ≡ tail version sort (tree node.now) tokens.now }
 {
     match sort {
         Sort::Statement | Sort::Block | Sort::Case | Sort::Member | Sort::Param => None,
         Sort::TypeName | Sort::Args | Sort::Item | Sort::ListItem => None,
-        Sort::Operand(limit) => read_tail(version, limit, node, tokens),
-        Sort::Entry => entry_tail(version, node, tokens),
+        Sort::Operand(limit) => read_tail(version, limit, node, own, tokens),
+        Sort::Entry => entry_tail(version, node, own, tokens),
         Sort::Target => target_tail(version, node, tokens),
         Sort::Place => place_tail(version, node, tokens),
         Sort::SimpleVariable | Sort::PlainVariable => None,

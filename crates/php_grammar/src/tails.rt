@@ -2,13 +2,13 @@
 ghost use Rattle.std.specs.Prelude.{◌≡◌};
 ghost use Rattle.php_tree.specs.Tree.{tree};
 ghost use Rattle.php_forms.specs.Forms.{form_view, when};
+ghost use Rattle.php_grammar.specs.Edges.{edge};
 ghost use Rattle.php_grammar.specs.Tails.{assign_tail, binary_tail, brace_tail, chosen_tail, class_ref_tail, entry_end, entry_tail, interpolated_tail, left_edge, left_fits, member_tail, operand_tail, operator_tail, place_tail, postfix_tail, read_tail, refused_unless, short_left_fits, static_tail, target_tail, ternary_tail};
 
 use crate::bases::{
     is_callee, is_class_base, is_list, is_member_base, is_offset_base, is_short_ternary, is_target,
     is_variable,
 };
-use crate::edges::edge;
 use crate::levels::{binary_items, binary_level, left_limit};
 use php_forms::forms::or_else;
 use php_forms::item::Item::{self, Node as Operand, Part, Word};
@@ -259,21 +259,25 @@ fn operator_tail(
 }
 
 // The edge of a left operand; a list form is none.
-fn left_edge(version: Version, node: &Node) -> u8
+fn left_edge(version: Version, node: &Node, own: u8) -> u8
+    requires { own ≡ edge version (tree node.now) }
     ensures { result ≡ left_edge version (tree node.now) }
 {
-    if is_list(node.kind) {
-        25
-    } else {
-        edge(version, node)
-    }
+    if is_list(node.kind) { 25 } else { own }
 }
 
 // What goes on behind an operand, where operators of the level `limit` and tighter ones may stand.
-fn operand_tail(version: Version, limit: u8, node: &Node, tokens: &[Token]) -> Option<Form>
+fn operand_tail(version: Version, limit: u8, node: &Node, own: u8, tokens: &[Token]) -> Option<Form>
+    requires { own ≡ edge version (tree node.now) }
     ensures { form_view result ≡ operand_tail version limit (tree node.now) tokens.now }
 {
-    let operator = operator_tail(version, limit, left_edge(version, node), node.kind, tokens);
+    let operator = operator_tail(
+        version,
+        limit,
+        left_edge(version, node, own),
+        node.kind,
+        tokens,
+    );
     or_else(postfix_tail(version, node.kind, tokens), operator)
 }
 
@@ -289,14 +293,21 @@ fn refused_unless(test: bool) -> Option<Form>
 }
 
 /// How an operand goes on; a list form must be assigned to.
-pub fn read_tail(version: Version, limit: u8, node: &Node, tokens: &[Token]) -> Option<Form>
+pub fn read_tail(
+    version: Version,
+    limit: u8,
+    node: &Node,
+    own: u8,
+    tokens: &[Token],
+) -> Option<Form>
+    requires { own ≡ edge version (tree node.now) }
     ensures { form_view result ≡ read_tail version limit (tree node.now) tokens.now }
 {
     if is_misindented(node) {
         return Some((NodeKind::Empty, &REFUSED));
     }
     or_else(
-        operand_tail(version, limit, node, tokens),
+        operand_tail(version, limit, node, own, tokens),
         refused_unless(!is_list(node.kind)),
     )
 }
@@ -313,14 +324,15 @@ fn entry_end(kind: NodeKind, next: Terminal) -> Option<Form>
 }
 
 /// How the first expression of an item of a list form goes on: it ends as a key before `=>`, or as a target.
-pub fn entry_tail(version: Version, node: &Node, tokens: &[Token]) -> Option<Form>
+pub fn entry_tail(version: Version, node: &Node, own: u8, tokens: &[Token]) -> Option<Form>
+    requires { own ≡ edge version (tree node.now) }
     ensures { form_view result ≡ entry_tail version (tree node.now) tokens.now }
 {
     if is_misindented(node) {
         return Some((NodeKind::Empty, &REFUSED));
     }
     or_else(
-        operand_tail(version, ANY, node, tokens),
+        operand_tail(version, ANY, node, own, tokens),
         entry_end(node.kind, first(tokens)),
     )
 }

@@ -135,7 +135,7 @@ has (k ∷ ks) b = nat_eq b k || has ks b
 abbrev begins_none : ℕ → Bool
 begins_none b = not (is_letter b) && (not (is_digit b) && not (has marks b))
 
-lower_other : (b : ℕ) → is_letter b ≡ false → lower b ≡ b
+pub lower_other : (b : ℕ) → is_letter b ≡ false → lower b ≡ b
 lower_other b h = by_case (nat_le 65 b && nat_le b 90) refl
   where
     by_case : (t : Bool) → (nat_le 65 b && nat_le b 90) ≡ t → cond t (b + 32) b ≡ b

@@ -1,18 +1,21 @@
 -- The modes of the code, seen as those of the definition, and what the lexer has read so far.
-use Rattle.std.specs.Prelude.{◌≡◌, ◌≤◌, ◌++◌, ◌∷◌, ℕ, ◌&&◌, cond, nat_le, List, [], length, slice_range, drop, map, reverse, Option, Some, None, Result, Ok, Err}
+use Rattle.std.specs.Prelude.{All, ◌≡◌, ◌≤◌, ◌++◌, ◌∷◌, ℕ, ◌&&◌, cond, nat_le, List, [], length, slice_range, take, drop, map, reverse, Option, Some, None, Result, Ok, Err}
 use Rattle.std.specs.declared.alloc.Global.{Global}
 use Rattle.std.specs.declared.vec.Vec.{Vec}
 use Rattle.php_tree.specs.declared.version.Version.{Version}
 use Rattle.php_tree.specs.declared.token.Token.{Token}
 use Rattle.php_tree.specs.declared.token.TokenKind.{TokenKind}
 use Rattle.php_tree.specs.Places.{ArePlaced}
+use Rattle.php_terminals.specs.declared.mark.Mark.{Mark}
+use Rattle.php_terminals.specs.Marked.{IsMark, token_at}
 use Rattle.php_lexer.specs.declared.fault.LexFault.{LexFault}
 use Rattle.php_lexer.specs.declared.fault.LexFault.TheVariants.{TooLong, Memory}
 use Rattle.php_lexer.specs.declared.modes.Mode.{Mode as CodeMode}
 use Rattle.php_lexer.specs.declared.modes.Mode.TheVariants.{Html, Code, Named, Quoted, Offset, Property}
 use Rattle.php_lexer.specs.declared.modes.Turn.{Turn as CodeTurn}
 use Rattle.php_lexer.specs.declared.modes.Turn.TheVariants.{Stay, Enter, Leave}
-use Rattle.php_lexer.specs.Modes.{Mode, html, code, named, quoted, offset, property, Turn, stay, enter, leave}
+use Rattle.php_spellings.specs.declared.table.Kind.{Kind}
+use Rattle.php_lexer.specs.Modes.{Mode, html, code, named, quoted, offset, property, Turn, stay, enter, leave, turn_of}
 use Rattle.php_lexer.specs.Lexed.{Lexeme, Stack, start, left_top, left_below, opened_by, Lexed, Stops, lexeme, TokensOf}
 
 -- the bytes of a range, or none
@@ -64,6 +67,13 @@ abbrev pub IsNoted : CodeMode → CodeTurn → ℕ → List LexFault → List Le
 IsNoted m turn at fs fs' =
     (bytes : List ℕ) → reverse fs' ≡ opened_by (mode_of bytes m) (turn_seen bytes turn) at (reverse fs)
 
+-- A token does to the stack, and to the faults of the open quoted texts, what its turn does.
+pub record IsTurned (version : Version) (bytes : List ℕ) (m : CodeMode) (kind : Kind) (at n : ℕ) (ms : List CodeMode) (m' : CodeMode) (ms' : List CodeMode) (fs fs' : List LexFault) : Type 0 where
+  pub turn : CodeTurn
+  pub seen : turn_seen bytes turn ≡ turn_of version (mode_of bytes m) kind (take n (drop at bytes)) (drop n (drop at bytes))
+  pub after : IsAfter turn ms m' ms'
+  pub noted : IsNoted m turn at fs fs'
+
 abbrev pub first_fault : List LexFault → Option LexFault
 first_fault [] = None
 first_fault (f ∷ fs) = Some f
@@ -96,3 +106,10 @@ Meets version bytes (Ok tokens) = TokensOf version bytes tokens.items
 Meets version bytes (Err Memory) = Unit {0}
 Meets version bytes (Err TooLong) = ⊥
 Meets version bytes (Err fault) = Stops version start [] 0 bytes fault
+
+-- the same for tokens by their places
+abbrev pub MarksMeet : Version → List ℕ → Result (Vec Mark Global) LexFault → Type 0
+MarksMeet version bytes (Ok marks) = TokensOf version bytes (map (token_at bytes) marks.items) × All (IsMark bytes) marks.items
+MarksMeet version bytes (Err Memory) = Unit {0}
+MarksMeet version bytes (Err TooLong) = ⊥
+MarksMeet version bytes (Err fault) = Stops version start [] 0 bytes fault

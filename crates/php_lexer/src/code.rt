@@ -1,14 +1,15 @@
 // The longest token of code.
 ghost use Rattle.std.specs.Prelude.{◌≡◌, ◌∷◌, [], true, false, nat_eq, IsTrue};
-ghost use Rattle.php_spellings.specs.Bytes.{is_letter, is_digit, is_space};
+ghost use Rattle.php_spellings.specs.Bytes.{is_letter, is_digit, is_space, lower};
 ghost use Rattle.php_lexer.specs.RulesCode.{common_rows, code_rows, number_rows};
 ghost use Rattle.php_lexer.specs.Letters.{letter_rows};
 ghost use Rattle.php_lexer.specs.Scan.{scan_by};
 
 use crate::marks::{hash, mark_scan};
 use crate::rows::{longer, word};
+use crate::walks::{labels, spaces};
 use php_spellings::classes::{digit, letter, lower, space};
-use php_spellings::table::{Follow, Kind, Run, Shape, Spot, State, Tail, Until};
+use php_spellings::table::{Follow, Kind, Shape, Spot, State, Tail, Until};
 use php_tree::Version;
 
 // A letter that begins `yield`, or is `b` before a text.
@@ -36,18 +37,31 @@ fn marked_word(bytes: &[u8]) -> Option<(Kind, usize)>
     )
 }
 
-#[tactic(auto, using(crate::proofs::Dispatch::letter_scan, crate::proofs::Dispatch::plain_scan))]
+// A letter that begins neither `yield` nor a text behind `b`.
+fn plain_word(first: u8, rest: &[u8], bytes: &[u8]) -> Option<(Kind, usize)>
+    requires whole { bytes.now ≡ first ∷ rest.now }
+    requires head { is_letter first ≡ true }
+    requires not_b { lower first ≡ 98 → ⊥ }
+    requires not_y { lower first ≡ 121 → ⊥ }
+    ensures { result ≡ scan_by [] common_rows (first ∷ rest.now) }
+{
+    Some((Kind::Word, labels(b"", bytes)))
+}
+
+#[tactic(auto, using(crate::proofs::Dispatch::letter_scan))]
 fn word_scan(first: u8, rest: &[u8], bytes: &[u8]) -> Option<(Kind, usize)>
     requires whole { bytes.now ≡ first ∷ rest.now }
     requires head { is_letter first ≡ true }
     ensures { result ≡ scan_by [] common_rows (first ∷ rest.now) }
 {
     let head = lower(first);
-    if head == 98 || head == 121 {
-        marked_word(bytes)
-    } else {
-        longer(Kind::Word, word(b"", Tail::AnyWord, b"", bytes), None)
+    if head == 98 {
+        return marked_word(bytes);
     }
+    if head == 121 {
+        return marked_word(bytes);
+    }
+    plain_word(first, rest, bytes)
 }
 
 fn numbers(bytes: &[u8]) -> Option<(Kind, usize)>
@@ -79,14 +93,13 @@ fn number_scan(first: u8, rest: &[u8], bytes: &[u8]) -> Option<(Kind, usize)>
     numbers(bytes)
 }
 
-#[tactic(auto, using(crate::proofs::Dispatch::space_scan))]
+#[tactic(auto, using(crate::proofs::RunLemmas::space_direct))]
 fn space_scan(first: u8, rest: &[u8], bytes: &[u8]) -> Option<(Kind, usize)>
     requires whole { bytes.now ≡ first ∷ rest.now }
     requires head { is_space first ≡ true }
     ensures { result ≡ scan_by [] common_rows (first ∷ rest.now) }
 {
-    let run = Tail::SomeOf(Run::Spaces, State::First);
-    longer(Kind::Space, word(b"", run, b"", bytes), None)
+    Some((Kind::Space, spaces(b"", State::First, bytes)))
 }
 
 // The longest token that both versions have.

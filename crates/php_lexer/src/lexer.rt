@@ -1,41 +1,22 @@
 // The tokens of a file.
-ghost use Rattle.std.specs.Prelude.{◌≡◌, ◌≤◌, ◌<◌, ◌^◌, ◌++◌, ◌∷◌, length, IfOk, IfErr, OnOk, [], drop, reverse};
+ghost use Rattle.std.specs.Prelude.{All, map, ◌≡◌, ◌≤◌, ◌<◌, ◌+◌, ◌^◌, ◌++◌, ◌∷◌, length, IfOk, IfErr, OnOk, [], drop, reverse};
 ghost use Rattle.php_lexer.specs.Lexed.{fault_at, code_fault, open_fault, byte_limit, TokensOf, IsFault};
-ghost use Rattle.php_lexer.specs.Views.{token_cut, mode_of, Meets, IsAfter, IsNoted, first_fault};
+ghost use Rattle.php_lexer.specs.Views.{mode_of, MarksMeet, IsAfter, IsNoted, IsTurned, first_fault};
+ghost use Rattle.php_terminals.specs.Marked.{IsMark, token_at};
 
 use crate::fault::LexFault;
-use crate::modes::{Mode, Turn, turn_of};
+use crate::modes::{Mode, Turn, stays, turn_of};
 use crate::scan::next;
 use php_spellings::classes::starts_word;
 use php_spellings::numbers::token_kind;
-use php_spellings::table::Mark;
+use php_spellings::table::{Kind, Mark as Quote};
+use php_terminals::mark::Mark;
+use php_terminals::marked::{lead_of, mark_at, text_of};
 use php_tree::{Token, TokenKind, Version};
 use span_edits::Bytes;
 use std::alloc::{AllocError, Global};
 
 const BYTE_LIMIT: usize = 1_048_576;
-
-fn cut_token(
-    alloc: Global,
-    bytes: &[u8],
-    kind: TokenKind,
-    lead: usize,
-    at: usize,
-    end: usize,
-) -> Result<Token, AllocError>
-    requires order { lead ≤ at }
-    requires length { at ≤ end }
-    requires within { end ≤ length bytes.now }
-    requires limit { length bytes.now ≤ byte_limit }
-    ensures { IfOk result (λ t. t ≡ token_cut bytes.now kind lead at end) }
-{
-    Ok(Token {
-        kind,
-        lead: Bytes::new(Vec::from_slice(alloc, &bytes[lead..at])?),
-        text: Bytes::new(Vec::from_slice(alloc, &bytes[at..end])?),
-        start: at as u32,
-    })
-}
 
 // The fault at a place of code where no token begins.
 fn code_fault_at(at: u32, here: &[u8]) -> LexFault
@@ -66,13 +47,13 @@ fn fault_here(bytes: &[u8], mode: Mode, at: u32, here: &[u8]) -> LexFault
     }
 }
 
-fn open_fault_at(mark: Mark, at: u32) -> LexFault
+fn open_fault_at(mark: Quote, at: u32) -> LexFault
     ensures { result ≡ open_fault mark at }
 {
     match mark {
-        Mark::Here => LexFault::OpenHeredoc(at),
-        Mark::Double => LexFault::OpenText(at),
-        Mark::Back => LexFault::OpenText(at),
+        Quote::Here => LexFault::OpenHeredoc(at),
+        Quote::Double => LexFault::OpenText(at),
+        Quote::Back => LexFault::OpenText(at),
     }
 }
 
@@ -121,6 +102,28 @@ fn note(opens: &mut Vec<LexFault>, mode: Mode, turn: Turn, at: u32) -> Result<()
     Ok(())
 }
 
+// The mode behind the token at a place.
+fn turned(
+    version: Version,
+    bytes: &[u8],
+    mode: Mode,
+    kind: Kind,
+    at: usize,
+    len: usize,
+    below: &mut Vec<Mode>,
+    opens: &mut Vec<LexFault>,
+) -> Result<Mode, AllocError>
+    requires within { at + len ≤ length bytes.now }
+    requires some { 0 < len }
+    requires short { length bytes.now ≤ byte_limit }
+    ensures { IfOk result (λ m. IsTurned version bytes.now mode kind at len below.old.items m below.new.items opens.old.items opens.new.items) }
+{
+    let turn = turn_of(version, bytes, mode, kind, at, len);
+    note(opens, mode, turn, at as u32)?;
+    let behind = follow(below, turn)?;
+    Ok(behind)
+}
+
 // The fault of the innermost text that has not ended.
 fn innermost(opens: &Vec<LexFault>) -> Option<LexFault>
     ensures { result ≡ first_fault (reverse opens.now.items) }
@@ -128,19 +131,19 @@ fn innermost(opens: &Vec<LexFault>) -> Option<LexFault>
     opens.last().copied()
 }
 
-fn push(tokens: &mut Vec<Token>, token: Token) -> Result<(), AllocError>
-    ensures { OnOk result (tokens.new.items ≡ tokens.old.items ++ token ∷ []) }
+fn push(marks: &mut Vec<Mark>, mark: Mark) -> Result<(), AllocError>
+    ensures { OnOk result (marks.new.items ≡ marks.old.items ++ mark ∷ []) }
 {
-    tokens.push(token)?;
+    marks.push(mark)?;
     Ok(())
 }
 
 // The tokens of a file of no more bytes than the limit.
-fn read(alloc: Global, version: Version, bytes: &[u8]) -> Result<Vec<Token>, LexFault>
+fn read(alloc: Global, version: Version, bytes: &[u8]) -> Result<Vec<Mark>, LexFault>
     requires { length bytes.now ≤ byte_limit }
-    ensures { Meets version bytes.now result }
+    ensures { MarksMeet version bytes.now result }
 {
-    let mut tokens = Vec::new(alloc);
+    let mut marks = Vec::new(alloc);
     let mut below = Vec::new(alloc);
     let mut opens = Vec::new(alloc);
     let mut mode = Mode::Html;
@@ -151,15 +154,15 @@ fn read(alloc: Global, version: Version, bytes: &[u8]) -> Result<Vec<Token>, Lex
         match next(version, bytes, mode, here) {
             None => return Err(fault_here(bytes, mode, at as u32, here)),
             Some((kind, len)) => {
-                let turn = turn_of(version, bytes, mode, kind, at, len);
-                note(&mut opens, mode, turn, at as u32)?;
-                mode = follow(&mut below, turn)?;
                 let (text, _) = here.split_at(len);
+                if !stays(mode, kind, text) {
+                    mode = turned(version, bytes, mode, kind, at, len, &mut below, &mut opens)?;
+                }
                 match token_kind(kind, text) {
                     None => {}
                     Some(kind) => {
-                        let token = cut_token(alloc, bytes, kind, lead, at, at + len)?;
-                        push(&mut tokens, token)?;
+                        let mark = mark_at(bytes, kind, lead, at, at + len);
+                        push(&mut marks, mark)?;
                         lead = at + len;
                     }
                 }
@@ -171,9 +174,59 @@ fn read(alloc: Global, version: Version, bytes: &[u8]) -> Result<Vec<Token>, Lex
         None => {}
         Some(fault) => return Err(fault),
     }
-    let end = cut_token(alloc, bytes, TokenKind::End, lead, at, at)?;
-    push(&mut tokens, end)?;
+    let end = mark_at(bytes, TokenKind::End, lead, at, at);
+    push(&mut marks, end)?;
+    Ok(marks)
+}
+
+// The token at some places.
+fn token_of_mark(alloc: Global, bytes: &[u8], mark: Mark) -> Result<Token, AllocError>
+    requires { IsMark bytes.now mark }
+    ensures { IfOk result (λ t. t ≡ token_at bytes.now mark) }
+{
+    Ok(Token {
+        kind: mark.kind,
+        lead: Bytes::new(Vec::from_slice(alloc, lead_of(bytes, mark))?),
+        text: Bytes::new(Vec::from_slice(alloc, text_of(bytes, mark))?),
+        start: mark.start,
+    })
+}
+
+fn push_token(tokens: &mut Vec<Token>, token: Token) -> Result<(), AllocError>
+    ensures { OnOk result (tokens.new.items ≡ tokens.old.items ++ token ∷ []) }
+{
+    tokens.push(token)?;
+    Ok(())
+}
+
+/// The tokens at some places. The only error is want of memory.
+pub fn tokens_of_marks(
+    alloc: Global,
+    bytes: &[u8],
+    marks: &[Mark],
+) -> Result<Vec<Token>, AllocError>
+    requires { All (IsMark bytes.now) marks.now }
+    ensures { IfOk result (λ tokens. tokens.items ≡ map (token_at bytes.now) marks.now) }
+{
+    let mut tokens = Vec::new(alloc);
+    for mark in marks {
+        let token = token_of_mark(alloc, bytes, *mark)?;
+        push_token(&mut tokens, token)?;
+    }
     Ok(tokens)
+}
+
+/// The tokens of a file, as `lex` gives them, by their places.
+pub fn lex_marks(alloc: Global, version: Version, bytes: &[u8]) -> Result<Vec<Mark>, LexFault>
+    ensures tokens { IfOk result (λ marks. TokensOf version bytes.now (map (token_at bytes.now) marks.items)) }
+    ensures marks { IfOk result (λ marks. All (IsMark bytes.now) marks.items) }
+    ensures within { OnOk result (length bytes.now ≤ byte_limit) }
+    ensures fault { IfErr result (λ fault. IsFault version bytes.now fault) }
+{
+    if bytes.len() > BYTE_LIMIT {
+        return Err(LexFault::TooLong);
+    }
+    read(alloc, version, bytes)
 }
 
 /// The tokens of a file. Each is the longest of its mode at its place, by the tables of the
@@ -189,8 +242,6 @@ pub fn lex(alloc: Global, version: Version, bytes: &[u8]) -> Result<Vec<Token>, 
     ensures within { OnOk result (length bytes.now ≤ byte_limit) }
     ensures fault { IfErr result (λ fault. IsFault version bytes.now fault) }
 {
-    if bytes.len() > BYTE_LIMIT {
-        return Err(LexFault::TooLong);
-    }
-    read(alloc, version, bytes)
+    let marks = lex_marks(alloc, version, bytes)?;
+    Ok(tokens_of_marks(alloc, bytes, marks.as_slice())?)
 }

@@ -1,7 +1,7 @@
 // Which mode a token leaves.
-ghost use Rattle.std.specs.Prelude.{◌≡◌, ◌≤◌, ◌+◌, ◌<◌, ◌∷◌, [], length, take, drop, nat_eq, true};
+ghost use Rattle.std.specs.Prelude.{IsTrue, ◌≡◌, ◌≤◌, ◌+◌, ◌<◌, ◌∷◌, [], length, take, drop, nat_eq, true};
 ghost use Rattle.php_spellings.specs.declared.table.Mark.TheVariants.{Here};
-ghost use Rattle.php_lexer.specs.Modes.{is_byte, brace_turn, begins_arrow, begins_property, part_turn, ends_line, code_turn, quoted_turn, turn_of, html, code, quoted, offset, property, enter, label_of, label_place};
+ghost use Rattle.php_lexer.specs.Modes.{is_byte, brace_turn, begins_arrow, begins_property, part_turn, ends_line, code_turn, quoted_turn, turn_of, html, code, quoted, offset, property, enter, stay, label_of, label_place};
 ghost use Rattle.php_lexer.specs.Views.{mode_of, turn_seen, cut};
 
 use php_spellings::classes::{first_is, first_letter, label_bytes, letter, line_end};
@@ -198,6 +198,35 @@ fn property_turned(version: Version, bytes: &[u8], kind: Kind, text: &[u8], rest
     match kind {
         Kind::Label => Turn::Leave,
         _ => Turn::Stay(Mode::Property),
+    }
+}
+
+// Whether a token of code leaves the stack as it is.
+fn stays_in_code(kind: Kind, text: &[u8]) -> bool
+    ensures { IsTrue result → code_turn kind text.now ≡ stay code }
+{
+    match kind {
+        Kind::Close => false,
+        Kind::Quote => false,
+        Kind::Backtick => false,
+        Kind::HeredocStart => false,
+        Kind::Op => !byte_is(text, 123) && !byte_is(text, 125),
+        _ => true,
+    }
+}
+
+/// Whether the token is one of code that leaves the stack as it is.
+pub fn stays(mode: Mode, kind: Kind, text: &[u8]) -> bool
+    ensures mode { IsTrue result → mode ≡ Mode.Code }
+    ensures turn { IsTrue result → code_turn kind text.now ≡ stay code }
+{
+    match mode {
+        Mode::Html => false,
+        Mode::Code => stays_in_code(kind, text),
+        Mode::Named => false,
+        Mode::Quoted(_, _, _, _) => false,
+        Mode::Offset => false,
+        Mode::Property => false,
     }
 }
 

@@ -1,13 +1,17 @@
 // How far runs go, and where texts with a closing byte end.
 ghost use Rattle.std.specs.Prelude.{◌≡◌, ◌≤◌, ◌+◌, ◌∷◌, length, drop, IfSome, codes};
 ghost use Rattle.php_spellings.specs.declared.table.State.TheVariants.{First};
+ghost use Rattle.php_spellings.specs.declared.table.Run.TheVariants.{Spaces, Labels};
+ghost use Rattle.std.specs.List.{prefix_len};
+ghost use Rattle.php_spellings.specs.Bytes.{is_space};
 ghost use Rattle.php_lexer.specs.Heredocs.{no_label};
 ghost use Rattle.php_lexer.specs.Tails.{begins_part, begins_tag, in_piece, in_line, goes, escape, moved, word_alone, begins_type, closes, bars, turned};
 ghost use Rattle.php_lexer.specs.Scan.{run_len, until_len};
 
 use crate::heredocs::last_line;
 use php_spellings::classes::{
-    blank_byte, first_is, first_space, label_byte, letter, line_end, lower, space, starts_word,
+    blank_byte, first_is, first_letter, first_space, label_byte, label_bytes, letter, line_end,
+    lower, space, starts_word,
 };
 use php_spellings::table::{Mark, Run, State, Until};
 
@@ -130,9 +134,38 @@ fn next_state(run: Run, state: State, byte: u8) -> State
     }
 }
 
-// The length of the run.
+// How many bytes of white space the bytes begin with.
+fn space_count(bytes: &[u8]) -> usize
+    ensures count { result ≡ prefix_len is_space bytes.now }
+    ensures within { result ≤ length bytes.now }
+{
+    bytes.iter().take_while(|byte| space(**byte)).count()
+}
+
+// The length of a run of white space.
+pub fn spaces(label: &[u8], first: State, bytes: &[u8]) -> usize
+    ensures count { result ≡ run_len Spaces label.now first bytes.now }
+    ensures within { result ≤ length bytes.now }
+{
+    space_count(bytes)
+}
+
+// The length of a label that begins here.
+#[tactic(auto, using(crate::proofs::RunLemmas::letter_run, crate::proofs::RunLemmas::no_letter_run))]
+pub fn labels(label: &[u8], bytes: &[u8]) -> usize
+    ensures count { result ≡ run_len Labels label.now First bytes.now }
+    ensures within { result ≤ length bytes.now }
+{
+    if first_letter(bytes) {
+        label_bytes(bytes)
+    } else {
+        0
+    }
+}
+
+// The length of a run, byte by byte.
 #[tactic(auto, using(crate::proofs::Steps::run_step, crate::proofs::Steps::run_stop, crate::proofs::Steps::run_end, php_spellings::proofs::StartLemmas::split))]
-pub fn run_length(run: Run, label: &[u8], first: State, bytes: &[u8]) -> usize
+fn any_run(run: Run, label: &[u8], first: State, bytes: &[u8]) -> usize
     ensures count { result ≡ run_len run label.now first bytes.now }
     ensures within { result ≤ length bytes.now }
 {
@@ -146,6 +179,33 @@ pub fn run_length(run: Run, label: &[u8], first: State, bytes: &[u8]) -> usize
         state = next_state(run, state, *byte);
     }
     bytes.len()
+}
+
+// The length of a run of labels.
+fn label_run(label: &[u8], first: State, bytes: &[u8]) -> usize
+    ensures count { result ≡ run_len Labels label.now first bytes.now }
+    ensures within { result ≤ length bytes.now }
+{
+    match first {
+        State::First => labels(label, bytes),
+        State::Plain => any_run(Run::Labels, label, first, bytes),
+        State::Escaped => any_run(Run::Labels, label, first, bytes),
+    }
+}
+
+// The length of the run.
+pub fn run_length(run: Run, label: &[u8], first: State, bytes: &[u8]) -> usize
+    ensures count { result ≡ run_len run label.now first bytes.now }
+    ensures within { result ≤ length bytes.now }
+{
+    match run {
+        Run::Spaces => spaces(label, first, bytes),
+        Run::Labels => label_run(label, first, bytes),
+        Run::Line => any_run(run, label, first, bytes),
+        Run::HashLine => any_run(run, label, first, bytes),
+        Run::Html => any_run(run, label, first, bytes),
+        Run::Body(_) => any_run(run, label, first, bytes),
+    }
 }
 
 // Whether the word begins the bytes, and no byte of a label follows it.
@@ -163,7 +223,8 @@ fn word_only(word: &[u8], bytes: &[u8]) -> bool
     }
 }
 
-fn type_word(bytes: &[u8]) -> bool
+// Whether one of the words that name a type begins the bytes, of which the first is a letter.
+fn any_type_word(bytes: &[u8]) -> bool
     ensures { result ≡ begins_type bytes.now }
 {
     word_only(b"int", bytes)
@@ -178,6 +239,18 @@ fn type_word(bytes: &[u8]) -> bool
         || word_only(b"binary", bytes)
         || word_only(b"real", bytes)
         || word_only(b"unset", bytes)
+}
+
+// Whether one of the words that name a type begins the bytes.
+#[tactic(auto, using(crate::proofs::RunLemmas::no_type))]
+fn type_word(bytes: &[u8]) -> bool
+    ensures { result ≡ begins_type bytes.now }
+{
+    if first_letter(bytes) {
+        any_type_word(bytes)
+    } else {
+        false
+    }
 }
 
 fn closing(until: Until, state: State, byte: u8) -> bool

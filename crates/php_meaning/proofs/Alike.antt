@@ -1,41 +1,26 @@
 -- Two runs in one version that do the same but for what they tell of themselves, wherever the first stays inside.
-use Rattle.std.specs.Prelude.{◌≡◌, ℕ, zero, suc, ◌+◌, List, [], ◌∷◌, ◌++◌, Bool, true, false, cond, refl, Option, Some, None}
+use Rattle.std.specs.Prelude.{◌≡◌, ℕ, zero, suc, ◌+◌, List, [], ◌∷◌, ◌++◌, length, Bool, true, false, ◌&&◌, nat_eq, cond, refl, Option, Some, None}
 use Rattle.std.specs.Str.{bytes_eq}
-use Rattle.std.proofs.Common.{ap, sym, ◌∙◌, subst}
-use Rattle.php_tree.specs.Tree.{Forest, count}
+use Rattle.std.proofs.Common.{ap, sym, ◌∙◌, subst, arith}
+use Rattle.std.proofs.lemmas.Slice.Eq.{bytes_eq-Decides}
+use Rattle.php_tree.specs.declared.token.TokenKind.TheVariants as token
+use Rattle.php_tree.specs.declared.token.Token.{Token}
+use Rattle.php_tree.specs.declared.kind.NodeKind.{NodeKind}
+use Rattle.php_tree.specs.Tree.{Forest, none, leaf, node, count}
+use Rattle.php_meaning.specs.Slot.{Declared}
+use Rattle.php_meaning.specs.Form.{Form, Part, word, child, joins, part_of, part_before, bits, parts, form, kids}
+use Rattle.php_meaning.specs.Sites.{Site, file_site, is_declaration, declarations, one_if, within, beside}
+use Rattle.php_meaning.specs.Tables.{Tables, tables_of}
 use Rattle.php_meaning.specs.Cause.{NoRule}
-use Rattle.php_meaning.specs.World.{Store, Bytes, Place, End, Going, Before, World}
-use Rattle.php_meaning.specs.Script.{Return, Throw, Break, Continue, Out, Val, At, Jump, Mode, Target, Kid, Again, Body, Script, Give, Stop, Finish, Look, Put, Echo, Turn, Ask, Run}
-use Rattle.php_meaning.specs.Rules.{rule, run_all}
+use Rattle.php_meaning.specs.World.{Store, Bytes, Place, Going, Outside, Before, World}
+use Rattle.php_meaning.specs.Script.{Return, Throw, Break, Continue, Out, Val, Fresh, At, Jump, Mode, Target, Kid, Again, There, File, Script, Give, Stop, Finish, Look, Put, Echo, Turn, Ask, Run}
+use Rattle.php_meaning.specs.Rules.{rule, file_script}
 use Rattle.php_meaning.specs.Statements.{is_statement}
 use Rattle.php_meaning.specs.Input.{Input}
-use Rattle.php_meaning.specs.Run.{begun, Program, Mark, file_at, is_stopped, is_refused, Result, Done, Over, then_do, with_turn, play, own_texts, children, Entry, FileStart, BodyStart, Site, place_in, place_of_file, told, left, starting, unless_stopped, going, step, run_file, unless_refused, enter, first_world, end_of_file, answer, and_start, start_all, run_of}
+use Rattle.php_meaning.specs.Run.{begun, Program, Mark, file_at, is_stopped, is_refused, Result, Done, Over, then_do, with_turn, play, Entry, FileStart, DeclarationStart, place_in, place_of_file, told, left, starting, unless_stopped, going, passes, at_node, step, run_file, declared_in, run_declared, unless_refused, enter, first_world, end_of_file, answer, and_start, start_all, run_of}
 use Rattle.php_meaning.specs.Laws.{IsInside, SameRun}
-use Rattle.php_meaning.specs.SameScripts.{HasScriptsOf, nothing, token_before, token_behind, same, replaced, wrapped, HaveScriptsOf, no_more, one_more}
-
--- equal but for what was told
-pub record Same (w u : World) : Type 0 where
-  pub store : u.store ≡ w.store
-  pub echo : u.echo ≡ w.echo
-  pub turns : u.turns ≡ w.turns
-
--- the second comes to the same
-abbrev pub DoneAlike : Out → World → Result → Type 0
-DoneAlike o w (Done p u) = (p ≡ o) × Same w u
-DoneAlike o w (Over e u) = ⊥
-
--- the second is over in the same way
-abbrev pub OverAlike : End → World → Result → Type 0
-OverAlike e w (Done p u) = ⊥
-OverAlike e w (Over d u) = (d ≡ e) × Same w u
-
--- where the first is not outside, the second does the same
-abbrev pub Follows : Result → Result → Type 0
-Follows (Done o w) r = DoneAlike o w r
-Follows (Over e w) r = IsInside e → OverAlike e w r
-
-pub record Alike (m n : World → Result) : Type 0 where
-  pub follows : (w u : World) → Same w u → Follows (m w) (n u)
+use Rattle.php_meaning.specs.Following.{Same, Follows, Alike}
+use Rattle.php_meaning.specs.SameScripts.{HasScriptsOf, nothing, token_before, token_behind, same, replaced, kept, wrapped, HaveScriptsOf, no_more, one_more, DeclareAlike}
 
 then_follows : (r q : Result) (k l : Out → World → Result) → Follows r q → ((o : Out) → Alike (k o) (l o)) → Follows (then_do r k) (then_do q l)
 then_follows (Done o w) (Done p u) k l f h = subst (λ x. Follows (k o w) (l x u)) (sym f.0) ((h o).follows w u f.1)
@@ -64,7 +49,7 @@ module _ (v : Bool) (here there : Place) (go to : Target → World → Result) (
   play_follows (Turn k) w u s =
       turn_follows w u w.turns u.turns (play v here go k) (play v there to k) s.turns s (record { follows = λ a b t. play_follows k a b t })
   play_follows (Ask point k) w u s =
-      play_follows (k v) (record w { asked = point ∷ w.asked }) (record u { asked = point ∷ u.asked })
+      play_follows (k v) (record w { asked = record { place = here; point = point } ∷ w.asked }) (record u { asked = record { place = there; point = point } ∷ u.asked })
       (record { store = s.store; echo = s.echo; turns = s.turns })
   play_follows (Run x k) w u s =
       then_follows (go x w) (to x u) (λ o a. play v here go (k o) a) (λ o a. play v there to (k o) a) ((h x).follows w u s)
@@ -97,92 +82,241 @@ starting_follows true b w u k l e s h =
 starting_follows false b w u k l e s h =
     subst (λ x. Follows (starting false w k) (starting x u l)) (sym e) (h.follows w u s)
 
+-- a pass of a node, and those that follow it
+passes_alike : (f l : (Mode → World → Result) → Mode → World → Result)
+    → ((x y : Mode → World → Result) → ((m : Mode) → Alike (x m) (y m)) → (m : Mode) → Alike (f x m) (l y m))
+    → (n : ℕ) (m : Mode) → Alike (passes f n m) (passes l n m)
+passes_alike f l h zero m = record { follows = λ w u s i. (refl, s) }
+passes_alike f l h (suc n) m = h (passes f n) (passes l n) (λ i. passes_alike f l h n i) m
+
+either_alike : (a b : Bool) (f g l j : World → Result) → b ≡ a → Alike f l → Alike g j
+    → Alike (λ w. elim a [ true ↦ f w | false ↦ g w ]) (λ w. elim b [ true ↦ l w | false ↦ j w ])
+either_alike a b f g l j e p q =
+    subst (λ x. Alike (λ w. elim a [ true ↦ f w | false ↦ g w ]) (λ w. elim x [ true ↦ l w | false ↦ j w ])) (sym e) (both a)
+  where
+    both : (x : Bool) → Alike (λ w. elim x [ true ↦ f w | false ↦ g w ]) (λ w. elim x [ true ↦ l w | false ↦ j w ])
+    both true = p
+    both false = q
+
+-- neither node is the declaration that is looked for
+neither_alike : (a b p q : Bool) (f g l j : World → Result) → a ≡ false → b ≡ false → Alike g j
+    → Alike (λ w. elim (a && p) [ true ↦ f w | false ↦ g w ]) (λ w. elim (b && q) [ true ↦ l w | false ↦ j w ])
+neither_alike true b p q f g l j e d h = absurd (let x : true ≡ false = e in cc)
+neither_alike false true p q f g l j e d h = absurd (let x : true ≡ false = d in cc)
+neither_alike false false p q f g l j e d h = h
+
 -- ---- nodes with the same scripts
 
-pub children_same : {f g : Forest} → HasScriptsOf f g → children g ≡ children f
+pub kids_behind : (t : Token) (ps : List Part) → kids (bits (part_before t ps)) ≡ kids (bits ps)
+kids_behind t [] = refl
+kids_behind t (word false k v ∷ ps) = refl
+kids_behind t (child ∷ ps) = refl
+kids_behind t (word true k v ∷ ps) =
+    elim (joins t v) as (λ b. kids (bits (cond b (word true token.Name (t.text ++ v) ∷ ps) (part_of t ∷ word true k v ∷ ps))) ≡ kids (bits ps))
+    [ true ↦ refl | false ↦ refl ]
+
+pub children_same : {t t' : Tables} {s : Site} {f g : Forest} → HasScriptsOf t t' s f g → kids (form g) ≡ kids (form f)
 children_same nothing = refl
-children_same (token_before d) = children_same d
-children_same (token_behind d) = children_same d
+children_same (token_before {u} {f} {g} d) = children_same d ∙ sym (kids_behind u (parts f))
+children_same (token_behind {u} {f} {g} d) = kids_behind u (parts g) ∙ children_same d
 children_same (same h d e) = ap suc (children_same e)
 children_same (replaced h e) = ap suc (children_same e)
-children_same (wrapped d e) = ap suc (children_same e)
+children_same (kept h e) = ap suc (children_same e)
+children_same (wrapped h d e) = ap suc (children_same e)
 
-module _ (v : Bool) (marks : List Mark) (lower low : Entry → World → Result) (h : (e : Entry) → Alike (lower e) (low e)) where
-  going_alike : (here there : Place) (kid lid : ℕ → Mode → World → Result) → ((i : ℕ) (m : Mode) → Alike (kid i m) (lid i m)) → (t : Target) → Alike (going here lower kid t) (going there low lid t)
-  going_alike here there kid lid g (Kid i m) = g i m
-  going_alike here there kid lid g Again = record { follows = λ w u s i. absurd i }
-  going_alike here there kid lid g (Body b) = h (BodyStart b)
+pub no_sum : (a b : ℕ) → a + b ≡ zero → (a ≡ zero) × (b ≡ zero)
+no_sum a b e = (let x : a ≡ zero = omega (arith, e) in x, let y : b ≡ zero = omega (arith, e) in y)
+
+-- a node that is no declaration and holds none
+no_declaration : (b : Bool) (n : ℕ) → one_if b n ≡ zero → (b ≡ false) × (n ≡ zero)
+no_declaration true n e = absurd (let f : ⊥ = omega (arith, e) in f)
+no_declaration false n e = (refl, e)
+
+-- where nothing is declared, nothing is found
+pub none_found : (v : Bool) (t : Tables) (ms : List Mark) (go : Entry → World → Result) (s : Site) (f : Forest) → declarations f ≡ zero → (id n : ℕ) (m : Mode) (x : World → Result) (w : World)
+    → declared_in v t ms go s f id n m x w ≡ x w
+none_found v t ms go s none e id n m x w = refl
+none_found v t ms go s (leaf a f) e id n m x w = none_found v t ms go s f e id n m x w
+none_found v t ms go s (node k c f) e id n m x w =
+    let both : (one_if (is_declaration k) (declarations c) ≡ zero) × (declarations f ≡ zero) = no_sum (one_if (is_declaration k) (declarations c)) (declarations f) e in
+    let inner : (is_declaration k ≡ false) × (declarations c ≡ zero) = no_declaration (is_declaration k) (declarations c) both.0 in
+    subst (λ b. elim (b && nat_eq s.number n) as (λ y. Result) [
+      | true ↦ at_node v t go s k c id (step v t ms go (within k c s) c (suc id)) m w
+      | false ↦ declared_in v t ms go (within k c s) c (suc id) n m (λ u. declared_in v t ms go (beside k c s) f (suc (id + count c)) n m x u) w
+    ] ≡ x w) (sym inner.0)
+    (none_found v t ms go (within k c s) c inner.1 (suc id) n m (λ u. declared_in v t ms go (beside k c s) f (suc (id + count c)) n m x u) w
+    ∙ none_found v t ms go (beside k c s) f both.1 (suc (id + count c)) n m x w)
+
+-- a node that is no declaration and holds none is passed over
+pub passed : (v : Bool) (t : Tables) (ms : List Mark) (go : Entry → World → Result) (s : Site) (k : NodeKind) (c f : Forest) → is_declaration k ≡ false → declarations c ≡ zero
+    → (id n : ℕ) (m : Mode) (x : World → Result) (w : World)
+    → declared_in v t ms go s (node k c f) id n m x w ≡ declared_in v t ms go (beside k c s) f (suc (id + count c)) n m x w
+passed v t ms go s k c f e z id n m x w =
+    subst (λ b. elim (b && nat_eq s.number n) as (λ y. Result) [
+      | true ↦ at_node v t go s k c id (step v t ms go (within k c s) c (suc id)) m w
+      | false ↦ declared_in v t ms go (within k c s) c (suc id) n m (λ u. declared_in v t ms go (beside k c s) f (suc (id + count c)) n m x u) w
+    ] ≡ declared_in v t ms go (beside k c s) f (suc (id + count c)) n m x w) (sym e)
+    (none_found v t ms go (within k c s) c z (suc id) n m (λ u. declared_in v t ms go (beside k c s) f (suc (id + count c)) n m x u) w)
+
+module _ (v : Bool) (t t' : Tables) (early : (path : Bytes) (n : ℕ) → file_script t' path n ≡ file_script t path n) (marks : List Mark) (lower low : Entry → World → Result) (h : (e : Entry) → Alike (lower e) (low e)) where
+  going_alike : (kid lid : ℕ → Mode → World → Result) → ((i : ℕ) (m : Mode) → Alike (kid i m) (lid i m))
+      → (again anew : Mode → World → Result) → ((m : Mode) → Alike (again m) (anew m))
+      → (x : Target) → Alike (going lower kid again x) (going low lid anew x)
+  going_alike kid lid g again anew a (Kid i m) = g i m
+  going_alike kid lid g again anew a (Again m) = a m
+  going_alike kid lid g again anew a (There b m) = h (DeclarationStart b m)
+  going_alike kid lid g again anew a (File path) = h (FileStart path)
 
   -- a script and the same one by other words
   script_follows : (here there : Place) (go to : Target → World → Result) → ((x : Target) → Alike (go x) (to x)) → (a b : Script) → b ≡ a → (w u : World) → Same w u → Follows (play v here go a w) (play v there to b u)
   script_follows here there go to g a b e w u s = subst (λ x. Follows (play v here go a w) (play v there to x u)) (sym e) (play_follows v here there go to g a w u s)
 
+  node_alike : (s : Site) (k j : NodeKind) (c d : Forest) (id jd : ℕ) (kid lid : ℕ → Mode → World → Result)
+      → ((m : Mode) → rule t' s j m (form d) ≡ rule t s k m (form c))
+      → ((i : ℕ) (m : Mode) → Alike (kid i m) (lid i m))
+      → (m : Mode) → Alike (at_node v t lower s k c id kid m) (at_node v t' low s j d jd lid m)
+  node_alike s k j c d id jd kid lid e g m =
+      let pass : (Mode → World → Result) → Mode → World → Result =
+      λ again n a. play v (place_in s id) (going lower kid again) (rule t s k n (form c)) a in
+      let past : (Mode → World → Result) → Mode → World → Result =
+      λ again n a. play v (place_in s jd) (going low lid again) (rule t' s j n (form d)) a in
+      let both : (n : ℕ) → Alike (passes pass n m) (passes past n m) =
+      λ n. passes_alike pass past
+      (λ x y a i. record { follows = λ w u z. script_follows (place_in s id) (place_in s jd) (going lower kid x) (going low lid y) (going_alike kid lid g x y a) (rule t s k i (form c)) (rule t' s j i (form d)) (e i) w u z })
+      n m in
+      record {
+        follows = λ w u z.
+            subst (λ n. Follows (passes pass (suc (suc w.turns)) m w) (passes past (suc (suc n)) m u)) (sym z.turns)
+            ((both (suc (suc w.turns))).follows w u z);
+      }
+
   -- a node without a rule is outside, whatever stands in its place
-  no_rule_follows : (a stop : Bool) (s : Site) (id : ℕ) (go : Target → World → Result) (sc : Script) (w : World) (q : Result)
-      → a ≡ false → sc ≡ Stop NoRule
-      → Follows (starting a w (λ u. unless_stopped stop (place_in s id) u (left s id (play v (place_in s id) go sc (told s id Before None u))))) q
-  no_rule_follows a stop s id go sc w q e f =
-      subst (λ x. Follows (starting x w (λ u. unless_stopped stop (place_in s id) u (left s id (play v (place_in s id) go sc (told s id Before None u))))) q)
+  no_rule_follows : (a stop : Bool) (s : Site) (id : ℕ) (n : World → Result) (w : World) (q : Result)
+      → a ≡ false → ((u : World) → n u ≡ Over (Outside (place_in s id) NoRule) u)
+      → Follows (starting a w (λ u. unless_stopped stop (place_in s id) u (left s id (n (told s id Before None u))))) q
+  no_rule_follows a stop s id n w q e f =
+      subst (λ x. Follows (starting x w (λ u. unless_stopped stop (place_in s id) u (left s id (n (told s id Before None u))))) q)
       (sym e)
-      (subst (λ x. Follows (unless_stopped stop (place_in s id) w (left s id (play v (place_in s id) go x (told s id Before None w)))) q) (sym f)
+      (subst (λ x. Follows (unless_stopped stop (place_in s id) w (left s id x)) q) (sym (f (told s id Before None w)))
       (is_outside stop))
     where
-      is_outside : (b : Bool) → Follows (unless_stopped b (place_in s id) w (left s id (play v (place_in s id) go (Stop NoRule) (told s id Before None w)))) q
+      is_outside : (b : Bool) → Follows (unless_stopped b (place_in s id) w (left s id (Over (Outside (place_in s id) NoRule) (told s id Before None w)))) q
       is_outside true = λ i. absurd i
       is_outside false = λ i. absurd i
 
-  step_follows : (s : Site) {f g : Forest} → HasScriptsOf f g → (id jd i : ℕ) (m : Mode) (w u : World) → Same w u → Follows (step v marks lower s f id i m w) (step v [] low s g jd i m u)
+  step_follows : (s : Site) {f g : Forest} → HasScriptsOf t t' s f g → (id jd i : ℕ) (m : Mode) (w u : World) → Same w u → Follows (step v t marks lower s f id i m w) (step v t' [] low s g jd i m u)
   step_follows s nothing id jd i m w u e = λ x. absurd x
   step_follows s (token_before d) id jd i m w u e = step_follows s d id jd i m w u e
   step_follows s (token_behind d) id jd i m w u e = step_follows s d id jd i m w u e
   step_follows s (same {k} {j} {c} {d} {f} {g} r p q) id jd zero m w u e =
       starting_follows (is_statement k) (is_statement j) w u _ _ r.statement e (record {
-        follows = λ a b t.
+        follows = λ a b z.
             stopped_follows (is_stopped marks s.file id) (place_in s id) a _ _
             (left_follows s id jd _ _
-            (script_follows (place_in s id) (place_in s jd) _ _
-            (going_alike (place_in s id) (place_in s jd) _ _ (λ j n. record { follows = λ x y z. step_follows s p (suc id) (suc jd) j n x y z }))
-            (rule k m (own_texts c) (children c)) (rule j m (own_texts d) (children d)) (r.script m)
-            (told s id Before None a) (told s jd Before None b)
-            (record { store = t.store; echo = t.echo; turns = t.turns })));
+            ((node_alike s k j c d id jd (step v t marks lower (within k c s) c (suc id)) (step v t' [] low (within j d s) d (suc jd)) r.script
+            (λ i n. subst (λ x. Alike (step v t marks lower (within k c s) c (suc id) i n) (step v t' [] low x d (suc jd) i n)) (sym r.within)
+            (record { follows = λ x y y'. step_follows (within k c s) p (suc id) (suc jd) i n x y y' }))
+            m).follows (told s id Before None a) (told s jd Before None b) (record { store = z.store; echo = z.echo; turns = z.turns })));
       })
-  step_follows s (same {k} {j} {c} {d} {f} {g} r p q) id jd (suc i) m w u e = step_follows s q (suc (id + count c)) (suc (jd + count d)) i m w u e
+  step_follows s (same {k} {j} {c} {d} {f} {g} r p q) id jd (suc i) m w u e =
+      subst (λ x. Follows (step v t marks lower (beside k c s) f (suc (id + count c)) i m w) (step v t' [] low x g (suc (jd + count d)) i m u)) (sym r.beside)
+      (step_follows (beside k c s) q (suc (id + count c)) (suc (jd + count d)) i m w u e)
   step_follows s (replaced {k} {j} {c} {d} {f} {g} r q) id jd zero m w u e =
-      no_rule_follows (is_statement k) (is_stopped marks s.file id) s id _ (rule k m (own_texts c) (children c)) w _ r.statement (r.script m)
-  step_follows s (replaced {k} {j} {c} {d} {f} {g} r q) id jd (suc i) m w u e = step_follows s q (suc (id + count c)) (suc (jd + count d)) i m w u e
-  step_follows s (wrapped {k} {j} {c} {d} {f} {g} p q) id jd zero m w u e =
+      let kid : ℕ → Mode → World → Result = step v t marks lower (within k c s) c (suc id) in
+      let pass : (Mode → World → Result) → Mode → World → Result =
+      λ again n a. play v (place_in s id) (going lower kid again) (rule t s k n (form c)) a in
+      no_rule_follows (is_statement k) (is_stopped marks s.file id) s id (at_node v t lower s k c id kid m) w _ r.statement
+      (λ a. ap (λ x. play v (place_in s id) (going lower kid (passes pass (suc a.turns))) x a) (r.script m))
+  step_follows s (replaced {k} {j} {c} {d} {f} {g} r q) id jd (suc i) m w u e =
+      subst (λ x. Follows (step v t marks lower (beside k c s) f (suc (id + count c)) i m w) (step v t' [] low x g (suc (jd + count d)) i m u)) (sym r.beside)
+      (step_follows (beside k c s) q (suc (id + count c)) (suc (jd + count d)) i m w u e)
+  step_follows s (kept {k} {j} {c} {d} {f} {g} r q) id jd zero m w u e = (r.node v marks lower low h id jd m).follows w u e
+  step_follows s (kept {k} {j} {c} {d} {f} {g} r q) id jd (suc i) m w u e =
+      subst (λ x. Follows (step v t marks lower (beside k c s) f (suc (id + count c)) i m w) (step v t' [] low x g (suc (jd + count d)) i m u)) (sym r.beside)
+      (step_follows (beside k c s) q (suc (id + count c)) (suc (jd + count d)) i m w u e)
+  step_follows s (wrapped {k} {j} {c} {d} {f} {g} r p q) id jd zero m w u e =
       handed_follows s jd _ _ (step_follows s p id (suc jd) zero m w (told s jd Before None u) (record { store = e.store; echo = e.echo; turns = e.turns }))
-  step_follows s (wrapped {k} {j} {c} {d} {f} {g} p q) id jd (suc i) m w u e =
-      step_follows s q (suc (id + count c)) (suc (jd + (suc (count d) + 0))) i m w u e
+  step_follows s (wrapped {k} {j} {c} {d} {f} {g} r p q) id jd (suc i) m w u e =
+      subst (λ x. Follows (step v t marks lower (beside k c s) f (suc (id + count c)) i m w) (step v t' [] low x g (suc (jd + (suc (count d) + 0))) i m u)) r
+      (step_follows (beside k c s) q (suc (id + count c)) (suc (jd + (suc (count d) + 0))) i m w u e)
 
-  file_follows : (path : Bytes) {f g : Forest} → HasScriptsOf f g → (w u : World) → Same w u → Follows (run_file v marks lower path (Some f) w) (run_file v [] low path (Some g) u)
+  declared_alike : (s : Site) {f g : Forest} → HasScriptsOf t t' s f g → (id jd n : ℕ) (m : Mode) (x y : World → Result) → Alike x y
+      → Alike (declared_in v t marks lower s f id n m x) (declared_in v t' [] low s g jd n m y)
+  declared_alike s nothing id jd n m x y a = a
+  declared_alike s (token_before d) id jd n m x y a = declared_alike s d id jd n m x y a
+  declared_alike s (token_behind d) id jd n m x y a = declared_alike s d id jd n m x y a
+  declared_alike s (same {k} {j} {c} {d} {f} {g} r p q) id jd n m x y a =
+      either_alike (is_declaration k && nat_eq s.number n) (is_declaration j && nat_eq s.number n) _ _ _ _
+      (ap (λ b. b && nat_eq s.number n) r.declaration)
+      (node_alike s k j c d id jd (step v t marks lower (within k c s) c (suc id)) (step v t' [] low (within j d s) d (suc jd)) r.script
+      (λ i o. subst (λ z. Alike (step v t marks lower (within k c s) c (suc id) i o) (step v t' [] low z d (suc jd) i o)) (sym r.within)
+      (record { follows = λ w u z. step_follows (within k c s) p (suc id) (suc jd) i o w u z })) m)
+      (subst (λ z. Alike (declared_in v t marks lower (within k c s) c (suc id) n m (λ w. declared_in v t marks lower (beside k c s) f (suc (id + count c)) n m x w)) (declared_in v t' [] low z d (suc jd) n m (λ w. declared_in v t' [] low (beside j d s) g (suc (jd + count d)) n m y w))) (sym r.within)
+      (declared_alike (within k c s) p (suc id) (suc jd) n m _ _
+      (subst (λ z. Alike (declared_in v t marks lower (beside k c s) f (suc (id + count c)) n m x) (declared_in v t' [] low z g (suc (jd + count d)) n m y)) (sym r.beside)
+      (declared_alike (beside k c s) q (suc (id + count c)) (suc (jd + count d)) n m x y a))))
+  declared_alike s (replaced {k} {j} {c} {d} {f} {g} r q) id jd n m x y a = record {
+    follows = λ w u z.
+        subst (λ p. Follows p (declared_in v t' [] low s (node j d g) jd n m y u)) (sym (passed v t marks lower s k c f r.declaration r.none_inside id n m x w))
+        (subst (λ p. Follows (declared_in v t marks lower (beside k c s) f (suc (id + count c)) n m x w) p) (sym (passed v t' [] low s j d g r.undeclared r.none_instead jd n m y u))
+        (subst (λ p. Follows (declared_in v t marks lower (beside k c s) f (suc (id + count c)) n m x w) (declared_in v t' [] low p g (suc (jd + count d)) n m y u)) (sym r.beside)
+        ((declared_alike (beside k c s) q (suc (id + count c)) (suc (jd + count d)) n m x y a).follows w u z)));
+  }
+  declared_alike s (kept {k} {j} {c} {d} {f} {g} r q) id jd n m x y a =
+      neither_alike (is_declaration k) (is_declaration j) (nat_eq s.number n) (nat_eq s.number n) _ _ _ _ r.declaration r.undeclared
+      (r.inside v marks lower low h (suc id) (suc jd) n m _ _
+      (subst (λ z. Alike (declared_in v t marks lower (beside k c s) f (suc (id + count c)) n m x) (declared_in v t' [] low z g (suc (jd + count d)) n m y)) (sym r.beside)
+      (declared_alike (beside k c s) q (suc (id + count c)) (suc (jd + count d)) n m x y a)))
+  declared_alike s (wrapped {k} {j} {c} {d} {f} {g} r p q) id jd n m x y a =
+      declared_alike s p id (suc jd) n m _ _
+      (subst (λ z. Alike (declared_in v t marks lower (beside k c s) f (suc (id + count c)) n m x) (declared_in v t' [] low z g (suc (jd + (suc (count d) + 0))) n m y)) r
+      (declared_alike (beside k c s) q (suc (id + count c)) (suc (jd + (suc (count d) + 0))) n m x y a))
+
+  file_follows : (path : Bytes) {f g : Forest} → HasScriptsOf t t' (file_site path) f g → (w u : World) → Same w u → Follows (run_file v t marks lower path (Some f) w) (run_file v t' [] low path (Some g) u)
   file_follows path {f} {g} d w u e =
       script_follows (place_of_file path) (place_of_file path) _ _
-      (going_alike (place_of_file path) (place_of_file path) _ _ (λ j n. record { follows = λ x y z. step_follows (record { file = path; body = None }) d 0 0 j n x y z }))
-      (run_all 0 (children f)) (run_all 0 (children g)) (ap (run_all 0) (children_same d)) w u e
+      (going_alike _ _ (λ j n. record { follows = λ x y z. step_follows (file_site path) d 0 0 j n x y z }) _ _ (λ m. record { follows = λ x y z i. absurd i }))
+      (file_script t path (kids (form f))) (file_script t' path (kids (form g))) (ap (file_script t' path) (children_same d) ∙ early path (kids (form f))) w u e
 
-  found_follows : (path : Bytes) {fs gs : List (Bytes × Forest)} → HaveScriptsOf fs gs → (w u : World) → Same w u
-      → Follows (run_file v marks lower path (file_at fs path) w) (run_file v [] low path (file_at gs path) u)
+  found_follows : (path : Bytes) {fs gs : List (Bytes × Forest)} → HaveScriptsOf t t' fs gs → (w u : World) → Same w u
+      → Follows (run_file v t marks lower path (file_at fs path) w) (run_file v t' [] low path (file_at gs path) u)
   found_follows path no_more w u e = λ i. absurd i
   found_follows path (one_more {path = p} {f} {g} {fs} {gs} d ds) w u e =
-      elim (bytes_eq p path) as (λ b. Follows (run_file v marks lower path (cond b (Some f) (file_at fs path)) w) (run_file v [] low path (cond b (Some g) (file_at gs path)) u))
-      [ true ↦ file_follows path d w u e | false ↦ found_follows path ds w u e ]
+      (elim (bytes_eq p path)
+      as (λ b. (b ≡ true → p ≡ path) → Follows (run_file v t marks lower path (cond b (Some f) (file_at fs path)) w) (run_file v t' [] low path (cond b (Some g) (file_at gs path)) u)) [
+        | true ↦ λ y. file_follows path (subst (λ q. HasScriptsOf t t' (file_site q) f g) (y refl) d) w u e
+        | false ↦ λ y. found_follows path ds w u e
+      ]) ((bytes_eq-Decides p path).0)
 
-module _ (v : Bool) (marks : List Mark) (source written : Program) (same_files : HaveScriptsOf source.files written.files) where
-  enter_alike : (n : ℕ) (e : Entry) → Alike (enter v source marks n e) (enter v written [] n e)
+  declaration_follows : (b : Declared) (m : Mode) {fs gs : List (Bytes × Forest)} → HaveScriptsOf t t' fs gs → (w u : World) → Same w u
+      → Follows (run_declared v t marks lower b m (file_at fs b.file) w) (run_declared v t' [] low b m (file_at gs b.file) u)
+  declaration_follows b m no_more w u e = λ i. absurd i
+  declaration_follows b m (one_more {path = p} {f} {g} {fs} {gs} d ds) w u e =
+      (elim (bytes_eq p b.file)
+      as (λ c. (c ≡ true → p ≡ b.file) → Follows (run_declared v t marks lower b m (cond c (Some f) (file_at fs b.file)) w) (run_declared v t' [] low b m (cond c (Some g) (file_at gs b.file)) u)) [
+        | true ↦ λ y. (declared_alike (file_site b.file) (subst (λ q. HasScriptsOf t t' (file_site q) f g) (y refl) d) 0 0 b.number m _ _ (record { follows = λ x x' z i. absurd i })).follows w u e
+        | false ↦ λ y. declaration_follows b m ds w u e
+      ]) ((bytes_eq-Decides p b.file).0)
+
+module _ (v : Bool) (t t' : Tables) (early : (path : Bytes) (n : ℕ) → file_script t' path n ≡ file_script t path n) (marks : List Mark) (source written : Program) (same_files : HaveScriptsOf t t' source.files written.files) where
+  enter_alike : (n : ℕ) (e : Entry) → Alike (enter v t source marks n e) (enter v t' written [] n e)
   enter_alike zero e = record { follows = λ w u s i. (refl, s) }
   enter_alike (suc n) (FileStart path) = record {
     follows = λ w u s.
         refused_follows (is_refused marks path) path w _ _
-        (found_follows v marks (enter v source marks n) (enter v written [] n) (λ e. enter_alike n e) path same_files (begun path w) (begun path u)
+        (found_follows v t t' early marks (enter v t source marks n) (enter v t' written [] n) (λ e. enter_alike n e) path same_files (begun path w) (begun path u)
         (record { store = ap (λ (st : Store). record st { started = path ∷ st.started }) s.store; echo = s.echo; turns = s.turns }));
   }
-  enter_alike (suc n) (BodyStart b) = record { follows = λ w u s i. absurd i }
+  enter_alike (suc n) (DeclarationStart b m) = record {
+    follows = λ w u s.
+        declaration_follows v t t' early marks (enter v t source marks n) (enter v t' written [] n) (λ e. enter_alike n e) b m same_files w u s;
+  }
 
 -- ---- whole runs
 
 and_start_alike : (path : Bytes) (k l : World → Result) → Alike k l → (o : Out) → Alike (and_start path k o) (and_start path l o)
 and_start_alike path k l h (Val x) = h
+and_start_alike path k l h (Fresh x) = h
 and_start_alike path k l h (At c) = h
 and_start_alike path k l h (Jump (Return x)) = h
 and_start_alike path k l h (Jump (Throw n)) = record { follows = λ w u s. (refl, s) }
@@ -198,13 +332,14 @@ start_all_alike k l h (Some path) entry = record {
 
 end_same : (path : Bytes) (o : Out) (w u : World) → Same w u → end_of_file path o u ≡ end_of_file path o w
 end_same path (Val x) w u s = refl
+end_same path (Fresh x) w u s = refl
 end_same path (At c) w u s = refl
 end_same path (Jump (Return x)) w u s = refl
 end_same path (Jump (Throw n)) w u s = ap (λ st. end_of_file path (Jump (Throw n)) (record w { store = st })) s.store
 end_same path (Jump (Break n)) w u s = refl
 end_same path (Jump (Continue n)) w u s = refl
 
-answer_same : (path : Bytes) (r q : Result) → Follows r q → IsInside (answer path r).end → SameRun (answer path r) (answer path q)
+pub answer_same : (path : Bytes) (r q : Result) → Follows r q → IsInside (answer path r).end → SameRun (answer path r) (answer path q)
 answer_same path (Done o w) (Done p u) f i = record {
   echo = f.1.echo;
   end = ap (λ x. end_of_file path x u) f.0 ∙ end_same path o w u f.1;
@@ -214,12 +349,22 @@ answer_same path (Over e w) (Done p u) f i = absurd (f i)
 answer_same path (Over e w) (Over d u) f i = record { echo = (f i).1.echo; end = (f i).0 }
 
 -- in one version, a program with the scripts of another one does what that one does
-pub scripts_alike : (v : Bool) (source written : Program) (marks : List Mark) → HaveScriptsOf source.files written.files → written.prepend ≡ source.prepend
+pub scripts_alike : (v : Bool) (source written : Program) (marks : List Mark)
+    → HaveScriptsOf (tables_of source.files) (tables_of written.files) source.files written.files
+    → DeclareAlike (tables_of source.files) (tables_of written.files)
+    → written.prepend ≡ source.prepend
     → (entry : Bytes) (input : Input) (n : ℕ) → IsInside (run_of v source marks entry input n).end
     → SameRun (run_of v source marks entry input n) (run_of v written [] entry input n)
-scripts_alike v source written marks same_files same_first entry input n i =
+scripts_alike v source written marks same_files declared same_first entry input n i =
+    let t : Tables = tables_of source.files in
+    let t' : Tables = tables_of written.files in
+    let high : ℕ → ℕ = λ k. suc (suc (n + k)) in
+    let runs : List Mark → Tables → Program → ℕ → Bytes → World → Result = λ ms ts p k path. enter v ts p ms (high k) (FileStart path) in
     answer_same entry _ _
-    (subst (λ first. Follows (start_all (λ path. enter v source marks (suc (suc n)) (FileStart path)) source.prepend entry (first_world input n)) (start_all (λ path. enter v written [] (suc (suc n)) (FileStart path)) first entry (first_world input n)))
+    (subst (λ k. Follows (start_all (runs marks t source (length t)) source.prepend entry (first_world input n)) (start_all (runs [] t' written k) written.prepend entry (first_world input n)))
+    (sym declared.count)
+    (subst (λ first. Follows (start_all (runs marks t source (length t)) source.prepend entry (first_world input n)) (start_all (runs [] t' written (length t)) first entry (first_world input n)))
     (sym same_first)
-    ((start_all_alike _ _ (λ path. enter_alike v marks source written same_files (suc (suc n)) (FileStart path)) source.prepend entry).follows _ _
-    (record { store = refl; echo = refl; turns = refl }))) i
+    ((start_all_alike (runs marks t source (length t)) (runs [] t' written (length t))
+    (λ path. enter_alike v t t' declared.early marks source written same_files (high (length t)) (FileStart path)) source.prepend entry).follows _ _
+    (record { store = refl; echo = refl; turns = refl })))) i

@@ -27,3 +27,4 @@ pub mod CopyLemmas
 pub mod OrderLemmas
 pub mod CellLemmas
 pub mod Silent
+pub mod Across

@@ -1,70 +1,208 @@
 -- Trees with the same scripts run alike, so parentheses change no run, and nor do marks that it doesn't reach.
-use Rattle.std.specs.Prelude.{◌≡◌, ℕ, suc, true, List, [], ◌∷◌, IsFalse, refl}
-use Rattle.std.proofs.Common.{ap, ◌∙◌, subst, append-nil}
-use Rattle.std.specs.Str.{str_to_ascii_lowercase}
+use Rattle.std.specs.Prelude.{◌≡◌, ℕ, ◌+◌, Bool, true, false, not, ◌&&◌, ◌||◌, cond, List, [], ◌∷◌, ◌++◌, Option, None, IsTrue, refl}
+use Rattle.std.proofs.Common.{ap, ◌∙◌, sym, subst, append_assoc, append-nil, arith}
+use Rattle.php_tree.specs.declared.token.TokenKind.TheVariants as token
+use Rattle.php_tree.specs.declared.token.Token.{Token}
 use Rattle.php_tree.specs.declared.kind.NodeKind.{NodeKind}
 use Rattle.php_tree.specs.declared.kind.NodeKind.TheVariants as kind
 use Rattle.std.proofs.lemmas.Bool.{true≢false}
 use Rattle.php_tree.specs.declared.version.Version.TheVariants.{V74, V83}
 use Rattle.php_tree.specs.Tree.{Forest, none, leaf, node}
 use Rattle.php_meaning.specs.World.{Bytes}
-use Rattle.php_meaning.specs.Literals.{name_of, behind_backslash, constants, found}
-use Rattle.php_meaning.specs.Script.{Mode, Read, Quiet, Write, Unset, Name}
-use Rattle.php_meaning.specs.Rules.{rule, reading, constant}
-use Rattle.php_meaning.specs.Run.{own_texts, children, is_newer, run}
+use Rattle.php_meaning.specs.Script.{Mode, Read, Quiet, Write, Later}
+use Rattle.php_meaning.specs.Slot.{Declared}
+use Rattle.php_meaning.specs.Form.{Form, Part, word, child, part_of, part_before, parts, bits, form, kids, joins, is_name_part, is_namespace, first_is, is_backslash}
+use Rattle.php_meaning.specs.Sites.{Site, file_site, is_declaration, is_expression, declarations, one_if, declared_here, within, within_form, beside, names_beside}
+use Rattle.php_meaning.specs.Tables.{Tables, tables_of, listed, entry, holder, keeps_top, kid_forms, kid_before}
+use Rattle.php_meaning.specs.Loops.{switch}
+use Rattle.php_meaning.specs.Bodies.{global_all}
+use Rattle.php_meaning.specs.Expressions.{array_literal, isset, unset_all}
+use Rattle.php_meaning.specs.Rules.{rule, reading, reading_quietly, locating, running, run_all, return, choices, exit, echo_all, ternary}
+use Rattle.php_meaning.specs.Run.{Program, is_newer, run}
 use Rattle.php_meaning.specs.Laws.{IsInside, SameRun, ParensChangeNoRun, ParensKeepMeaning, MarksOnlyStop, Parenthesized, ends, token, inner, parens, AreParenthesized, no_files, file}
-use Rattle.php_meaning.specs.SameScripts.{HasScriptsOf, nothing, token_before, token_behind, same, wrapped, HaveScriptsOf, no_more, one_more, SameScriptsKeepMeaning, NamesAsOneToken, reads_tokens, OtherTokensCountNothing}
+use Rattle.php_meaning.specs.SameScripts.{HasScriptsOf, nothing, token_before, token_behind, same, wrapped, HaveScriptsOf, no_more, one_more, DeclareAlike, SameScriptsKeepMeaning, NamesAsOneToken, counts_children, OtherTokensCountNothing}
 use Rattle.php_meaning.proofs.Alike.{scripts_alike}
 use Rattle.php_meaning.proofs.Unasked.{same_where_unasked}
 
 pub same_scripts_keep_meaning : SameScriptsKeepMeaning
-same_scripts_keep_meaning source written marks same_files same_first entry input n covered =
+same_scripts_keep_meaning source written marks same_files declared same_first entry input n covered =
     let unasked : run V83 source marks entry input n ≡ run V74 source marks entry input n =
     same_where_unasked source marks entry input n covered.unasked in
     subst (λ a. IsInside a.end → SameRun a (run V83 written [] entry input n)) unasked
-    (scripts_alike true source written marks same_files same_first entry input n) covered.inside
+    (scripts_alike true source written marks same_files declared same_first entry input n) covered.inside
 
 -- ---- parentheses
 
-texts_same : {f g : Forest} → Parenthesized f g → own_texts g ≡ own_texts f
-texts_same ends = refl
-texts_same (token {t} {u} {f} {g} e d) = ap (λ x. x ∷ own_texts g) e ∙ ap (λ ts. t.text ∷ ts) (texts_same d)
-texts_same (inner d e) = texts_same e
-texts_same (parens d e) = texts_same e
+-- tokens of one kind and text count alike
+pub same_before : (t u : Token) (ps : List Part) → u.kind ≡ t.kind → u.text ≡ t.text → part_before u ps ≡ part_before t ps
+same_before t u ps k e = by_text u.lead u.start k ∙ by_kind
+  where
+    by_kind : part_before (record { kind = t.kind; lead = u.lead; text = u.text; start = u.start }) ps ≡ part_before t ps
+    by_kind = ap (λ x. part_before (record { kind = t.kind; lead = u.lead; text = x; start = u.start }) ps) e ∙ plain_token ps
+      where
+        plain_token : (ps : List Part) → part_before (record { kind = t.kind; lead = u.lead; text = t.text; start = u.start }) ps ≡ part_before t ps
+        plain_token [] = refl
+        plain_token (word false k v ∷ ps) = refl
+        plain_token (word true k v ∷ ps) = refl
+        plain_token (child ∷ ps) = refl
 
-children_kept : {f g : Forest} → Parenthesized f g → children g ≡ children f
-children_kept ends = refl
-children_kept (token e d) = children_kept d
-children_kept (inner d e) = ap suc (children_kept e)
-children_kept (parens d e) = ap suc (children_kept e)
+    by_text : (lead : List ℕ) (start : ℕ) → u.kind ≡ t.kind
+        → part_before u ps ≡ part_before (record { kind = t.kind; lead = u.lead; text = u.text; start = u.start }) ps
+    by_text lead start h = ap (λ x. part_before (record { kind = x; lead = u.lead; text = u.text; start = u.start }) ps) h
 
-rule_same : (k : NodeKind) (m : Mode) {c d : Forest} → Parenthesized c d → rule k m (own_texts d) (children d) ≡ rule k m (own_texts c) (children c)
-rule_same k m {c} {d} p = ap (λ ts. rule k m ts (children d)) (texts_same p) ∙ ap (rule k m (own_texts c)) (children_kept p)
+parts_same : {f g : Forest} → Parenthesized f g → parts g ≡ parts f
+parts_same ends = refl
+parts_same (token {t} {u} {f} {g} k e d) = same_before t u (parts g) k e ∙ ap (part_before t) (parts_same d)
+parts_same (inner d e) = ap (λ ps. child ∷ ps) (parts_same e)
+parts_same (parens h d e) = ap (λ ps. child ∷ ps) (parts_same e)
 
-scripts_kept : {f g : Forest} → Parenthesized f g → HasScriptsOf f g
-scripts_kept ends = nothing
-scripts_kept (token e d) = token_before (token_behind (scripts_kept d))
-scripts_kept (inner {k} p q) =
-    same (record { script = λ m. rule_same k m p; statement = refl }) (scripts_kept p) (scripts_kept q)
-scripts_kept (parens p q) = wrapped (scripts_kept p) (scripts_kept q)
+forms_same : {f g : Forest} → Parenthesized f g → form g ≡ form f
+forms_same p = ap bits (parts_same p)
 
-files_kept : {fs gs : List (Bytes × Forest)} → AreParenthesized fs gs → HaveScriptsOf fs gs
-files_kept no_files = no_more
-files_kept (file p ps) = one_more (scripts_kept p) (files_kept ps)
+declarations_same : {f g : Forest} → Parenthesized f g → declarations g ≡ declarations f
+declarations_same ends = refl
+declarations_same (token k e d) = declarations_same d
+declarations_same (inner {k} {c} {d} {f} {g} p q) =
+    ap (λ n. one_if (is_declaration k) n + declarations g) (declarations_same p)
+    ∙ ap (λ n. one_if (is_declaration k) (declarations c) + n) (declarations_same q)
+declarations_same (parens {k} {j} {c} {d} {f} {g} h p q) =
+    ap (λ n. n + declarations g) (declarations_same p)
+    ∙ ap (λ n. (one_if (is_declaration k) (declarations c) + 0) + n) (declarations_same q)
+    ∙ (omega arith)
+
+-- what an expression is not
+pub record Plain (k : NodeKind) : Type 0 where
+  pub declaration : is_declaration k ≡ false
+  pub top : keeps_top k ≡ false
+  pub beside : (f : Form) (s : Site) → names_beside k f s ≡ s
+
+pub expression_plain : (k : NodeKind) → IsTrue (is_expression k) → Plain k
+expression_plain kind.Function h = absurd (true≢false (sym h))
+expression_plain kind.Class h = absurd (true≢false (sym h))
+expression_plain kind.Interface h = absurd (true≢false (sym h))
+expression_plain kind.Property h = absurd (true≢false (sym h))
+expression_plain kind.ClassConst h = absurd (true≢false (sym h))
+expression_plain kind.Method h = absurd (true≢false (sym h))
+expression_plain kind.Statics h = absurd (true≢false (sym h))
+expression_plain kind.Namespace h = absurd (true≢false (sym h))
+expression_plain kind.Declare h = absurd (true≢false (sym h))
+expression_plain kind.Use h = absurd (true≢false (sym h))
+expression_plain k h = record { declaration = refl; top = refl; beside = λ f s. refl }
+
+within_same : (k : NodeKind) (s : Site) {c d : Forest} → Parenthesized c d → within k d s ≡ within k c s
+within_same k s p = ap (λ f. within_form k f s) (forms_same p)
+
+beside_same : (k : NodeKind) (s : Site) {c d : Forest} → Parenthesized c d → beside k d s ≡ beside k c s
+beside_same k s {c} {d} p =
+    ap (λ f. record (names_beside k f s) { number = one_if (is_declaration k) (declarations d) + s.number }) (forms_same p)
+    ∙ ap (λ n. record (names_beside k (form c) s) { number = one_if (is_declaration k) n + s.number }) (declarations_same p)
+
+-- a pair of parentheses leads to the same site
+beside_parens : (k j : NodeKind) (c d : Forest) (o p : Token) (s : Site) → Plain k → Parenthesized (node k c none) (node j d none)
+    → beside k c s ≡ beside kind.Paren (leaf o (node j d (leaf p none))) s
+beside_parens k j c d o p s h q =
+    ap (λ (r : Site). record r { number = one_if (is_declaration k) (declarations c) + s.number }) (h.beside (form c) s)
+    ∙ ap (λ n. record s { number = n + s.number })
+    (let e : one_if (is_declaration k) (declarations c) ≡ one_if (is_declaration j) (declarations d) + 0 = omega (arith, declarations_same q) in e)
+
+rule_same : (t : Tables) (s : Site) (k : NodeKind) (m : Mode) {c d : Forest} → Parenthesized c d → rule t s k m (form d) ≡ rule t s k m (form c)
+rule_same t s k m p = ap (rule t s k m) (forms_same p)
+
+scripts_kept : (t : Tables) (s : Site) {f g : Forest} → Parenthesized f g → HasScriptsOf t t s f g
+scripts_kept t s ends = nothing
+scripts_kept t s (token k e d) = token_before (token_behind (scripts_kept t s d))
+scripts_kept t s (inner {k} {c} {d} {f} {g} p q) =
+    same (record {
+      script = λ m. rule_same t s k m p;
+      statement = refl;
+      declaration = refl;
+      within = within_same k s p;
+      beside = beside_same k s p;
+    }) (scripts_kept t (within k c s) p) (scripts_kept t (beside k c s) q)
+scripts_kept t s (parens {k} {j} {c} {d} {f} {g} {o} {p} h q r) =
+    wrapped (beside_parens k j c d o p s (expression_plain k h) q) (scripts_kept t s q) (scripts_kept t (beside k c s) r)
+
+files_kept : (t : Tables) {fs gs : List (Bytes × Forest)} → AreParenthesized fs gs → HaveScriptsOf t t fs gs
+files_kept t no_files = no_more
+files_kept t (file {path} p ps) = one_more (scripts_kept t (file_site path) p) (files_kept t ps)
+
+-- ---- tables
+
+kid_forms_same : {f g : Forest} → Parenthesized f g → kid_forms g ≡ kid_forms f
+kid_forms_same ends = refl
+kid_forms_same (token k e d) = kid_forms_same d
+kid_forms_same (inner {k} {c} {d} {f} {g} p q) =
+    ap (λ x. kid_before (is_expression k) (k, x) (kid_forms g)) (forms_same p)
+    ∙ ap (λ ks. kid_before (is_expression k) (k, form c) ks) (kid_forms_same q)
+kid_forms_same (parens {k} {j} {c} {d} {f} {g} h p q) =
+    kid_forms_same q ∙ subst (λ b. kid_forms f ≡ kid_before b (k, form c) (kid_forms f)) (sym h) refl
+
+listed_same : {f g : Forest} → Parenthesized f g → (s : Site) (of : Option Declared) (top : Bool) → listed s of top g ≡ listed s of top f
+listed_same ends s of top = refl
+listed_same (token k e d) s of top = listed_same d s of top
+listed_same (inner {k} {c} {d} {f} {g} p q) s of top =
+    ap (λ x. entry (is_declaration k) (record { at = declared_here s; kind = k; site = s; form = x; kids = kid_forms d; of = of; is_top = top })
+    (listed (within_form k x s) (holder k s) (keeps_top k && top) d) ++ listed (beside k d s) of top g) (forms_same p)
+    ∙ ap (λ x. entry (is_declaration k) (record { at = declared_here s; kind = k; site = s; form = form c; kids = x; of = of; is_top = top })
+    (listed (within k c s) (holder k s) (keeps_top k && top) d) ++ listed (beside k d s) of top g) (kid_forms_same p)
+    ∙ ap (λ x. entry (is_declaration k) (record { at = declared_here s; kind = k; site = s; form = form c; kids = kid_forms c; of = of; is_top = top })
+    x ++ listed (beside k d s) of top g) (listed_same p (within k c s) (holder k s) (keeps_top k && top))
+    ∙ ap (λ x. entry (is_declaration k) (record { at = declared_here s; kind = k; site = s; form = form c; kids = kid_forms c; of = of; is_top = top })
+    (listed (within k c s) (holder k s) (keeps_top k && top) c) ++ listed x of top g) (beside_same k s p)
+    ∙ ap (λ x. entry (is_declaration k) (record { at = declared_here s; kind = k; site = s; form = form c; kids = kid_forms c; of = of; is_top = top })
+    (listed (within k c s) (holder k s) (keeps_top k && top) c) ++ x) (listed_same q (beside k c s) of top)
+listed_same (parens {k} {j} {c} {d} {f} {g} {o} {p} h q r) s of top =
+    let plain : Plain k = expression_plain k h in
+    ap (λ x. x ++ listed (beside kind.Paren (leaf o (node j d (leaf p none))) s) of top g) (listed_same q s None false)
+    ∙ ap (λ x. (listed s None false (node k c none)) ++ listed x of top g) (sym (beside_parens k j c d o p s plain q))
+    ∙ ap (λ x. (listed s None false (node k c none)) ++ x) (listed_same r (beside k c s) of top)
+    ∙ ap (λ x. x ++ listed (beside k c s) of top f) (alone_same k c s of top plain)
+  where
+    alone_same : (k : NodeKind) (c : Forest) (s : Site) (of : Option Declared) (top : Bool) → Plain k
+        → listed s None false (node k c none)
+        ≡ entry (is_declaration k) (record { at = declared_here s; kind = k; site = s; form = form c; kids = kid_forms c; of = of; is_top = top })
+        (listed (within k c s) (holder k s) (keeps_top k && top) c)
+    alone_same k c s of top h =
+        subst (λ b. entry b (record { at = declared_here s; kind = k; site = s; form = form c; kids = kid_forms c; of = None; is_top = false })
+        (listed (within k c s) (holder k s) (keeps_top k && false) c) ++ []
+        ≡ entry b (record { at = declared_here s; kind = k; site = s; form = form c; kids = kid_forms c; of = of; is_top = top })
+        (listed (within k c s) (holder k s) (keeps_top k && top) c)) (sym h.declaration)
+        (subst (λ b. listed (within k c s) (holder k s) (b && false) c ++ [] ≡ listed (within k c s) (holder k s) (b && top) c) (sym h.top)
+        (append-nil (listed (within k c s) (holder k s) false c)))
+
+tables_same : {fs gs : List (Bytes × Forest)} → AreParenthesized fs gs → tables_of gs ≡ tables_of fs
+tables_same no_files = refl
+tables_same (file {path} {f} {g} {fs} {gs} p ps) =
+    ap (λ x. x ++ tables_of gs) (listed_same p (file_site path) None true) ∙ ap (λ x. listed (file_site path) None true f ++ x) (tables_same ps)
+
+-- the premises on two programs of which the second has expressions in parentheses
+record AlikeFiles (source written : Program) : Type 0 where
+  scripts : HaveScriptsOf (tables_of source.files) (tables_of written.files) source.files written.files
+  declared : DeclareAlike (tables_of source.files) (tables_of written.files)
+
+parens_alike : (source written : Program) → AreParenthesized source.files written.files → AlikeFiles source written
+parens_alike source written p =
+    let t : Tables = tables_of source.files in
+    record {
+      scripts = subst (λ x. HaveScriptsOf t x source.files written.files) (sym (tables_same p)) (files_kept t p);
+      declared = subst (λ x. DeclareAlike t x) (sym (tables_same p)) (record { early = λ path n. refl; count = refl });
+    }
 
 pub parens_change_no_run : ParensChangeNoRun
 parens_change_no_run v source written marks same_files same_first entry input n i =
-    scripts_alike (is_newer v) source written marks (files_kept same_files) same_first entry input n i
+    (let a : AlikeFiles source written = parens_alike source written same_files in
+    scripts_alike (is_newer v) source written marks a.scripts a.declared same_first entry input n i)
 
 pub parens_keep_meaning : ParensKeepMeaning
 parens_keep_meaning source written marks same_files same_first entry input n covered =
-    same_scripts_keep_meaning source written marks (files_kept same_files) same_first entry input n covered
+    (let a : AlikeFiles source written = parens_alike source written same_files in
+    same_scripts_keep_meaning source written marks a.scripts a.declared same_first entry input n covered)
 
 -- ---- no parentheses
 
 unchanged : (f : Forest) → Parenthesized f f
 unchanged none = ends
-unchanged (leaf t f) = token refl (unchanged f)
+unchanged (leaf t f) = token refl refl (unchanged f)
 unchanged (node k c f) = inner (unchanged c) (unchanged f)
 
 unchanged_files : (fs : List (Bytes × Forest)) → AreParenthesized fs fs
@@ -76,28 +214,126 @@ marks_only_stop v p marks entry input n i = parens_change_no_run v p p marks (un
 
 -- ---- names
 
+first_kept : (p : ℕ → Bool) (u v : List ℕ) → first_is p u ≡ true → first_is p (u ++ v) ≡ true
+first_kept p [] v h = cc
+first_kept p (b ∷ bs) v h = h
+
+-- two words of one name, the second one with what it goes on with
+joins_longer : (t : Token) (u v : List ℕ) → joins t u ≡ true → joins t (u ++ v) ≡ true
+joins_longer t u v h = longer (is_name_part t.kind t.text) (is_namespace t.kind t.text) h
+  where
+    longer : (a b : Bool) → (a || (b && first_is is_backslash u)) ≡ true → (a || (b && first_is is_backslash (u ++ v))) ≡ true
+    longer true b h = refl
+    longer false true h = first_kept is_backslash u v h
+    longer false false h = h
+
+-- a name in one token goes on with any name
+whole_joins : (whole : Token) (v : List ℕ) → whole.kind ≡ token.Name → joins whole v ≡ true
+whole_joins whole v k = ap (λ k. is_name_part k whole.text || (is_namespace k whole.text && first_is is_backslash v)) k
+
+part_joins : (u : Token) (v : List ℕ) → is_name_part u.kind u.text ≡ true → joins u v ≡ true
+part_joins u v h = ap (λ b. b || (is_namespace u.kind u.text && first_is is_backslash v)) h
+
+whole_part : (t u whole : Token) → whole.kind ≡ token.Name → whole.text ≡ t.text ++ u.text → part_of whole ≡ word true token.Name (t.text ++ u.text)
+whole_part t u whole k e = ap (λ k. word (is_name_part k whole.text) k whole.text) k ∙ ap (word true token.Name) e
+
+-- the same where no name follows
+joined_last : (t u whole : Token) (ps : List Part) → whole.kind ≡ token.Name → whole.text ≡ t.text ++ u.text
+    → is_name_part u.kind u.text ≡ true → joins t u.text ≡ true
+    → part_before t (part_of u ∷ ps) ≡ part_of whole ∷ ps
+joined_last t u whole ps k e p j =
+    ap (λ b. part_before t (word b u.kind u.text ∷ ps)) p
+    ∙ ap (λ b. cond b (word true token.Name (t.text ++ u.text) ∷ ps) (part_of t ∷ word true u.kind u.text ∷ ps)) j
+    ∙ ap (λ x. x ∷ ps) (sym (whole_part t u whole k e))
+
+joined_before : (t u whole : Token) (ps : List Part) → whole.kind ≡ token.Name → whole.text ≡ t.text ++ u.text
+    → is_name_part u.kind u.text ≡ true → joins t u.text ≡ true
+    → part_before t (part_before u ps) ≡ part_before whole ps
+joined_before t u whole [] k e p j = joined_last t u whole [] k e p j
+joined_before t u whole (word false l v ∷ ps) k e p j = joined_last t u whole (word false l v ∷ ps) k e p j
+joined_before t u whole (child ∷ ps) k e p j = joined_last t u whole (child ∷ ps) k e p j
+joined_before t u whole (word true l v ∷ ps) k e p j =
+    both (joins u v) (part_joins u v p) (joins_longer t u.text v j)
+    ∙ ap (λ x. word true token.Name x ∷ ps) (sym (append_assoc t.text u.text v))
+    ∙ ap (λ x. word true token.Name (x ++ v) ∷ ps) (sym e)
+    ∙ ap (λ b. cond b (word true token.Name (whole.text ++ v) ∷ ps) (part_of whole ∷ word true l v ∷ ps)) (sym (whole_joins whole v k))
+  where
+    both : (b : Bool) → b ≡ true → joins t (u.text ++ v) ≡ true
+        → part_before t (cond b (word true token.Name (u.text ++ v) ∷ ps) (part_of u ∷ word true l v ∷ ps))
+        ≡ word true token.Name (t.text ++ (u.text ++ v)) ∷ ps
+    both true x y = ap (λ d. cond d (word true token.Name (t.text ++ (u.text ++ v)) ∷ ps) (part_of t ∷ word true token.Name (u.text ++ v) ∷ ps)) y
+    both false x y = cc
+
+pub names_joined : (t u whole : Token) (f : Forest) → whole.kind ≡ token.Name → whole.text ≡ t.text ++ u.text
+    → is_name_part u.kind u.text ≡ true → joins t u.text ≡ true → parts (leaf t (leaf u f)) ≡ parts (leaf whole f)
+names_joined t u whole f k e p j = joined_before t u whole (parts f) k e p j
+
 pub names_as_one_token : NamesAsOneToken
-names_as_one_token Read tokens n = ap (λ t. constant (found constants (str_to_ascii_lowercase (behind_backslash t)))) (append-nil (name_of tokens))
-names_as_one_token Quiet tokens n = refl
-names_as_one_token Write tokens n = refl
-names_as_one_token Unset tokens n = refl
-names_as_one_token Name tokens n = refl
+names_as_one_token t u whole f k e p j = ap bits (names_joined t u whole f k e p j)
 
 -- ---- tokens
 
-reading_alike : (k : NodeKind) (tokens others : List Bytes) (n : ℕ) → IsFalse (reads_tokens k) → reading k others n ≡ reading k tokens n
-reading_alike kind.Number tokens others n h = absurd (true≢false h)
-reading_alike kind.Text tokens others n h = absurd (true≢false h)
-reading_alike kind.Constant tokens others n h = absurd (true≢false h)
-reading_alike kind.Binary tokens others n h = absurd (true≢false h)
-reading_alike kind.Prefix tokens others n h = absurd (true≢false h)
-reading_alike kind.ExprStmt tokens others n h = refl
-reading_alike kind.Echo tokens others n h = refl
-reading_alike kind.Ternary tokens others n h = refl
-reading_alike kind.ShortTernary tokens others n h = refl
-reading_alike k tokens others n h = refl
+reading_counts : (t : Tables) (s : Site) (k : NodeKind) (f g : Form) → kids g ≡ kids f → IsTrue (counts_children k) → reading t s k g ≡ reading t s k f
+reading_counts t s kind.Block f g e h = ap (run_all 0) e
+reading_counts t s kind.Echo f g e h = ap (echo_all 0) e
+reading_counts t s kind.Return f g e h = ap return e
+reading_counts t s kind.If f g e h = ap (choices 0) e
+reading_counts t s kind.Switch f g e h = ap switch e
+reading_counts t s kind.Global f g e h = ap (global_all 0) e
+reading_counts t s kind.Unset f g e h = ap (unset_all 0) e
+reading_counts t s kind.Array f g e h = ap array_literal e
+reading_counts t s kind.Isset f g e h = ap (isset 0) e
+reading_counts t s kind.Exit f g e h = ap exit e
+reading_counts t s kind.Ternary f g e h = ap ternary e
+reading_counts t s kind.Empty f g e h = refl
+reading_counts t s kind.ExprStmt f g e h = refl
+reading_counts t s kind.DoWhile f g e h = refl
+reading_counts t s kind.Throw f g e h = refl
+reading_counts t s kind.Paren f g e h = refl
+reading_counts t s kind.EmptyTest f g e h = refl
+reading_counts t s kind.ShortTernary f g e h = refl
+reading_counts t s kind.Assign f g e h = refl
+reading_counts t s kind.AssignRef f g e h = refl
+reading_counts t s kind.Print f g e h = refl
+reading_counts t s k f g e h = absurd (true≢false (sym h))
+
+quietly_counts : (t : Tables) (s : Site) (k : NodeKind) (f g : Form) → kids g ≡ kids f → IsTrue (counts_children k) → reading_quietly t s k g ≡ reading_quietly t s k f
+quietly_counts t s kind.Variable f g e h = absurd (true≢false (sym h))
+quietly_counts t s kind.Offset f g e h = absurd (true≢false (sym h))
+quietly_counts t s kind.BraceOffset f g e h = absurd (true≢false (sym h))
+quietly_counts t s kind.Prop f g e h = absurd (true≢false (sym h))
+quietly_counts t s k f g e h = reading_counts t s k f g e h
+
+locating_counts : (t : Tables) (s : Site) (k : NodeKind) (f g : Form) → IsTrue (counts_children k) → locating t s k g ≡ locating t s k f
+locating_counts t s kind.Variable f g h = absurd (true≢false (sym h))
+locating_counts t s kind.Offset f g h = absurd (true≢false (sym h))
+locating_counts t s kind.BraceOffset f g h = absurd (true≢false (sym h))
+locating_counts t s kind.Prop f g h = absurd (true≢false (sym h))
+locating_counts t s kind.StaticProp f g h = absurd (true≢false (sym h))
+locating_counts t s k f g h = refl
+
+running_counts : (t : Tables) (s : Site) (k : NodeKind) (m : Mode) (f g : Form) → IsTrue (counts_children k) → running t s k m g ≡ running t s k m f
+running_counts t s kind.Variable m f g h = absurd (true≢false (sym h))
+running_counts t s kind.Offset m f g h = absurd (true≢false (sym h))
+running_counts t s kind.BraceOffset m f g h = absurd (true≢false (sym h))
+running_counts t s kind.While m f g h = absurd (true≢false (sym h))
+running_counts t s kind.For m f g h = absurd (true≢false (sym h))
+running_counts t s kind.Foreach m f g h = absurd (true≢false (sym h))
+running_counts t s kind.Case m f g h = absurd (true≢false (sym h))
+running_counts t s kind.TypeName m f g h = absurd (true≢false (sym h))
+running_counts t s kind.Item m f g h = absurd (true≢false (sym h))
+running_counts t s kind.Args m f g h = absurd (true≢false (sym h))
+running_counts t s kind.Function m f g h = absurd (true≢false (sym h))
+running_counts t s kind.Method m f g h = absurd (true≢false (sym h))
+running_counts t s kind.Param m f g h = absurd (true≢false (sym h))
+running_counts t s kind.Property m f g h = absurd (true≢false (sym h))
+running_counts t s kind.ClassConst m f g h = absurd (true≢false (sym h))
+running_counts t s kind.DoWhile Later f g h = refl
+running_counts t s k m f g h = refl
 
 pub other_tokens_count_nothing : OtherTokensCountNothing
-other_tokens_count_nothing kind.Paren m tokens others n h = refl
-other_tokens_count_nothing k Read tokens others n h = reading_alike k tokens others n h
-other_tokens_count_nothing k m tokens others n h = refl
+other_tokens_count_nothing t s kind.Paren m f g h e = refl
+other_tokens_count_nothing t s k Read f g h e = reading_counts t s k f g e h
+other_tokens_count_nothing t s k Quiet f g h e = quietly_counts t s k f g e h
+other_tokens_count_nothing t s k Write f g h e = locating_counts t s k f g h
+other_tokens_count_nothing t s k m f g h e = running_counts t s k m f g h

@@ -1,23 +1,28 @@
 -- Runs of programs whose nodes never ask.
-use Rattle.std.proofs.Common.{◌≡◌, ℕ, zero, suc, ◌+◌, Bool, true, false, not, ◌&&◌, IsTrue, cond, codes, List, [], ◌∷◌, ◌++◌, All, Option, Some, None, refl, ◌∙◌, arith}
+use Rattle.std.proofs.Common.{◌≡◌, ℕ, zero, suc, ◌+◌, Bool, true, false, not, ◌&&◌, IsTrue, cond, codes, List, [], ◌∷◌, ◌++◌, length, All, Option, Some, None, refl, ◌∙◌, arith}
+use Rattle.std.specs.Prelude.{nat_eq, is_some}
 use Rattle.std.specs.Str.{bytes_eq}
 use Rattle.php_tree.specs.declared.kind.NodeKind.{NodeKind}
 use Rattle.php_tree.specs.declared.kind.NodeKind.TheVariants as kind
 use Rattle.php_tree.specs.declared.version.Version.TheVariants.{V74}
 use Rattle.php_tree.specs.Tree.{Forest, none, leaf, node, count}
+use Rattle.php_meaning.specs.Slot.{Declared}
+use Rattle.php_meaning.specs.Form.{Form, form, kids, texts}
+use Rattle.php_meaning.specs.Sites.{Site, file_site, is_declaration, within, beside}
+use Rattle.php_meaning.specs.Tables.{Tables, tables_of}
 use Rattle.php_meaning.specs.Value.{Value}
-use Rattle.php_meaning.specs.Cause.{Outcome, Gives, Outside, Came, Returns, Throws, outcome_map}
+use Rattle.php_meaning.specs.Cause.{NoRule, Outcome, Gives, Outside, Came, Returns, Throws, outcome_map}
 use Rattle.php_meaning.specs.Convert.{to_text, to_truth}
-use Rattle.php_meaning.specs.Differences.{Difference}
-use Rattle.php_meaning.specs.World.{Store, Bytes, Place, Before, World}
-use Rattle.php_meaning.specs.Script.{Return, Throw, Break, Continue, Out, Val, At, Jump, Mode, Read, Target, Kid, Again, Body, Script, Give, Stop, Finish, Look, Put, Echo, Turn, Ask, Run, value_then, given, comes}
+use Rattle.php_meaning.specs.World as End
+use Rattle.php_meaning.specs.World.{Store, Asked, Bytes, Place, Before, World}
+use Rattle.php_meaning.specs.Script.{Return, Throw, Break, Continue, Out, Val, Fresh, At, Jump, Mode, Read, Quiet, Write, Target, Kid, Again, There, File, Script, Give, Stop, Finish, Look, Put, Echo, Turn, Ask, Run, value_then, given, comes}
 use Rattle.php_meaning.specs.Arithmetic.{joined}
-use Rattle.php_meaning.specs.Operators.{Operation, of_texts, binary}
-use Rattle.php_meaning.specs.Literals.{constant_named}
+use Rattle.php_meaning.specs.Operators.{of_values, binary}
+use Rattle.php_meaning.specs.Literals.{constant_named, name_of}
 use Rattle.php_meaning.specs.TextLiterals.{text_literal}
-use Rattle.php_meaning.specs.Rules.{first_text, run_all, echo_all, constant, ternary, short_ternary, reading, rule}
+use Rattle.php_meaning.specs.Rules.{first_text, run_all, declare_early, is_early, is_there, file_script, echo_all, choices, constant, ternary, short_ternary, reading, reading_quietly, locating, running, rule}
 use Rattle.php_meaning.specs.Statements.{is_statement}
-use Rattle.php_meaning.specs.Run.{begun, Program, Mark, file_at, is_stopped, is_refused, Result, Done, Over, then_do, with_turn, play, own_texts, children, Entry, FileStart, BodyStart, Site, place_in, place_of_file, told, left, starting, unless_stopped, going, step, run_file, unless_refused, enter, first_world, and_start, start_all, is_newer}
+use Rattle.php_meaning.specs.Run.{begun, Program, Mark, file_at, is_stopped, is_refused, Result, Done, Over, then_do, with_turn, play, Entry, FileStart, DeclarationStart, place_in, place_of_file, told, left, starting, unless_stopped, going, passes, at_node, step, run_file, declared_in, run_declared, unless_refused, enter, first_world, and_start, start_all, is_newer}
 use Rattle.php_meaning.specs.Asking.{may_ask, asks_nothing, AsksNowhere, InsideIsCovered}
 use Rattle.php_meaning.proofs.Unasked.{asked_in, answer_asked}
 
@@ -37,7 +42,8 @@ NeverAsks (Run t k) = (o : Out) → NeverAsks (k o)
 
 value_then_never : (k : Value → Script) → ((v : Value) → NeverAsks (k v)) → (o : Out) → NeverAsks (value_then k o)
 value_then_never k h (Val v) = h v
-value_then_never k h (At c) = λ s. h (s.held c)
+value_then_never k h (Fresh v) = h v
+value_then_never k h (At l) = tt
 value_then_never k h (Jump w) = tt
 
 given_never : {A : Type 0} (r : Outcome A) (k : A → Script) → ((a : A) → NeverAsks (k a)) → NeverAsks (given r k)
@@ -56,13 +62,23 @@ run_all_never : (i n : ℕ) → NeverAsks (run_all i n)
 run_all_never i zero = tt
 run_all_never i (suc n) = value_then_never _ (λ v. run_all_never (suc i) n)
 
+declare_early_never : (t : Tables) (path : Bytes) (ds : Tables) (k : Script) → NeverAsks k → NeverAsks (declare_early t path ds k)
+declare_early_never t path [] k h = h
+declare_early_never t path (d ∷ ds) k h =
+    cond_never (is_early d && bytes_eq d.at.file path) _ _
+    (λ s. cond_never (is_there t s.declared d) _ _ tt (λ u. declare_early_never t path ds k h))
+    (declare_early_never t path ds k h)
+
+file_script_never : (t : Tables) (path : Bytes) (n : ℕ) → NeverAsks (file_script t path n)
+file_script_never t path n = declare_early_never t path t (run_all 0 n) (run_all_never 0 n)
+
 echo_all_never : (i n : ℕ) → NeverAsks (echo_all i n)
 echo_all_never i zero = tt
 echo_all_never i (suc n) = value_then_never _ (λ v. given_never (to_text v) _ (λ bytes. echo_all_never (suc i) n))
 
-constant_never : (o : Option Value) → NeverAsks (constant o)
-constant_never (Some v) = tt
-constant_never None = tt
+constant_never : (s : Site) (name : Bytes) (o : Option Value) → IsTrue (not (not (is_some o))) → NeverAsks (constant s name o)
+constant_never s name (Some v) h = tt
+constant_never s name None h = cc
 
 ternary_never : (n : ℕ) → NeverAsks (ternary n)
 ternary_never zero = tt
@@ -74,8 +90,13 @@ ternary_never (suc (suc (suc (suc n)))) = tt
 short_ternary_never : NeverAsks short_ternary
 short_ternary_never = value_then_never _ (λ v. cond_never (to_truth v) _ _ tt (λ o. tt))
 
+choices_never : (i n : ℕ) → NeverAsks (choices i n)
+choices_never i zero = tt
+choices_never i (suc zero) = λ o. tt
+choices_never i (suc (suc n)) = value_then_never _ (λ v. cond_never (to_truth v) _ _ (λ o. tt) (choices_never (suc (suc i)) n))
+
 -- `.` joins texts
-dot_never : (b : Bool) (rest : Option Operation) → IsTrue b → NeverAsks (binary (cond b (Some (of_texts joined)) rest))
+dot_never : (b : Bool) (rest : Script) → IsTrue b → NeverAsks (cond b (binary (Some (of_values joined))) rest)
 dot_never true rest h = value_then_never _ (λ a. value_then_never _ (λ c. given_never (outcome_map Returns (joined a c)) comes comes_never))
 dot_never false rest h = cc
 
@@ -83,43 +104,83 @@ is_dot : (b : Bool) → IsTrue (not (not b)) → IsTrue b
 is_dot true h = refl
 is_dot false h = cc
 
-reading_never : (k : NodeKind) (own : List Bytes) (n : ℕ) → IsTrue (not (may_ask k own)) → NeverAsks (reading k own n)
-reading_never kind.ExprStmt own n h = value_then_never _ (λ v. tt)
-reading_never kind.Echo own n h = echo_all_never 0 n
-reading_never kind.Number own n h = tt
-reading_never kind.Text own n h = given_never (text_literal (first_text own)) _ (λ bytes. tt)
-reading_never kind.Constant own n h = constant_never (constant_named own)
-reading_never kind.Binary own n h = dot_never (bytes_eq (codes ".") (first_text own)) _ (is_dot _ h)
-reading_never kind.Prefix own n h = cc
-reading_never kind.Ternary own n h = ternary_never n
-reading_never kind.ShortTernary own n h = short_ternary_never
-reading_never k own n h = tt
+reading_never : (t : Tables) (s : Site) (k : NodeKind) (f : Form) → IsTrue (not (may_ask k (texts f))) → NeverAsks (reading t s k f)
+reading_never t s kind.Block f h = run_all_never 0 (kids f)
+reading_never t s kind.Empty f h = tt
+reading_never t s kind.Html f h = tt
+reading_never t s kind.ExprStmt f h = value_then_never _ (λ v. tt)
+reading_never t s kind.Echo f h = echo_all_never 0 (kids f)
+reading_never t s kind.If f h = choices_never 0 (kids f)
+reading_never t s kind.Number f h = tt
+reading_never t s kind.Text f h = given_never (text_literal (first_text (texts f))) _ (λ bytes. tt)
+reading_never t s kind.Constant f h = constant_never s (name_of (texts f)) (constant_named (texts f)) h
+reading_never t s kind.Binary f h = dot_never (bytes_eq (codes ".") (first_text (texts f))) _ (is_dot _ h)
+reading_never t s kind.Paren f h = tt
+reading_never t s kind.Ternary f h = ternary_never (kids f)
+reading_never t s kind.ShortTernary f h = short_ternary_never
+reading_never t s k f h = cc
 
-rule_never : (k : NodeKind) (m : Mode) (own : List Bytes) (n : ℕ) → IsTrue (not (may_ask k own)) → NeverAsks (rule k m own n)
-rule_never kind.Paren m own n h = λ o. tt
-rule_never k Read own n h = reading_never k own n h
-rule_never k m own n h = tt
+quietly_never : (t : Tables) (s : Site) (k : NodeKind) (f : Form) → IsTrue (not (may_ask k (texts f))) → NeverAsks (reading_quietly t s k f)
+quietly_never t s kind.Variable f h = cc
+quietly_never t s kind.Offset f h = cc
+quietly_never t s kind.BraceOffset f h = cc
+quietly_never t s kind.Prop f h = cc
+quietly_never t s k f h = reading_never t s k f h
+
+locating_never : (t : Tables) (s : Site) (k : NodeKind) (f : Form) → IsTrue (not (may_ask k (texts f))) → NeverAsks (locating t s k f)
+locating_never t s kind.Variable f h = cc
+locating_never t s kind.Offset f h = cc
+locating_never t s kind.BraceOffset f h = cc
+locating_never t s kind.Prop f h = cc
+locating_never t s kind.StaticProp f h = cc
+locating_never t s k f h = tt
+
+running_never : (t : Tables) (s : Site) (k : NodeKind) (m : Mode) (f : Form) → IsTrue (not (may_ask k (texts f))) → NeverAsks (running t s k m f)
+running_never t s kind.Variable m f h = cc
+running_never t s kind.Offset m f h = cc
+running_never t s kind.BraceOffset m f h = cc
+running_never t s kind.While m f h = cc
+running_never t s kind.DoWhile m f h = cc
+running_never t s kind.For m f h = cc
+running_never t s kind.Foreach m f h = cc
+running_never t s kind.Case m f h = cc
+running_never t s kind.TypeName m f h = cc
+running_never t s kind.Item m f h = cc
+running_never t s kind.Args m f h = cc
+running_never t s kind.Function m f h = cc
+running_never t s kind.Method m f h = cc
+running_never t s kind.Param m f h = cc
+running_never t s kind.Property m f h = cc
+running_never t s kind.ClassConst m f h = cc
+running_never t s k m f h = tt
+
+rule_never : (t : Tables) (s : Site) (k : NodeKind) (m : Mode) (f : Form) → IsTrue (not (may_ask k (texts f))) → NeverAsks (rule t s k m f)
+rule_never t s kind.Paren m f h = λ o. tt
+rule_never t s k Read f h = reading_never t s k f h
+rule_never t s k Quiet f h = quietly_never t s k f h
+rule_never t s k Write f h = locating_never t s k f h
+rule_never t s k m f h = running_never t s k m f h
 
 -- ---- runs
 
 -- what is run adds nothing to what was asked
-abbrev Quiet : (World → Result) → Type 0
-Quiet m = (w : World) → asked_in (m w) ≡ w.asked
+abbrev Silent : (World → Result) → Type 0
+Silent m = (w : World) → asked_in (m w) ≡ w.asked
 
-then_quiet : (old : List Difference) (r : Result) (k : Out → World → Result) → asked_in r ≡ old → ((o : Out) → Quiet (k o)) → asked_in (then_do r k) ≡ old
+then_quiet : (old : List Asked) (r : Result) (k : Out → World → Result) → asked_in r ≡ old → ((o : Out) → Silent (k o)) → asked_in (then_do r k) ≡ old
 then_quiet old (Done o w) k e h = h o w ∙ e
 then_quiet old (Over x w) k e h = e
 
-turn_quiet : (w : World) (n : ℕ) (k : World → Result) → Quiet k → asked_in (with_turn w n k) ≡ w.asked
+turn_quiet : (w : World) (n : ℕ) (k : World → Result) → Silent k → asked_in (with_turn w n k) ≡ w.asked
 turn_quiet w zero k h = refl
 turn_quiet w (suc n) k h = h (record w { turns = n })
 
-starting_quiet : (b : Bool) (k : World → Result) → Quiet k → Quiet (λ w. starting b w k)
+starting_quiet : (b : Bool) (k : World → Result) → Silent k → Silent (λ w. starting b w k)
 starting_quiet true k h = λ w. turn_quiet w w.turns k h
 starting_quiet false k h = h
 
-module _ (v : Bool) (here : Place) (go : Target → World → Result) (h : (t : Target) → Quiet (go t)) where
-  play_quiet : (s : Script) → NeverAsks s → Quiet (play v here go s)
+module _ (v : Bool) (here : Place) (go : Target → World → Result) (h : (t : Target) → Silent (go t)) where
+  play_quiet : (s : Script) → NeverAsks s → Silent (play v here go s)
   play_quiet (Give o) a w = refl
   play_quiet (Stop c) a w = refl
   play_quiet (Finish status) a w = refl
@@ -134,8 +195,8 @@ left_quiet : (s : Site) (id : ℕ) (r : Result) → asked_in (left s id r) ≡ a
 left_quiet s id (Done o w) = refl
 left_quiet s id (Over e w) = refl
 
-told_quiet : (stop : Bool) (s : Site) (id : ℕ) (m : World → Result) → Quiet m
-    → Quiet (λ u. unless_stopped stop (place_in s id) u (left s id (m (told s id Before None u))))
+told_quiet : (stop : Bool) (s : Site) (id : ℕ) (m : World → Result) → Silent m
+    → Silent (λ u. unless_stopped stop (place_in s id) u (left s id (m (told s id Before None u))))
 told_quiet true s id m h = λ w. refl
 told_quiet false s id m h = λ w. left_quiet s id (m (told s id Before None w)) ∙ h (told s id Before None w)
 
@@ -147,69 +208,112 @@ back_of : (a b : Bool) → IsTrue (a && b) → IsTrue b
 back_of true b h = h
 back_of false b h = cc
 
-module _ (v : Bool) (marks : List Mark) (lower : Entry → World → Result) (h : (e : Entry) → Quiet (lower e)) where
-  going_quiet : (here : Place) (kid : ℕ → Mode → World → Result) → ((i : ℕ) (m : Mode) → Quiet (kid i m)) → (t : Target) → Quiet (going here lower kid t)
-  going_quiet here kid g (Kid i m) = g i m
-  going_quiet here kid g Again = λ w. refl
-  going_quiet here kid g (Body b) = h (BodyStart b)
+-- a pass of a node, and those that follow it
+passes_quiet : (f : (Mode → World → Result) → Mode → World → Result)
+    → ((x : Mode → World → Result) → ((m : Mode) → Silent (x m)) → (m : Mode) → Silent (f x m))
+    → (n : ℕ) (m : Mode) → Silent (passes f n m)
+passes_quiet f h zero m = λ w. refl
+passes_quiet f h (suc n) m = h (passes f n) (λ i. passes_quiet f h n i) m
 
-  step_quiet : (s : Site) (f : Forest) → IsTrue (asks_nothing f) → (id i : ℕ) (m : Mode) → Quiet (step v marks lower s f id i m)
+either_quiet : (b : Bool) (f g : World → Result) → Silent f → Silent g → Silent (λ w. elim b [ true ↦ f w | false ↦ g w ])
+either_quiet true f g p q = p
+either_quiet false f g p q = q
+
+module _ (v : Bool) (t : Tables) (marks : List Mark) (lower : Entry → World → Result) (h : (e : Entry) → Silent (lower e)) where
+  going_quiet : (kid : ℕ → Mode → World → Result) → ((i : ℕ) (m : Mode) → Silent (kid i m))
+      → (again : Mode → World → Result) → ((m : Mode) → Silent (again m)) → (x : Target) → Silent (going lower kid again x)
+  going_quiet kid g again a (Kid i m) = g i m
+  going_quiet kid g again a (Again m) = a m
+  going_quiet kid g again a (There b m) = h (DeclarationStart b m)
+  going_quiet kid g again a (File path) = h (FileStart path)
+
+  node_quiet : (s : Site) (k : NodeKind) (c : Forest) (id : ℕ) (kid : ℕ → Mode → World → Result) → IsTrue (not (may_ask k (texts (form c))))
+      → ((i : ℕ) (m : Mode) → Silent (kid i m)) → (m : Mode) → Silent (at_node v t lower s k c id kid m)
+  node_quiet s k c id kid a g m =
+      λ w. passes_quiet (λ again n u. play v (place_in s id) (going lower kid again) (rule t s k n (form c)) u)
+      (λ again b n. play_quiet v (place_in s id) (going lower kid again) (going_quiet kid g again b) (rule t s k n (form c)) (rule_never t s k n (form c) a))
+      (suc (suc w.turns)) m w
+
+  step_quiet : (s : Site) (f : Forest) → IsTrue (asks_nothing f) → (id i : ℕ) (m : Mode) → Silent (step v t marks lower s f id i m)
   step_quiet s none a id i m = λ w. refl
-  step_quiet s (leaf t f) a id i m = step_quiet s f a id i m
+  step_quiet s (leaf u f) a id i m = step_quiet s f a id i m
   step_quiet s (node k c f) a id zero m =
-      let inside : IsTrue (asks_nothing c) = front_of (asks_nothing c) (asks_nothing f) (back_of (not (may_ask k (own_texts c))) _ a) in
-      let kid : ℕ → Mode → World → Result = step v marks lower s c (suc id) in
-      let go : Target → World → Result = going (place_in s id) lower kid in
-      let script : Script = rule k m (own_texts c) (children c) in
+      let inside : IsTrue (asks_nothing c) = front_of (asks_nothing c) (asks_nothing f) (back_of (not (may_ask k (texts (form c)))) _ a) in
+      let kid : ℕ → Mode → World → Result = step v t marks lower (within k c s) c (suc id) in
       starting_quiet (is_statement k) _
-      (told_quiet (is_stopped marks s.file id) s id (play v (place_in s id) go script)
-      (play_quiet v (place_in s id) go
-      (going_quiet (place_in s id) kid (λ j n. step_quiet s c inside (suc id) j n))
-      script (rule_never k m (own_texts c) (children c) (front_of _ _ a))))
+      (told_quiet (is_stopped marks s.file id) s id (at_node v t lower s k c id kid m)
+      (node_quiet s k c id kid (front_of _ _ a) (λ j n. step_quiet (within k c s) c inside (suc id) j n) m))
   step_quiet s (node k c f) a id (suc i) m =
-      step_quiet s f (back_of (asks_nothing c) (asks_nothing f) (back_of (not (may_ask k (own_texts c))) _ a)) (suc (id + count c)) i m
+      step_quiet (beside k c s) f (back_of (asks_nothing c) (asks_nothing f) (back_of (not (may_ask k (texts (form c)))) _ a)) (suc (id + count c)) i m
 
-  file_quiet : (path : Bytes) (f : Forest) → IsTrue (asks_nothing f) → Quiet (run_file v marks lower path (Some f))
+  file_quiet : (path : Bytes) (f : Forest) → IsTrue (asks_nothing f) → Silent (run_file v t marks lower path (Some f))
   file_quiet path f a =
-      let kid : ℕ → Mode → World → Result = step v marks lower (record { file = path; body = None }) f 0 in
-      play_quiet v (place_of_file path) (going (place_of_file path) lower kid)
-      (going_quiet (place_of_file path) kid (λ j n. step_quiet (record { file = path; body = None }) f a 0 j n)) (run_all 0 (children f)) (run_all_never 0 (children f))
+      let kid : ℕ → Mode → World → Result = step v t marks lower (file_site path) f 0 in
+      let again : Mode → World → Result = λ m u. Over (End.Outside (place_of_file path) NoRule) u in
+      play_quiet v (place_of_file path) (going lower kid again)
+      (going_quiet kid (λ j n. step_quiet (file_site path) f a 0 j n) again (λ m w. refl)) (file_script t path (kids (form f)))
+      (file_script_never t path (kids (form f)))
 
-  found_quiet : (path : Bytes) (fs : List (Bytes × Forest)) → All (λ f. IsTrue (asks_nothing f.1)) fs → Quiet (run_file v marks lower path (file_at fs path))
+  found_quiet : (path : Bytes) (fs : List (Bytes × Forest)) → All (λ f. IsTrue (asks_nothing f.1)) fs → Silent (run_file v t marks lower path (file_at fs path))
   found_quiet path [] a = λ w. refl
   found_quiet path (f ∷ fs) a =
-      elim (bytes_eq f.0 path) as (λ b. Quiet (run_file v marks lower path (cond b (Some f.1) (file_at fs path))))
+      elim (bytes_eq f.0 path) as (λ b. Silent (run_file v t marks lower path (cond b (Some f.1) (file_at fs path))))
       [ true ↦ file_quiet path f.1 (a 0 f (omega arith)) | false ↦ found_quiet path fs (λ k d below. a (suc k) d (omega (arith, below))) ]
 
-refused_quiet : (b : Bool) (path : Bytes) (m : World → Result) → Quiet m → Quiet (λ w. unless_refused b path w (m (begun path w)))
+  declared_quiet : (s : Site) (f : Forest) → IsTrue (asks_nothing f) → (id n : ℕ) (m : Mode) (x : World → Result) → Silent x
+      → Silent (declared_in v t marks lower s f id n m x)
+  declared_quiet s none a id n m x g = g
+  declared_quiet s (leaf u f) a id n m x g = declared_quiet s f a id n m x g
+  declared_quiet s (node k c f) a id n m x g =
+      let rest : IsTrue (asks_nothing c && asks_nothing f) = back_of (not (may_ask k (texts (form c)))) _ a in
+      let inside : IsTrue (asks_nothing c) = front_of (asks_nothing c) (asks_nothing f) rest in
+      let kid : ℕ → Mode → World → Result = step v t marks lower (within k c s) c (suc id) in
+      either_quiet (is_declaration k && nat_eq s.number n) _ _
+      (node_quiet s k c id kid (front_of _ _ a) (λ j i. step_quiet (within k c s) c inside (suc id) j i) m)
+      (declared_quiet (within k c s) c inside (suc id) n m _
+      (declared_quiet (beside k c s) f (back_of (asks_nothing c) (asks_nothing f) rest) (suc (id + count c)) n m x g))
+
+  declaration_quiet : (b : Declared) (m : Mode) (path : Bytes) (fs : List (Bytes × Forest)) → All (λ f. IsTrue (asks_nothing f.1)) fs
+      → Silent (run_declared v t marks lower b m (file_at fs path))
+  declaration_quiet b m path [] a = λ w. refl
+  declaration_quiet b m path (f ∷ fs) a =
+      elim (bytes_eq f.0 path) as (λ c. Silent (run_declared v t marks lower b m (cond c (Some f.1) (file_at fs path)))) [
+        | true ↦ declared_quiet (file_site b.file) f.1 (a 0 f (omega arith)) 0 b.number m _ (λ w. refl)
+        | false ↦ declaration_quiet b m path fs (λ k d below. a (suc k) d (omega (arith, below)))
+      ]
+
+refused_quiet : (b : Bool) (path : Bytes) (m : World → Result) → Silent m → Silent (λ w. unless_refused b path w (m (begun path w)))
 refused_quiet true path m h = λ w. refl
 refused_quiet false path m h = λ w. h (begun path w)
 
-enter_quiet : (v : Bool) (p : Program) (marks : List Mark) → All (λ f. IsTrue (asks_nothing f.1)) p.files → (n : ℕ) (e : Entry) → Quiet (enter v p marks n e)
-enter_quiet v p marks a zero e = λ w. refl
-enter_quiet v p marks a (suc n) (FileStart path) =
-    refused_quiet (is_refused marks path) path (run_file v marks (enter v p marks n) path (file_at p.files path))
-    (found_quiet v marks (enter v p marks n) (enter_quiet v p marks a n) path p.files a)
-enter_quiet v p marks a (suc n) (BodyStart b) = λ w. refl
+enter_quiet : (v : Bool) (t : Tables) (p : Program) (marks : List Mark) → All (λ f. IsTrue (asks_nothing f.1)) p.files → (n : ℕ) (e : Entry) → Silent (enter v t p marks n e)
+enter_quiet v t p marks a zero e = λ w. refl
+enter_quiet v t p marks a (suc n) (FileStart path) =
+    refused_quiet (is_refused marks path) path (run_file v t marks (enter v t p marks n) path (file_at p.files path))
+    (found_quiet v t marks (enter v t p marks n) (enter_quiet v t p marks a n) path p.files a)
+enter_quiet v t p marks a (suc n) (DeclarationStart b m) =
+    declaration_quiet v t marks (enter v t p marks n) (enter_quiet v t p marks a n) b m b.file p.files a
 
-and_start_quiet : (path : Bytes) (k : World → Result) → Quiet k → (o : Out) → Quiet (and_start path k o)
+and_start_quiet : (path : Bytes) (k : World → Result) → Silent k → (o : Out) → Silent (and_start path k o)
 and_start_quiet path k h (Val x) = h
+and_start_quiet path k h (Fresh x) = h
 and_start_quiet path k h (At c) = h
 and_start_quiet path k h (Jump (Return x)) = h
 and_start_quiet path k h (Jump (Throw n)) = λ w. refl
 and_start_quiet path k h (Jump (Break n)) = λ w. refl
 and_start_quiet path k h (Jump (Continue n)) = λ w. refl
 
-start_all_quiet : (k : Bytes → World → Result) → ((path : Bytes) → Quiet (k path)) → (first : Option Bytes) (entry : Bytes) → Quiet (start_all k first entry)
+start_all_quiet : (k : Bytes → World → Result) → ((path : Bytes) → Silent (k path)) → (first : Option Bytes) (entry : Bytes) → Silent (start_all k first entry)
 start_all_quiet k h None entry = h entry
 start_all_quiet k h (Some path) entry =
     λ w. then_quiet w.asked (k path w) (and_start path (k entry)) (h path w) (and_start_quiet path (k entry) (h entry))
 
 pub asks_nowhere : AsksNowhere
 asks_nowhere v p marks entry input n a =
-    let starts : Bytes → World → Result = λ path. enter (is_newer v) p marks (suc (suc n)) (FileStart path) in
+    let t : Tables = tables_of p.files in
+    let starts : Bytes → World → Result = λ path. enter (is_newer v) t p marks (suc (suc (n + length t))) (FileStart path) in
     answer_asked entry (start_all starts p.prepend entry (first_world input n))
-    ∙ start_all_quiet starts (λ path. enter_quiet (is_newer v) p marks a (suc (suc n)) (FileStart path)) p.prepend entry (first_world input n)
+    ∙ start_all_quiet starts (λ path. enter_quiet (is_newer v) t p marks a (suc (suc (n + length t))) (FileStart path)) p.prepend entry (first_world input n)
 
 pub inside_is_covered : InsideIsCovered
 inside_is_covered source written marks a keeps entry input n i =

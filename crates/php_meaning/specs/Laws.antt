@@ -1,11 +1,12 @@
 -- Laws of runs.
-use Rattle.std.specs.Prelude.{◌≡◌, ℕ, ◌+◌, List, [], ◌∷◌, ◌++◌}
+use Rattle.std.specs.Prelude.{◌≡◌, ℕ, ◌+◌, IsTrue, List, [], ◌∷◌, ◌++◌}
 use Rattle.php_tree.specs.declared.token.Token.{Token}
 use Rattle.php_tree.specs.declared.version.Version.{Version}
 use Rattle.php_tree.specs.declared.version.Version.TheVariants.{V74, V83}
 use Rattle.php_tree.specs.declared.kind.NodeKind.TheVariants.{Paren}
 use Rattle.php_tree.specs.declared.kind.NodeKind.{NodeKind}
 use Rattle.php_tree.specs.Tree.{Forest, none, leaf, node}
+use Rattle.php_meaning.specs.Sites.{is_expression}
 use Rattle.php_meaning.specs.World.{Bytes, End, Going, Ended, Threw, Outside}
 use Rattle.php_meaning.specs.Input.{Input}
 use Rattle.php_meaning.specs.Run.{Program, Mark, Answer, run}
@@ -86,14 +87,14 @@ KeepsRuns source marks written =
 
 -- ---- parentheses
 
--- The second forest is the first one with some nodes in parentheses. Trivia, places and kinds of tokens don't count, nor
+-- The second forest is the first one with some expressions in parentheses. Trivia and places of tokens don't count, nor
 -- what the two tokens round a node are.
 pub data Parenthesized : Forest → Forest → Type 0 where
   ends : Parenthesized none none
-  token : {t u : Token} {f g : Forest} → u.text ≡ t.text → Parenthesized f g → Parenthesized (leaf t f) (leaf u g)
+  token : {t u : Token} {f g : Forest} → u.kind ≡ t.kind → u.text ≡ t.text → Parenthesized f g → Parenthesized (leaf t f) (leaf u g)
   inner : {k : NodeKind} {c d f g : Forest} → Parenthesized c d → Parenthesized f g → Parenthesized (node k c f) (node k d g)
   parens : {k j : NodeKind} {c d f g : Forest} {o p : Token}
-      → Parenthesized (node k c none) (node j d none) → Parenthesized f g
+      → IsTrue (is_expression k) → Parenthesized (node k c none) (node j d none) → Parenthesized f g
       → Parenthesized (node k c f) (node Paren (leaf o (node j d (leaf p none))) g)
 
 -- the same of the files of two programs, under the same paths

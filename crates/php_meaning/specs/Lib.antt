@@ -1,3 +1,4 @@
+pub mod Slot
 pub mod Value
 pub mod Cause
 pub mod Ints
@@ -17,14 +18,27 @@ pub mod Literals
 pub mod Escapes
 pub mod Nowdocs
 pub mod TextLiterals
+pub mod Form
+pub mod Sites
+pub mod Tables
 pub mod World
 pub mod Script
+pub mod Stores
+pub mod Locations
 pub mod Statements
 pub mod Operators
+pub mod Assigning
+pub mod Loops
+pub mod QuotedTexts
+pub mod Expressions
+pub mod Bodies
+pub mod Objects
+pub mod builtins
 pub mod Rules
 pub mod Input
 pub mod Run
 pub mod Laws
+pub mod Following
 pub mod SameScripts
 pub mod LiteralLaws
 pub mod Examples
@@ -33,3 +47,4 @@ pub mod ValueLaws
 pub mod ArrayLaws
 pub mod CellLaws
 pub mod Asking
+pub mod Across

@@ -1,15 +1,38 @@
--- What each kind of node does. A rule sees its kind, how it is evaluated, its own tokens and the number of its child
--- nodes, and nothing of what stands in them. A kind without a rule has no meaning.
-use Rattle.std.specs.Prelude.{ℕ, zero, suc, cond, List, [], ◌∷◌, Option, Some, None}
+-- What each kind of node does. A rule sees the program's tables, where its node stands, its kind, how it is evaluated, and
+-- its form: its own tokens and where the child nodes are, and nothing of what stands in them. A kind without a rule has no
+-- meaning.
+use Rattle.std.specs.Prelude.{ℕ, zero, suc, Bool, true, false, not, ◌&&◌, ◌||◌, nat_eq, nat_le, cond, if◌then◌else◌, List, [], ◌∷◌, ◌++◌, codes, pos, ℤ, filter, is_some, Option, Some, None}
+use Rattle.std.specs.Str.{bytes_eq, str_to_ascii_lowercase}
 use Rattle.php_tree.specs.declared.kind.NodeKind.{NodeKind}
 use Rattle.php_tree.specs.declared.kind.NodeKind.TheVariants as kind
-use Rattle.php_meaning.specs.Value.{Value, Null, Int, Text}
-use Rattle.php_meaning.specs.Cause.{NoRule}
-use Rattle.php_meaning.specs.Convert.{to_text, to_truth}
-use Rattle.php_meaning.specs.Literals.{int_literal, constant_named, found}
+use Rattle.php_meaning.specs.Slot.{Declared}
+use Rattle.php_meaning.specs.Value.{Value, Null, Truth, Int, Text, Object, Arr}
+use Rattle.php_meaning.specs.Value as entries
+use Rattle.php_meaning.specs.Cause.{NoRule, Declaration, Call, Error}
+use Rattle.php_meaning.specs.Differences.{Differs, UndefinedConstant}
+use Rattle.php_meaning.specs.Convert.{to_text, to_truth, to_int, to_array}
+use Rattle.php_meaning.specs.Arithmetic.{incremented, decremented, joined}
+use Rattle.php_meaning.specs.Literals.{int_literal, constant_named, found, name_of, behind_backslash}
 use Rattle.php_meaning.specs.TextLiterals.{text_literal}
-use Rattle.php_meaning.specs.Script.{Mode, Read, Script, Give, Stop, Echo, Run, Kid, give, child_value, given, value_then}
-use Rattle.php_meaning.specs.Operators.{operations, binary, signs, prefix}
+use Rattle.php_meaning.specs.Offsets.{Strict}
+use Rattle.php_meaning.specs.Offsets as offsets
+use Rattle.php_meaning.specs.World.{Bytes, Store}
+use Rattle.php_meaning.specs.Form.{Form, texts, kids, has_word}
+use Rattle.php_meaning.specs.Sites.{Site, candidates, is_end, in_space, split}
+use Rattle.php_meaning.specs.Tables.{Tables}
+use Rattle.php_meaning.specs.Tables as table
+use Rattle.php_meaning.specs.Stores.{cells_of}
+use Rattle.php_meaning.specs.Script.{Return, Throw, Break, Continue, Out, At, Jump, Mode, Read, Quiet, Write, Unset, Name, Later, Left, Behind, Against, Into, Given, Handed, Entered, Item, InProperty, InCell, File, Script, Give, Stop, Finish, Look, Put, Echo, Run, Kid, give, child_value, given, asking, comes, value_then, throws}
+use Rattle.php_meaning.specs.Operators.{operation, binary, of_values, signs, prefix}
+use Rattle.php_meaning.specs.Assigning.{numbered, Properties, kept_then, unset}
+use Rattle.php_meaning.specs.Expressions.{plain_name, in_variable, variable_value, read_offset, offset_location, with_array, item, array_literal, variable_quietly, assign, assign_reference, operator_of, compound, stepped, isset, empty_test, coalesce, both, either, unset_all}
+use Rattle.php_meaning.specs.Nowdocs.{is_blank}
+use Rattle.php_meaning.specs.QuotedTexts.{quoted_text}
+use Rattle.php_meaning.specs.Loops.{while_pass, do_pass, for_first, for_later, foreach, foreach_pass, foreach_behind, switch, case_against, case_statements}
+use Rattle.php_meaning.specs.Bodies.{function_named, declared_function, function_name, is_function, reach_function, call, arguments, body_script, parameter, global_all, statics, declare}
+use Rattle.php_meaning.specs.Objects.{property_then, property_value, property_quietly, member_word, reach_class, new_object, method_call, static_call, throw_value, try_script, class_constant, static_property, instance_of, is_a, class_by, object_at, is_class, class_name, declared_class}
+use Rattle.php_meaning.specs.builtins.Constants.{constant_value, define_all}
+use Rattle.php_meaning.specs.builtins.Calls.{handed, builtin_named, call_builtin}
 
 -- the text of a node's first token of its own
 abbrev pub first_text : List (List ℕ) → List ℕ
@@ -32,12 +55,50 @@ echo_all i (suc n) = child_value i (λ v. given (to_text v) (λ bytes. Echo byte
 abbrev pub drop_value : Script
 drop_value = child_value 0 (λ v. give Null)
 
--- ---- expressions
+-- conditions with a statement each, and maybe a last statement
+abbrev pub choices : ℕ → ℕ → Script
+choices i zero = give Null
+choices i (suc zero) = Run (Kid i Read) Give
+choices i (suc (suc n)) = child_value i (λ v. cond (to_truth v) (Run (Kid (suc i) Read) Give) (choices (suc (suc i)) n))
 
--- the value of a constant that has one here
-abbrev pub constant : Option Value → Script
-constant (Some v) = give v
-constant None = Stop NoRule
+abbrev pub number_of : ℤ → ℕ
+number_of (pos k) = k
+number_of i = 0
+
+-- how many loops are left or gone on with
+abbrev pub levels : List Bytes → ℕ
+levels (w ∷ n ∷ ws) = if is_end n then 1 else number_of (int_literal n)
+levels ws = 1
+
+abbrev pub return : ℕ → Script
+return zero = Give (Jump (Return Null))
+return (suc n) = Run (Kid 0 Read) (kept_then (λ v. Give (Jump (Return v))))
+
+-- ---- constants
+
+abbrev pub or_nothing : Option Bytes → Bytes
+or_nothing None = []
+or_nothing (Some b) = b
+
+-- the constants that are known from their place; `__DIR__` stands for the folder of the file, from which includes go on
+abbrev pub constant_of_place : Site → Bytes → Option Value
+constant_of_place s name =
+    if bytes_eq name (codes "__dir__") then Some (Text [])
+    else (if bytes_eq name (codes "__class__") then Some (Text (or_nothing s.class))
+    else (if bytes_eq name (codes "__namespace__") then Some (Text s.space) else None))
+
+abbrev pub other_constant : Site → Bytes → Script
+other_constant s name = elim (constant_of_place s (str_to_ascii_lowercase name)) [
+  | Some v ↦ give v
+  | None ↦ constant_value s name
+]
+
+-- the value of a constant
+abbrev pub constant : Site → Bytes → Option Value → Script
+constant s name (Some v) = give v
+constant s name None = other_constant s name
+
+-- ---- expressions
 
 -- the second child or the third one, by the truth of the first (PHP manual, "Ternary Operator")
 abbrev pub ternary : ℕ → Script
@@ -48,21 +109,273 @@ ternary n = Stop NoRule
 abbrev pub short_ternary : Script
 short_ternary = child_value 0 (λ v. cond (to_truth v) (give v) (Run (Kid 1 Read) Give))
 
+-- the operators that may leave their right operand out
+abbrev pub choosing : List (Bytes × Script)
+choosing =
+    (codes "&&", both) ∷ (codes "and", both) ∷ (codes "||", either) ∷ (codes "or", either) ∷ (codes "??", coalesce) ∷ []
+
+abbrev pub other_binary : Bytes → Option Script → Script
+other_binary op (Some s) = s
+other_binary op None = Look (λ st. binary (operation (cells_of st) st.serials op))
+
+abbrev pub operate : Bytes → Script
+operate op = cond (bytes_eq (codes ".") op) (binary (Some (of_values joined))) (other_binary op (found choosing (str_to_ascii_lowercase op)))
+
+abbrev pub negated : Script
+negated = child_value 0 (λ v. give (Truth (not (to_truth v))))
+
+abbrev pub one_operand : Properties → Site → Bytes → Script
+one_operand properties s op =
+    if bytes_eq op (codes "!") then negated
+    else (if bytes_eq op (codes "@") then child_value 0 give
+    else (if bytes_eq op (codes "++") then stepped properties s true incremented
+    else (if bytes_eq op (codes "--") then stepped properties s true decremented
+    else prefix (found signs op))))
+
+abbrev pub behind_operand : Properties → Site → Bytes → Script
+behind_operand properties s op =
+    if bytes_eq op (codes "++") then stepped properties s false incremented else stepped properties s false decremented
+
+-- the word of a cast
+abbrev pub cast_word : Bytes → Bytes
+cast_word t = str_to_ascii_lowercase (filter (λ b. not (is_blank b)) t)
+
+abbrev pub cast_to_int : Value → Script
+cast_to_int v = given (to_int v) (λ i. give (Int i))
+
+abbrev pub cast_to_truth : Value → Script
+cast_to_truth v = give (Truth (to_truth v))
+
+abbrev pub cast_to_text : Value → Script
+cast_to_text v = given (to_text v) (λ t. give (Text t))
+
+abbrev pub cast_to_array : Value → Script
+cast_to_array v = Look (λ s. given (to_array s.serials v) (λ a. Put (numbered 1 s) (give a)))
+
+-- the casts that have a rule; before another one nothing is evaluated
+abbrev pub casts : List (Bytes × (Value → Script))
+casts =
+    (codes "(int)", cast_to_int) ∷ (codes "(integer)", cast_to_int)
+    ∷ (codes "(bool)", cast_to_truth) ∷ (codes "(boolean)", cast_to_truth)
+    ∷ (codes "(string)", cast_to_text) ∷ (codes "(array)", cast_to_array)
+    ∷ (codes "(unset)", λ v. give Null) ∷ []
+
+abbrev pub cast : Option (Value → Script) → Script
+cast None = Stop NoRule
+cast (Some k) = child_value 0 k
+
+abbrev pub exit_with : Value → Script
+exit_with (Int i) = Finish i
+exit_with (Text t) = Echo t (Finish (pos 0))
+exit_with v = Stop NoRule
+
+abbrev pub exit : ℕ → Script
+exit zero = Finish (pos 0)
+exit (suc n) = child_value 0 exit_with
+
+-- ---- calls of functions
+
+abbrev pub up_to_bracket : List Bytes → List Bytes
+up_to_bracket [] = []
+up_to_bracket (w ∷ ws) = if bytes_eq w (codes "(") then [] else w ∷ up_to_bracket ws
+
+abbrev pub call_named : Tables → Site → List Bytes → Script
+call_named t s names = Look (λ st. elim (function_named t st.declared names) [
+  | Some d ↦ call 0 d None None Give
+  | None ↦ if is_some st.here.item then Stop Call else call_builtin s 0 (builtin_named names)
+])
+
+abbrev pub function_call : Tables → Site → Form → Script
+function_call t s f = elim (up_to_bracket (texts f)) [
+  | [] ↦ Stop NoRule
+  | w ∷ ws ↦ call_named t s (candidates s s.functions (name_of (w ∷ ws)))
+]
+
+-- ---- types
+
+-- whether a value is of a type: of exactly that kind, or null where the type is nullable
+abbrev pub is_of : Tables → Store → Site → Bytes → Value → Bool
+is_of t st s w (Int i) = bytes_eq (str_to_ascii_lowercase w) (codes "int")
+is_of t st s w (Truth b) = bytes_eq (str_to_ascii_lowercase w) (codes "bool")
+is_of t st s w (Text x) = bytes_eq (str_to_ascii_lowercase w) (codes "string")
+is_of t st s w (Arr largest next es) = bytes_eq (str_to_ascii_lowercase w) (codes "array")
+is_of t st s w Null = bytes_eq (str_to_ascii_lowercase w) (codes "void")
+is_of t st s w (Object n) = is_a t st (object_at st.objects n).class (class_by s st w)
+
+abbrev pub is_null : Value → Bool
+is_null Null = true
+is_null v = false
+
+abbrev pub type_against : Tables → Site → List Bytes → Value → Script
+type_against t s [] v = Stop NoRule
+type_against t s (w ∷ ws) v = Look (λ st.
+    give (Truth (if bytes_eq w (codes "?") then is_null v || is_of t st s (name_of ws) v else is_of t st s (name_of (w ∷ ws)) v)))
+
+-- ---- includes
+
+-- the folder of a path, with the slash at its end
+abbrev pub folder : Bytes → Bytes → Bytes
+folder part [] = []
+folder part (b ∷ bs) = if nat_eq b 47 then part ++ b ∷ folder [] bs else folder (part ++ b ∷ []) bs
+
+-- a path without a slash in front
+abbrev pub relative : Bytes → Bytes
+relative [] = []
+relative (b ∷ bs) = if nat_eq b 47 then bs else b ∷ bs
+
+abbrev pub included : Out → Script
+included (Jump (Return v)) = give v
+included (Jump (Throw n)) = Give (Jump (Throw n))
+included (Jump w) = Stop NoRule
+included o = give (Int (pos 1))
+
+abbrev pub is_started : List Bytes → Bytes → Bool
+is_started [] path = false
+is_started (p ∷ ps) path = bytes_eq p path || is_started ps path
+
+abbrev pub is_once : Bytes → Bool
+is_once w = bytes_eq (str_to_ascii_lowercase w) (codes "include_once") || bytes_eq (str_to_ascii_lowercase w) (codes "require_once")
+
+abbrev pub include_path : Site → Bytes → Bytes → Script
+include_path s w path = Look (λ st.
+    if is_some st.here.item then Stop Call
+    else (if is_once w && is_started st.started path then give (Truth true) else Run (File path) included))
+
+abbrev pub include : Site → Bytes → Script
+include s w = child_value 0 (λ v. given (to_text v) (λ t. include_path s w (folder [] s.file ++ relative t)))
+
+-- ---- files
+
+-- whether a declaration takes place when its file starts: an unconditional function, or a class without a parent and
+-- without interfaces
+abbrev pub is_early : table.Declaration → Bool
+is_early d =
+    d.is_top && (is_function d.kind || (is_class d.kind && not (has_word (codes "extends") (texts d.form)) && not (has_word (codes "implements") (texts d.form))))
+
+abbrev pub is_there : Tables → List Declared → table.Declaration → Bool
+is_there t ds d =
+    if is_function d.kind then is_some (declared_function t ds (function_name d))
+    else is_some (declared_class t ds (class_name d))
+
+-- the declarations of a file that take place when it starts, and then its statements
+abbrev pub declare_early : Tables → Bytes → Tables → Script → Script
+declare_early t path [] k = k
+declare_early t path (d ∷ ds) k =
+    if is_early d && bytes_eq d.at.file path
+    then Look (λ s. if is_there t s.declared d then Stop Declaration else declare d.at (declare_early t path ds k))
+    else declare_early t path ds k
+
+abbrev pub file_script : Tables → Bytes → ℕ → Script
+file_script t path n = declare_early t path t (run_all 0 n)
+
+-- ---- rules
+
 -- evaluated for its value
-abbrev pub reading : NodeKind → List (List ℕ) → ℕ → Script
-reading kind.ExprStmt own n = drop_value
-reading kind.Echo own n = echo_all 0 n
-reading kind.Number own n = give (Int (int_literal (first_text own)))
-reading kind.Text own n = given (text_literal (first_text own)) (λ bytes. give (Text bytes))
-reading kind.Constant own n = constant (constant_named own)
-reading kind.Binary own n = binary (found operations (first_text own))
-reading kind.Prefix own n = prefix (found signs (first_text own))
-reading kind.Ternary own n = ternary n
-reading kind.ShortTernary own n = short_ternary
-reading k own n = Stop NoRule
+abbrev pub reading : Tables → Site → NodeKind → Form → Script
+reading t s kind.Block f = run_all 0 (kids f)
+reading t s kind.Empty f = give Null
+reading t s kind.Html f = Echo (first_text (texts f)) (give Null)
+reading t s kind.ExprStmt f = drop_value
+reading t s kind.Echo f = echo_all 0 (kids f)
+reading t s kind.Return f = return (kids f)
+reading t s kind.If f = choices 0 (kids f)
+reading t s kind.While f = while_pass f
+reading t s kind.DoWhile f = do_pass
+reading t s kind.For f = for_first f
+reading t s kind.Foreach f = foreach (property_then t s) s f
+reading t s kind.Switch f = switch (kids f)
+reading t s kind.Case f = case_statements f
+reading t s kind.Break f = Give (Jump (Break (levels (texts f))))
+reading t s kind.Continue f = Give (Jump (Continue (levels (texts f))))
+reading t s kind.Global f = global_all 0 (kids f)
+reading t s kind.Statics f = statics s 0 f
+reading t s kind.Unset f = unset_all 0 (kids f)
+reading t s kind.Throw f = throw_value t
+reading t s kind.Try f = try_script t s f
+reading t s kind.Function f = reach_function t s
+reading t s kind.Class f = reach_class t s
+reading t s kind.Interface f = reach_class t s
+reading t s kind.Namespace f = run_all 0 (kids f)
+reading t s kind.Use f = give Null
+reading t s kind.Const f = define_all s 0 (texts f)
+reading t s kind.Variable f = cond (nat_eq (kids f) 0) (variable_value (plain_name (first_text (texts f)))) (Stop NoRule)
+reading t s kind.Number f = give (Int (int_literal (first_text (texts f))))
+reading t s kind.Text f = given (text_literal (first_text (texts f))) (λ bytes. give (Text bytes))
+reading t s kind.Quoted f = quoted_text f
+reading t s kind.Constant f = constant s (name_of (texts f)) (constant_named (texts f))
+reading t s kind.ClassConstant f = class_constant t s f
+reading t s kind.StaticProp f = static_property t s f (λ c. Look (λ st. give (st.held c)))
+reading t s kind.InstanceOf f = cond (nat_eq (kids f) 1) (instance_of t s f) (Stop NoRule)
+reading t s kind.Array f = array_literal (kids f)
+reading t s kind.Offset f = read_offset Read Strict f
+reading t s kind.BraceOffset f = read_offset Read Strict f
+reading t s kind.Prop f = child_value 0 (λ v. property_value t s v (member_word f))
+reading t s kind.Call f = function_call t s f
+reading t s kind.MethodCall f = method_call t s f
+reading t s kind.StaticCall f = static_call t s f
+reading t s kind.New f = new_object t s f
+reading t s kind.Isset f = isset 0 (kids f)
+reading t s kind.EmptyTest f = empty_test
+reading t s kind.Exit f = exit (kids f)
+reading t s kind.Include f = include s (first_text (texts f))
+reading t s kind.Binary f = operate (first_text (texts f))
+reading t s kind.Prefix f = one_operand (property_then t s) s (first_text (texts f))
+reading t s kind.Postfix f = behind_operand (property_then t s) s (first_text (texts f))
+reading t s kind.Cast f = cast (found casts (cast_word (first_text (texts f))))
+reading t s kind.Ternary f = ternary (kids f)
+reading t s kind.ShortTernary f = short_ternary
+reading t s kind.Assign f = assign (property_then t s) s
+reading t s kind.AssignRef f = assign_reference (property_then t s) s
+reading t s kind.CompoundAssign f = Look (λ st. compound (property_then t s) s (operation (cells_of st) st.serials (operator_of (first_text (texts f)))))
+reading t s kind.Print f = child_value 0 (λ v. given (to_text v) (λ bytes. Echo bytes (give (Int (pos 1)))))
+reading t s k f = Stop NoRule
+
+-- evaluated for its value where nothing is said of what isn't there
+abbrev pub reading_quietly : Tables → Site → NodeKind → Form → Script
+reading_quietly t s kind.Variable f =
+    cond (nat_eq (kids f) 0) (variable_quietly (plain_name (first_text (texts f)))) (Stop NoRule)
+reading_quietly t s kind.Offset f = read_offset Quiet offsets.Quiet f
+reading_quietly t s kind.BraceOffset f = read_offset Quiet offsets.Quiet f
+reading_quietly t s kind.Prop f = Run (Kid 0 Quiet) (value_then (λ v. property_quietly t s v (member_word f)))
+reading_quietly t s k f = reading t s k f
+
+-- as a location
+abbrev pub locating : Tables → Site → NodeKind → Form → Script
+locating t s kind.Variable f =
+    cond (nat_eq (kids f) 0 && not (bytes_eq (first_text (texts f)) (codes "$this"))) (Give (At (in_variable (plain_name (first_text (texts f)))))) (Stop NoRule)
+locating t s kind.Offset f = offset_location f (λ l. Give (At l))
+locating t s kind.BraceOffset f = offset_location f (λ l. Give (At l))
+locating t s kind.Prop f = child_value 0 (λ v. Give (At (record { root = InProperty v (member_word f); offsets = [] })))
+locating t s kind.StaticProp f = static_property t s f (λ c. Give (At (record { root = InCell c; offsets = [] })))
+locating t s k f = Stop NoRule
+
+-- in all the other modes
+abbrev pub running : Tables → Site → NodeKind → Mode → Form → Script
+running t s kind.Variable Name f = cond (nat_eq (kids f) 0) (give (Text (plain_name (first_text (texts f))))) (Stop NoRule)
+running t s kind.Variable Unset f = unset (property_then t s) s (in_variable (plain_name (first_text (texts f)))) (give Null)
+running t s kind.Offset Unset f = offset_location f (λ l. unset (property_then t s) s l (give Null))
+running t s kind.BraceOffset Unset f = offset_location f (λ l. unset (property_then t s) s l (give Null))
+running t s kind.While Later f = while_pass f
+running t s kind.DoWhile Later f = do_pass
+running t s kind.For Later f = for_later f
+running t s kind.Foreach (Left es) f = foreach_pass (property_then t s) s f es
+running t s kind.Foreach (Behind c met) f = Look (λ st. foreach_behind (property_then t s) s f c met (st.held c))
+running t s kind.Case (Against v) f = case_against f v
+running t s kind.TypeName (Against v) f = type_against t s (texts f) v
+running t s kind.Item (Into a) f = with_array a (item (property_then t s) s f)
+running t s kind.Args (Given marks) f = cond (has_word (codes "...") (texts f)) (Stop NoRule) (arguments (property_then t s) s 0 (kids f) marks entries.none)
+running t s kind.Args Handed f = cond (has_word (codes "...") (texts f)) (Stop NoRule) (handed 0 (kids f) entries.none)
+running t s kind.Function Entered f = body_script f
+running t s kind.Method Entered f = body_script f
+running t s kind.Param Entered f = Look (λ st. parameter s f st st.here.arguments)
+running t s kind.Property (Item i) f = Run (Kid i Read) Give
+running t s kind.ClassConst (Item i) f = Run (Kid i Read) Give
+running t s k m f = Stop NoRule
 
 -- Parentheses are what stands in them, however they are evaluated.
-abbrev pub rule : NodeKind → Mode → List (List ℕ) → ℕ → Script
-rule kind.Paren m own n = Run (Kid 0 m) Give
-rule k Read own n = reading k own n
-rule k m own n = Stop NoRule
+abbrev pub rule : Tables → Site → NodeKind → Mode → Form → Script
+rule t s kind.Paren m f = Run (Kid 0 m) Give
+rule t s k Read f = reading t s k f
+rule t s k Quiet f = reading_quietly t s k f
+rule t s k Write f = locating t s k f
+rule t s k m f = running t s k m f

@@ -1,17 +1,22 @@
 -- Runs: a script is played, a node is entered, a file is started.
-use Rattle.std.specs.Prelude.{ℕ, zero, suc, ◌+◌, pos, Bool, true, false, ◌&&◌, ◌||◌, nat_eq, cond, List, [], ◌∷◌, ◌++◌, codes, Option, Some, None}
+use Rattle.std.specs.Prelude.{ℕ, zero, suc, ◌+◌, pos, Bool, true, false, ◌&&◌, ◌||◌, nat_eq, cond, List, [], ◌∷◌, ◌++◌, codes, length, Option, Some, None}
 use Rattle.std.specs.Str.{bytes_eq}
 use Rattle.php_tree.specs.declared.version.Version.{Version}
 use Rattle.php_tree.specs.declared.version.Version.TheVariants.{V74, V83}
+use Rattle.php_tree.specs.declared.kind.NodeKind.{NodeKind}
 use Rattle.php_tree.specs.Tree.{Forest, none, leaf, node, count}
+use Rattle.php_meaning.specs.Slot.{Declared, Slot, FileVariable}
+use Rattle.php_meaning.specs.Form.{form, kids}
+use Rattle.php_meaning.specs.Sites.{Site, file_site, is_declaration, within, beside}
+use Rattle.php_meaning.specs.Tables.{Tables, tables_of}
 use Rattle.php_meaning.specs.Value.{Value, Null, Cell}
+use Rattle.php_meaning.specs.Value as entries
 use Rattle.php_meaning.specs.Arrays.{array}
 use Rattle.php_meaning.specs.Input.{Input, no_items, sent_array, texts_array}
 use Rattle.php_meaning.specs.Cause.{NoRule, StopMark, CompileMark}
-use Rattle.php_meaning.specs.Differences.{Difference}
-use Rattle.php_meaning.specs.World.{Bytes, Declared, Object, Frame, Store, Place, End, Going, Ended, Threw, Outside, Moment, Before, After, Thrown, Visit, World}
-use Rattle.php_meaning.specs.Script.{Return, Throw, Break, Continue, Out, Val, At, Jump, Mode, Target, Kid, Again, Body, Script, Give, Stop, Finish, Look, Put, Echo, Turn, Ask, Run}
-use Rattle.php_meaning.specs.Rules.{rule, run_all}
+use Rattle.php_meaning.specs.World.{Bytes, Object, Frame, Store, Place, End, Going, Ended, Threw, Outside, Moment, Before, After, Thrown, Visit, Asked, World}
+use Rattle.php_meaning.specs.Script.{Return, Throw, Break, Continue, Out, Val, Fresh, At, Jump, Mode, Target, Kid, Again, There, File, Script, Give, Stop, Finish, Look, Put, Echo, Turn, Ask, Run}
+use Rattle.php_meaning.specs.Rules.{rule, file_script}
 use Rattle.php_meaning.specs.Statements.{is_statement}
 
 -- ---- programs, marks and input
@@ -30,7 +35,7 @@ pub data Mark : Type 0 where
 pub record Answer : Type 0 where
   pub echo : Bytes
   pub end : End
-  pub asked : List Difference
+  pub asked : List Asked
   pub visits : List Visit
 
 -- the statements of a path
@@ -79,32 +84,15 @@ play is_new here go (Look k) w = play is_new here go (k w.store) w
 play is_new here go (Put s k) w = play is_new here go k (record w { store = s })
 play is_new here go (Echo bytes k) w = play is_new here go k (record w { echo = w.echo ++ bytes })
 play is_new here go (Turn k) w = with_turn w w.turns (λ u. play is_new here go k u)
-play is_new here go (Ask point k) w = play is_new here go (k is_new) (record w { asked = point ∷ w.asked })
+play is_new here go (Ask point k) w = play is_new here go (k is_new) (record w { asked = record { place = here; point = point } ∷ w.asked })
 play is_new here go (Run t k) w = then_do (go t w) (λ o u. play is_new here go (k o) u)
 
 -- ---- nodes
 
--- the texts of a node's own tokens
-abbrev pub own_texts : Forest → List Bytes
-own_texts none = []
-own_texts (leaf t f) = t.text ∷ own_texts f
-own_texts (node k c f) = own_texts f
-
--- how many child nodes there are
-abbrev pub children : Forest → ℕ
-children none = zero
-children (leaf t f) = children f
-children (node k c f) = suc (children f)
-
--- what is started: a file, or a body
+-- what is started: a file, or a declaration's body or value
 pub data Entry : Type 0 where
   FileStart : Bytes → Entry
-  BodyStart : Declared → Entry
-
--- where code stands: its file, and the body that it is part of
-pub record Site : Type 0 where
-  pub file : Bytes
-  pub body : Option Declared
+  DeclarationStart : Declared → Mode → Entry
 
 abbrev pub place_in : Site → ℕ → Place
 place_in s id = record { file = s.file; node = Some id }
@@ -118,7 +106,8 @@ told s id m v w = record w { visits = record { place = place_in s id; body = s.b
 
 abbrev pub value_of : Out → Option Value
 value_of (Val v) = Some v
-value_of (At c) = None
+value_of (Fresh v) = Some v
+value_of (At l) = None
 value_of (Jump w) = None
 
 abbrev pub moment_of : Out → Moment
@@ -140,30 +129,58 @@ abbrev pub unless_stopped : Bool → Place → World → Result → Result
 unless_stopped true here w r = Over (Outside here StopMark) w
 unless_stopped false here w r = r
 
--- what a script at a node runs; a further pass of a node has no rule yet
-abbrev pub going : Place → (Entry → World → Result) → (ℕ → Mode → World → Result) → Target → World → Result
-going here lower kid (Kid i m) w = kid i m w
-going here lower kid Again w = Over (Outside here NoRule) w
-going here lower kid (Body b) w = lower (BodyStart b) w
+-- what a script at a node runs
+abbrev pub going : (Entry → World → Result) → (ℕ → Mode → World → Result) → (Mode → World → Result) → Target → World → Result
+going lower kid again (Kid i m) w = kid i m w
+going lower kid again (Again m) w = again m w
+going lower kid again (There b m) w = lower (DeclarationStart b m) w
+going lower kid again (File path) w = lower (FileStart path) w
+
+-- A node's passes, at most so many: each takes a turn, so no more of them than turns are left can come.
+abbrev pub passes : ((Mode → World → Result) → Mode → World → Result) → ℕ → Mode → World → Result
+passes pass zero m w = Over Going w
+passes pass (suc n) m w = pass (passes pass n) m w
+
+-- A node is played: `kid` evaluates its children.
+abbrev pub at_node : Bool → Tables → (Entry → World → Result) → Site → NodeKind → Forest → ℕ → (ℕ → Mode → World → Result) → Mode → World → Result
+at_node is_new t lower s k c id kid m w =
+    passes (λ again n u. play is_new (place_in s id) (going lower kid again) (rule t s k n (form c)) u) (suc (suc w.turns)) m w
 
 -- The child node with an index among these parts, whose first node has the number `id`, is evaluated.
-abbrev pub step : Bool → List Mark → (Entry → World → Result) → Site → Forest → ℕ → ℕ → Mode → World → Result
-step is_new marks lower s none id i m w = Over (Outside (place_of_file s.file) NoRule) w
-step is_new marks lower s (leaf t f) id i m w = step is_new marks lower s f id i m w
-step is_new marks lower s (node k c f) id zero m w =
+abbrev pub step : Bool → Tables → List Mark → (Entry → World → Result) → Site → Forest → ℕ → ℕ → Mode → World → Result
+step is_new t marks lower s none id i m w = Over (Outside (place_of_file s.file) NoRule) w
+step is_new t marks lower s (leaf u f) id i m w = step is_new t marks lower s f id i m w
+step is_new t marks lower s (node k c f) id zero m w =
     starting (is_statement k) w (λ u. unless_stopped (is_stopped marks s.file id) (place_in s id) u
-    (left s id (play is_new (place_in s id) (going (place_in s id) lower (step is_new marks lower s c (suc id)))
-    (rule k m (own_texts c) (children c)) (told s id Before None u))))
-step is_new marks lower s (node k c f) id (suc i) m w = step is_new marks lower s f (suc (id + count c)) i m w
+    (left s id (at_node is_new t lower s k c id (step is_new t marks lower (within k c s) c (suc id)) m (told s id Before None u))))
+step is_new t marks lower s (node k c f) id (suc i) m w = step is_new t marks lower (beside k c s) f (suc (id + count c)) i m w
 
--- ---- files and bodies
+-- ---- files and declarations
 
 -- the statements of a file, one after another
-abbrev pub run_file : Bool → List Mark → (Entry → World → Result) → Bytes → Option Forest → World → Result
-run_file is_new marks lower path None w = Over (Outside (place_of_file path) NoRule) w
-run_file is_new marks lower path (Some f) w =
+abbrev pub run_file : Bool → Tables → List Mark → (Entry → World → Result) → Bytes → Option Forest → World → Result
+run_file is_new t marks lower path None w = Over (Outside (place_of_file path) NoRule) w
+run_file is_new t marks lower path (Some f) w =
     play is_new (place_of_file path)
-    (going (place_of_file path) lower (step is_new marks lower (record { file = path; body = None }) f 0)) (run_all 0 (children f)) w
+    (going lower (step is_new t marks lower (file_site path) f 0) (λ m u. Over (Outside (place_of_file path) NoRule) u))
+    (file_script t path (kids (form f))) w
+
+-- The declaration with a number is played, in a mode: in parts that begin at a site and with the node `id`.
+abbrev pub declared_in : Bool → Tables → List Mark → (Entry → World → Result) → Site → Forest → ℕ → ℕ → Mode → (World → Result) → World → Result
+declared_in is_new t marks lower s none id n m missing w = missing w
+declared_in is_new t marks lower s (leaf u f) id n m missing w = declared_in is_new t marks lower s f id n m missing w
+declared_in is_new t marks lower s (node k c f) id n m missing w =
+    elim (is_declaration k && nat_eq s.number n) [
+      | true ↦ at_node is_new t lower s k c id (step is_new t marks lower (within k c s) c (suc id)) m w
+      | false ↦
+          declared_in is_new t marks lower (within k c s) c (suc id) n m
+          (λ u. declared_in is_new t marks lower (beside k c s) f (suc (id + count c)) n m missing u) w
+    ]
+
+abbrev pub run_declared : Bool → Tables → List Mark → (Entry → World → Result) → Declared → Mode → Option Forest → World → Result
+run_declared is_new t marks lower b m None w = Over (Outside (place_of_file b.file) NoRule) w
+run_declared is_new t marks lower b m (Some f) w =
+    declared_in is_new t marks lower (file_site b.file) f 0 b.number m (λ u. Over (Outside (place_of_file b.file) NoRule) u) w
 
 abbrev pub unless_refused : Bool → Bytes → World → Result → Result
 unless_refused true path w r = Over (Outside (place_of_file path) CompileMark) w
@@ -173,21 +190,26 @@ unless_refused false path w r = r
 abbrev pub begun : Bytes → World → World
 begun path w = record w { store = record w.store { started = path ∷ w.store.started } }
 
-abbrev pub start : Bool → Program → List Mark → (Entry → World → Result) → Entry → World → Result
-start is_new p marks lower (FileStart path) w =
-    unless_refused (is_refused marks path) path w (run_file is_new marks lower path (file_at p.files path) (begun path w))
-start is_new p marks lower (BodyStart b) w = Over (Outside (place_of_file b.file) NoRule) w
+abbrev pub start : Bool → Tables → Program → List Mark → (Entry → World → Result) → Entry → World → Result
+start is_new t p marks lower (FileStart path) w =
+    unless_refused (is_refused marks path) path w (run_file is_new t marks lower path (file_at p.files path) (begun path w))
+start is_new t p marks lower (DeclarationStart b m) w = run_declared is_new t marks lower b m (file_at p.files b.file) w
 
--- with at most so many files and bodies in one another
-abbrev pub enter : Bool → Program → List Mark → ℕ → Entry → World → Result
-enter is_new p marks zero e w = Over Going w
-enter is_new p marks (suc n) e w = start is_new p marks (enter is_new p marks n) e w
+-- with at most so many files and declarations in one another
+abbrev pub enter : Bool → Tables → Program → List Mark → ℕ → Entry → World → Result
+enter is_new t p marks zero e w = Over Going w
+enter is_new t p marks (suc n) e w = start is_new t p marks (enter is_new t p marks n) e w
 
 -- ---- whole runs
 
 -- the cells of the file-level variables that are there from the start
+abbrev pub slot_numbered : ℕ → Slot
+slot_numbered zero = FileVariable (codes "_GET")
+slot_numbered (suc zero) = FileVariable (codes "_POST")
+slot_numbered n = FileVariable (codes "argv")
+
 abbrev pub cell_numbered : ℕ → Cell
-cell_numbered n = record { number = n; slot = n }
+cell_numbered n = record { number = n; slot = slot_numbered n }
 
 abbrev pub first_values : Input → Cell → Value
 first_values input c =
@@ -201,17 +223,21 @@ first_frame = record {
   variables = (codes "_GET", cell_numbered 0) ∷ (codes "_POST", cell_numbered 1) ∷ (codes "argv", cell_numbered 2) ∷ [];
   this = None;
   class = None;
+  arguments = entries.none;
+  item = None;
 }
 
 abbrev pub first_store : Input → Store
 first_store input = record {
   held = first_values input;
   made = 3;
+  serials = 0;
   here = first_frame;
   waiting = [];
   statics = [];
   objects = [];
   constants = [];
+  any_case = [];
   declared = [];
   started = [];
 }
@@ -228,7 +254,8 @@ class_of (o ∷ os) (suc n) = class_of os n
 -- what a file's end is to the run: a value and a return end the file, an exception goes on
 abbrev pub end_of_file : Bytes → Out → World → End
 end_of_file path (Val v) w = Ended (pos 0)
-end_of_file path (At c) w = Ended (pos 0)
+end_of_file path (Fresh v) w = Ended (pos 0)
+end_of_file path (At l) w = Ended (pos 0)
 end_of_file path (Jump (Return v)) w = Ended (pos 0)
 end_of_file path (Jump (Throw o)) w = Threw (class_of w.store.objects o)
 end_of_file path (Jump (Break n)) w = Outside (place_of_file path) NoRule
@@ -245,7 +272,8 @@ answer path (Over e w) = answer_of e w
 -- past a file.
 abbrev pub and_start : Bytes → (World → Result) → Out → World → Result
 and_start path next (Val v) w = next w
-and_start path next (At c) w = next w
+and_start path next (Fresh v) w = next w
+and_start path next (At l) w = next w
 and_start path next (Jump (Return v)) w = next w
 and_start path next (Jump (Throw o)) w = Done (Jump (Throw o)) w
 and_start path next (Jump (Break n)) w = Over (Outside (place_of_file path) NoRule) w
@@ -256,10 +284,15 @@ abbrev pub start_all : (Bytes → World → Result) → Option Bytes → Bytes �
 start_all run None entry w = run entry w
 start_all run (Some path) entry w = then_do (run path w) (and_start path (run entry))
 
--- The run of a program from an entry, with marks, on an input, bounded by a number of turns. A file or a body is
--- entered by a statement, and so by a turn; the first file takes none.
+-- The run of a program from an entry, with marks, on an input, bounded by a number of turns. A file is entered by a
+-- statement, and a body takes a turn itself; the first file takes none. The value that a declaration writes down takes no
+-- turn, but each such declaration is found in no more than one other.
+abbrev pub run_with : Bool → Tables → Program → List Mark → Bytes → Input → ℕ → Answer
+run_with is_new t p marks entry input n =
+    answer entry (start_all (λ path. enter is_new t p marks (suc (suc (n + length t))) (FileStart path)) p.prepend entry (first_world input n))
+
 abbrev pub run_of : Bool → Program → List Mark → Bytes → Input → ℕ → Answer
-run_of is_new p marks entry input n = answer entry (start_all (λ path. enter is_new p marks (suc (suc n)) (FileStart path)) p.prepend entry (first_world input n))
+run_of is_new p marks entry input n = run_with is_new (tables_of p.files) p marks entry input n
 
 abbrev pub is_newer : Version → Bool
 is_newer V74 = false

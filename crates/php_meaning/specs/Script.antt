@@ -1,10 +1,11 @@
 -- What a node does, as steps over the store and over its children. The steps are the same in both versions, but
 -- where they ask.
-use Rattle.std.specs.Prelude.{ℕ, ℤ, Bool, cond, length}
-use Rattle.php_meaning.specs.Value.{Value, Cell}
-use Rattle.php_meaning.specs.Cause.{Cause, Outcome, Gives, Outside, ExceptionClass, exception_name, Came, Returns, Throws}
+use Rattle.std.specs.Prelude.{ℕ, ℤ, Bool, cond, List, length, Option}
+use Rattle.php_meaning.specs.Slot.{Declared}
+use Rattle.php_meaning.specs.Value.{Value, Cell, Entries}
+use Rattle.php_meaning.specs.Cause.{Cause, NoRule, Outcome, Gives, Outside, ExceptionClass, exception_name, Came, Returns, Throws}
 use Rattle.php_meaning.specs.Differences.{Difference, ByVersion, Alike, Differs}
-use Rattle.php_meaning.specs.World.{Bytes, Declared, Store, with_object}
+use Rattle.php_meaning.specs.World.{Bytes, Store, with_object}
 
 -- a way to leave a node without a value
 pub data Way : Type 0 where
@@ -15,26 +16,56 @@ pub data Way : Type 0 where
   Break : ℕ → Way
   Continue : ℕ → Way
 
--- what a node comes to
+-- where a location begins: in the variable with this name, in a cell, or in the property with this name of a value
+pub data Root : Type 0 where
+  InVariable : Bytes → Root
+  InCell : Cell → Root
+  InProperty : Value → Bytes → Root
+
+-- What can be written: where it begins, and the offsets from there on, each at a value or without a key.
+pub record Location : Type 0 where
+  pub root : Root
+  pub offsets : List (Option Value)
+
+-- what a node comes to: a value, a new array that nothing holds yet, a location, or a way to leave
 pub data Out : Type 0 where
   Val : Value → Out
-  At : Cell → Out
+  Fresh : Value → Out
+  At : Location → Out
   Jump : Way → Out
 
--- How a child is evaluated: for its value; for its value where nothing is said of what isn't there; as a cell to
--- write; to be unset; or as a name.
+-- How a node is evaluated.
 pub data Mode : Type 0 where
+  -- for its value; for its value where nothing is said of what isn't there; as a location; to be unset; or as a name
   Read : Mode
   Quiet : Mode
   Write : Mode
   Unset : Mode
   Name : Mode
+  -- a loop's next pass; of `foreach` over a copy with the entries that are left, or by reference over the array in a
+  -- cell behind the entry with this serial number
+  Later : Mode
+  Left : Entries → Mode
+  Behind : Cell → Option ℕ → Mode
+  -- a case, against a switch's value: whether it is chosen
+  Against : Value → Mode
+  -- an item of an array literal, into the array so far
+  Into : Value → Mode
+  -- arguments, each by reference or not
+  Given : List Bool → Mode
+  -- arguments of a builtin function, their values as they are
+  Handed : Mode
+  -- a function or method, as a body that was called
+  Entered : Mode
+  -- a declaration's item with this index: its value
+  Item : ℕ → Mode
 
--- what a node runs: a child by its index, the next pass of itself, or a body
+-- what a node runs: a child by its index, a further pass of itself, a declaration elsewhere, or a file
 pub data Target : Type 0 where
   Kid : ℕ → Mode → Target
-  Again : Target
-  Body : Declared → Target
+  Again : Mode → Target
+  There : Declared → Mode → Target
+  File : Bytes → Target
 
 pub data Script : Type 0 where
   -- the node comes to this
@@ -65,12 +96,24 @@ give v = Give (Val v)
 -- goes on with a value, and leaves by any way
 abbrev pub value_then : (Value → Script) → Out → Script
 value_then k (Val v) = k v
-value_then k (At c) = Look (λ s. k (s.held c))
+value_then k (Fresh v) = k v
+value_then k (At l) = Stop NoRule
 value_then k (Jump w) = Give (Jump w)
+
+-- goes on with a location, and leaves by any way
+abbrev pub location_then : (Location → Script) → Out → Script
+location_then k (Val v) = Stop NoRule
+location_then k (Fresh v) = Stop NoRule
+location_then k (At l) = k l
+location_then k (Jump w) = Give (Jump w)
 
 -- the value of a child, and what then comes
 abbrev pub child_value : ℕ → (Value → Script) → Script
 child_value i k = Run (Kid i Read) (value_then k)
+
+-- a child as location, and what then comes
+abbrev pub child_location : ℕ → (Location → Script) → Script
+child_location i k = Run (Kid i Write) (location_then k)
 
 -- goes on with what an operation gives
 abbrev pub given : {A : Type 0} → Outcome A → (A → Script) → Script
@@ -86,7 +129,11 @@ asking (Differs point old new) k = Ask point (λ is_new. cond is_new (k new) (k 
 abbrev pub throws : ExceptionClass → Script
 throws c = Look (λ s. Put (with_object (exception_name c) s) (Give (Jump (Throw (length s.objects)))))
 
+-- goes on with what an operation came to
+abbrev pub came_then : (Value → Script) → Came → Script
+came_then k (Returns v) = k v
+came_then k (Throws c) = throws c
+
 -- the node comes to what an operation came to
 abbrev pub comes : Came → Script
-comes (Returns v) = give v
-comes (Throws c) = throws c
+comes r = came_then give r

@@ -13,7 +13,7 @@ use Rattle.php_parser.specs.Files.{ReadsFile, Answers as FileAnswers}
 use Rattle.php_reading.specs.declared.fault.ReadFault.{ReadFault}
 use Rattle.php_reading.specs.declared.fault.ReadFault.TheVariants.{OpenText, OpenComment, OpenHeredoc, BadByte, TooLong, NotInGrammar, Memory}
 use Rattle.php_reading.specs.Faults.{of_lexing}
-use Rattle.php_reading.specs.Reading.{Reads, HasNoTree, IsFault, Answers, Refuses}
+use Rattle.php_reading.specs.Reading.{Reads, HasNoTree, IsFault, InPlaceOf, InPlaceOfFault}
 use Rattle.php_reading.proofs.Trees.{parsed_of}
 
 -- a fault of tokens is one of reading
@@ -42,7 +42,7 @@ pub no_tree : (v : Version) (bytes : List ℕ) (f : File) → Reads v bytes f �
 no_tree v bytes f p q = q.none f (parsed_of v bytes p.tokens q.tokens f p.lexed q.lexed p.parsed)
 
 -- bytes that are read as a tree have no fault but their number
-pub answers_of : (v : Version) (bytes : List ℕ) (f : File) (e : ReadFault) → IsFault v bytes e → Reads v bytes f → Answers (Err e) f
+pub answers_of : (v : Version) (bytes : List ℕ) (f : File) (e : ReadFault) → IsFault v bytes e → Reads v bytes f → InPlaceOf e f
 answers_of v bytes f (OpenText at) q p = no_tree_stopped v bytes f (lex.OpenText at) p q
 answers_of v bytes f (OpenComment at) q p = no_tree_stopped v bytes f (lex.OpenComment at) p q
 answers_of v bytes f (OpenHeredoc at) q p = no_tree_stopped v bytes f (lex.OpenHeredoc at) p q
@@ -92,7 +92,7 @@ one_cause v bytes e g (tree p) (stops y q) = absurd (not_both v bytes p.tokens y
 one_cause v bytes e g (tree p) (long q) = absurd (apart p.within q)
 one_cause v bytes e g (tree p) (tree q) = refl
 
-refuses_of : (e fault : ReadFault) → (e ≢ Memory → e ≡ fault) → Refuses (Err e) fault
+refuses_of : (e fault : ReadFault) → (e ≢ Memory → e ≡ fault) → InPlaceOfFault e fault
 refuses_of (OpenText at) fault p = p (λ h. absurd cc)
 refuses_of (OpenComment at) fault p = p (λ h. absurd cc)
 refuses_of (OpenHeredoc at) fault p = p (λ h. absurd cc)
@@ -102,5 +102,5 @@ refuses_of NotInGrammar fault p = p (λ h. absurd cc)
 refuses_of Memory fault p = tt
 
 -- faults that aren't want of memory are the same
-pub one_fault : (v : Version) (bytes : List ℕ) (e : ReadFault) → IsFault v bytes e → (fault : ReadFault) → fault ≢ Memory → IsFault v bytes fault → Refuses (Err e) fault
+pub one_fault : (v : Version) (bytes : List ℕ) (e : ReadFault) → IsFault v bytes e → (fault : ReadFault) → fault ≢ Memory → IsFault v bytes fault → InPlaceOfFault e fault
 one_fault v bytes e p fault m q = refuses_of e fault (λ h. one_cause v bytes e fault (cause_of v bytes e h p) (cause_of v bytes fault m q))

@@ -5,6 +5,8 @@ use Rattle.php_tree.specs.declared.token.Token.{Token}
 use Rattle.php_tree.specs.declared.version.Version.{Version}
 use Rattle.php_tree.specs.Tree.{File}
 use Rattle.php_tree.specs.Whole.{file}
+use Rattle.php_rows.specs.declared.file.RowTree.{RowTree}
+use Rattle.php_rows.specs.File.{file_in}
 use Rattle.php_lexer.specs.declared.fault.LexFault.TheVariants as lex
 use Rattle.php_lexer.specs.Lexed.{TokensOf, StopsAt, byte_limit}
 use Rattle.php_parser.specs.Files.{ReadsFile}
@@ -34,19 +36,37 @@ IsFault v bytes TooLong = byte_limit < length bytes
 IsFault v bytes NotInGrammar = HasNoTree v bytes
 IsFault v bytes Memory = length bytes ≤ byte_limit
 
+-- a fault in place of this tree: there are too many bytes, or memory ran out
+abbrev pub InPlaceOf : ReadFault → File → Type 0
+InPlaceOf (OpenText at) f = ⊥
+InPlaceOf (OpenComment at) f = ⊥
+InPlaceOf (OpenHeredoc at) f = ⊥
+InPlaceOf (BadByte at) f = ⊥
+InPlaceOf TooLong f = Unit {0}
+InPlaceOf NotInGrammar f = ⊥
+InPlaceOf Memory f = Unit {0}
+
 -- The answer is this tree, unless there are too many bytes or memory ran out.
 abbrev pub Answers : Result FileTree ReadFault → File → Type 0
 Answers (Ok tree) f = file tree ≡ f
-Answers (Err (OpenText at)) f = ⊥
-Answers (Err (OpenComment at)) f = ⊥
-Answers (Err (OpenHeredoc at)) f = ⊥
-Answers (Err (BadByte at)) f = ⊥
-Answers (Err TooLong) f = Unit {0}
-Answers (Err NotInGrammar) f = ⊥
-Answers (Err Memory) f = Unit {0}
+Answers (Err e) f = InPlaceOf e f
+
+-- the same of a row
+abbrev pub AnswersRow : Result RowTree ReadFault → File → Type 0
+AnswersRow (Ok tree) f = file_in tree ≡ f
+AnswersRow (Err e) f = InPlaceOf e f
+
+-- a fault in place of this one: memory ran out
+abbrev pub InPlaceOfFault : ReadFault → ReadFault → Type 0
+InPlaceOfFault Memory fault = Unit {0}
+InPlaceOfFault e fault = e ≡ fault
 
 -- The answer is this fault, unless memory ran out.
 abbrev pub Refuses : Result FileTree ReadFault → ReadFault → Type 0
 Refuses (Ok tree) fault = ⊥
-Refuses (Err Memory) fault = Unit {0}
-Refuses (Err e) fault = e ≡ fault
+Refuses (Err e) fault = InPlaceOfFault e fault
+
+-- the same of a row
+abbrev pub RefusesRow : Result RowTree ReadFault → ReadFault → Type 0
+RefusesRow (Ok tree) fault = ⊥
+RefusesRow (Err e) fault = InPlaceOfFault e fault

@@ -4,10 +4,9 @@
 mod fault;
 mod laws;
 mod reader;
+mod rows;
 
 pub use fault::ReadFault;
 pub use laws::{a_tree_is_printed_as_its_bytes, bytes_have_one_tree};
 pub use reader::read;
-
-#[cfg(test)]
-mod tests;
+pub use rows::read_rows;

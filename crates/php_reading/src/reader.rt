@@ -12,7 +12,7 @@ use php_tree::{FileTree, Version};
 use std::alloc::Global;
 
 // The fault of tokens, as one of reading.
-fn of_lexing(fault: LexFault) -> ReadFault
+pub fn of_lexing(fault: LexFault) -> ReadFault
     ensures { result ≡ of_lexing fault }
 {
     match fault {

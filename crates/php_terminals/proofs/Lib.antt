@@ -1,2 +1,4 @@
 pub mod IndentLemmas
 pub mod WordLemmas
+pub mod NextTokens
+pub mod SlotLemmas

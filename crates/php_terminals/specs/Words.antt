@@ -1,5 +1,5 @@
 -- Words told by their texts.
-use Rattle.std.specs.Prelude.{ℕ, Bool, true, false, cond, ◌&&◌, nat_eq, nat_lt, List, [], ◌∷◌, length, take, map, codes}
+use Rattle.std.specs.Prelude.{ℕ, ◌+◌, ◌*◌, ◌%◌, Bool, true, false, cond, ◌&&◌, nat_eq, nat_lt, List, [], ◌∷◌, length, get_or, take, map, codes}
 use Rattle.std.specs.Char.{to_ascii_lowercase}
 use Rattle.std.specs.Borrow.{Bor}
 use Rattle.php_terminals.specs.declared.terminal.Terminal.{Terminal}
@@ -24,6 +24,31 @@ rows_of rows = map (λ r. (r.0.now, r.1)) rows
 abbrev pub find_row : Terminal → List (List ℕ × Terminal) → List ℕ → Terminal
 find_row other [] text = other
 find_row other (r ∷ rs) text = cond (is_word r.0 text) r.1 (find_row other rs text)
+
+-- ---- where a word stands in a table: its slot is a number that its length, its first two bytes and its last one give
+
+-- the second byte in lower case, by the bytes behind the first one
+abbrev pub second_of : List ℕ → ℕ
+second_of [] = 0
+second_of (b ∷ bs) = to_ascii_lowercase b
+
+-- the last byte in lower case, by the first one and those behind it
+abbrev pub last_of : ℕ → List ℕ → ℕ
+last_of a [] = to_ascii_lowercase a
+last_of a (b ∷ bs) = last_of b bs
+
+-- the slot of a text
+abbrev pub slot : List ℕ → ℕ
+slot [] = 0
+slot (a ∷ bs) = (25 * (length (a ∷ bs) % 256) + (3 * to_ascii_lowercase a + 8 * second_of bs) + 15 * last_of a bs) % 512
+
+-- the row at a place of a table
+abbrev pub row_at : List (List ℕ × Terminal) → ℕ → List ℕ × Terminal
+row_at rows place = get_or rows place ([], t.End)
+
+-- the class of the row at a place, if its word is the text, or another one
+abbrev pub row_class : Terminal → List (List ℕ × Terminal) → ℕ → List ℕ → Terminal
+row_class other rows place text = cond (is_word (row_at rows place).0 text) (row_at rows place).1 other
 
 -- the keywords of PHP 7.4 that forms have (PHP manual, "List of Keywords")
 unfoldable pub keywords : List (List ℕ × Terminal)

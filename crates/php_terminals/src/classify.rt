@@ -1,31 +1,31 @@
 // The class of a token.
 ghost use Rattle.std.specs.Prelude.{◌≡◌, ◌↔◌, IsTrue, true};
-ghost use Rattle.php_terminals.specs.Classify.{cast, cast_at, cast_letter, ends_in, is_any_label, is_attribute, is_called_label, is_class, is_constant_label, is_full, is_modifier, is_opening, is_plain_label, is_qualified, is_relative, is_sign_or_tight, is_word_token, last, name, names_refused, opening, terminal};
+ghost use Rattle.php_terminals.specs.Classify.{cast, cast_at, cast_letter, ends_in, is_any_label, is_attribute, is_attribute_by, is_called_label, is_class, is_constant_label, is_full, is_modifier, is_opening, is_plain_label, is_qualified, is_relative, is_sign_or_tight, is_word_kind, is_word_token, last, name, names_refused, opening, terminal, terminal_by};
 
 use crate::terminal::Terminal;
 use crate::words::{front, is_word, keyword, label, operator};
 use php_tree::{Token, TokenKind};
 
-/// The class of a token. A `?>` is a `;`, and a `<?=` an `echo`.
-pub fn terminal(token: &Token) -> Terminal
-    ensures { result ≡ terminal token.now }
+/// The class of a token of a kind with a text. A `?>` is a `;`, and a `<?=` an `echo`.
+pub fn class_of(kind: TokenKind, text: &[u8]) -> Terminal
+    ensures { result ≡ terminal_by kind text.now }
 {
-    match token.kind {
+    match kind {
         TokenKind::InlineHtml => Terminal::InlineHtml,
         TokenKind::OpenEcho => Terminal::Echo,
         TokenKind::Variable => Terminal::Variable,
-        TokenKind::Label => label(token.text.as_slice()),
-        TokenKind::Keyword => keyword(token.text.as_slice()),
+        TokenKind::Label => label(text),
+        TokenKind::Keyword => keyword(text),
         TokenKind::Int => Terminal::Int,
         TokenKind::Float => Terminal::Float,
         TokenKind::Text => Terminal::Text,
         TokenKind::Quote => Terminal::QuoteOpen,
         TokenKind::HeredocStart => Terminal::QuoteOpen,
         TokenKind::Backtick => Terminal::QuoteOpen,
-        TokenKind::Cast => cast(token.text.as_slice()),
-        TokenKind::Op => operator(token.text.as_slice()),
+        TokenKind::Cast => cast(text),
+        TokenKind::Op => operator(text),
         TokenKind::AttributeOpen => Terminal::AttributeOpen,
-        TokenKind::Name => name(token.text.as_slice()),
+        TokenKind::Name => name(text),
         TokenKind::Semi => Terminal::Semi,
         TokenKind::Close => Terminal::Semi,
         TokenKind::End => Terminal::End,
@@ -35,6 +35,13 @@ pub fn terminal(token: &Token) -> Terminal
         TokenKind::VarName => Terminal::VarName,
         TokenKind::QuotedEnd => Terminal::QuotedEnd,
     }
+}
+
+/// The class of a token.
+pub fn terminal(token: &Token) -> Terminal
+    ensures { result ≡ terminal token.now }
+{
+    class_of(token.kind, token.text.as_slice())
 }
 
 // A byte before the type word of a cast.
@@ -114,34 +121,30 @@ pub fn names_refused(text: &[u8]) -> bool
     ends_in(b"\\mixed", text) || ends_in(b"\\never", text)
 }
 
+/// Whether a token of a kind with a text is the name of the attribute that a class may have.
+pub fn is_attribute_by(kind: TokenKind, text: &[u8]) -> bool
+    ensures { result ≡ is_attribute_by kind text.now }
+{
+    match kind {
+        TokenKind::Name => is_word(b"\\allowdynamicproperties", text),
+        _ => false,
+    }
+}
+
 /// Whether the token is the name of the attribute that a class may have.
 pub fn is_attribute(token: &Token) -> bool
     ensures { result ≡ is_attribute token.now }
 {
-    match token.kind {
-        TokenKind::Name => is_word(b"\\allowdynamicproperties", token.text.as_slice()),
-        TokenKind::InlineHtml
-        | TokenKind::OpenEcho
-        | TokenKind::Variable
-        | TokenKind::Label
-        | TokenKind::Keyword
-        | TokenKind::Int
-        | TokenKind::Float
-        | TokenKind::Text
-        | TokenKind::Quote
-        | TokenKind::HeredocStart
-        | TokenKind::Backtick
-        | TokenKind::Cast
-        | TokenKind::Op
-        | TokenKind::AttributeOpen
-        | TokenKind::Semi
-        | TokenKind::Close
-        | TokenKind::End
-        | TokenKind::Piece
-        | TokenKind::CurlyOpen
-        | TokenKind::DollarBrace
-        | TokenKind::VarName
-        | TokenKind::QuotedEnd => false,
+    is_attribute_by(token.kind, token.text.as_slice())
+}
+
+/// Whether a kind is that of labels or of keywords.
+pub fn is_word_kind(kind: TokenKind) -> bool
+    ensures { result ≡ is_word_kind kind }
+{
+    match kind {
+        TokenKind::Label | TokenKind::Keyword => true,
+        _ => false,
     }
 }
 
@@ -149,30 +152,7 @@ pub fn is_attribute(token: &Token) -> bool
 pub fn is_word_token(token: &Token) -> bool
     ensures { result ≡ is_word_token token.now }
 {
-    match token.kind {
-        TokenKind::Label | TokenKind::Keyword => true,
-        TokenKind::InlineHtml
-        | TokenKind::OpenEcho
-        | TokenKind::Variable
-        | TokenKind::Int
-        | TokenKind::Float
-        | TokenKind::Text
-        | TokenKind::Quote
-        | TokenKind::HeredocStart
-        | TokenKind::Backtick
-        | TokenKind::Cast
-        | TokenKind::Op
-        | TokenKind::AttributeOpen
-        | TokenKind::Name
-        | TokenKind::Semi
-        | TokenKind::Close
-        | TokenKind::End
-        | TokenKind::Piece
-        | TokenKind::CurlyOpen
-        | TokenKind::DollarBrace
-        | TokenKind::VarName
-        | TokenKind::QuotedEnd => false,
-    }
+    is_word_kind(token.kind)
 }
 
 // Any label.

@@ -1,7 +1,7 @@
 // The indentation of heredocs and nowdocs.
 ghost use Rattle.std.specs.Prelude.{◌≡◌, [], drop, true};
 ghost use Rattle.php_tree.specs.Tree.{forest_of, tree};
-ghost use Rattle.php_terminals.specs.Indents.{blank_len, ends_line, fresh_behind, heredoc_fits, is_blank_byte, is_blank_line, is_heredoc, is_indented, is_line_end, is_misindented, is_nowdoc, is_uniform, last_line, last_text, leaf_fits, line_ends_at, line_fits, literal_fits, margin, node_fits, parts_fit, quoted_fits, run_len, starts, text_fits};
+ghost use Rattle.php_terminals.specs.Indents.{blank_len, ends_line, fresh_behind, fresh_by, heredoc_fits, is_blank_byte, is_blank_line, is_heredoc, is_indented, is_line_end, is_misindented, is_nowdoc, is_uniform, last_line, last_text, leaf_fits, leaf_fits_by, line_ends_at, line_fits, literal_fits, margin, node_fits, parts_fit, quoted_fits, run_len, starts, text_fits};
 
 use crate::classify::terminal;
 use crate::terminal::Terminal;
@@ -73,8 +73,8 @@ fn line_fits(indent: &[u8], text: &[u8]) -> bool
     starts(indent, text) || is_blank_line(text)
 }
 
-// Whether each line that begins in the bytes fits; `fresh` where one begins at their front.
-fn is_indented(indent: &[u8], fresh: bool, text: &[u8]) -> bool
+/// Whether each line that begins in the bytes fits; `fresh` where one begins at their front.
+pub fn is_indented(indent: &[u8], fresh: bool, text: &[u8]) -> bool
     ensures { result ≡ is_indented indent.now fresh text.now }
 {
     let mut begins = fresh;
@@ -87,8 +87,8 @@ fn is_indented(indent: &[u8], fresh: bool, text: &[u8]) -> bool
     true
 }
 
-// Whether a line begins behind the bytes.
-fn ends_line(fresh: bool, text: &[u8]) -> bool
+/// Whether a line begins behind the bytes.
+pub fn ends_line(fresh: bool, text: &[u8]) -> bool
     ensures { result ≡ ends_line fresh text.now }
 {
     if text.is_empty() {
@@ -98,15 +98,15 @@ fn ends_line(fresh: bool, text: &[u8]) -> bool
     }
 }
 
-// The blanks that the bytes begin with.
-fn margin(text: &[u8]) -> &[u8]
+/// The blanks that the bytes begin with.
+pub fn margin(text: &[u8]) -> &[u8]
     ensures { result.now ≡ margin text.now }
 {
     front(text, blank_len(text))
 }
 
-// Whether the blanks are all spaces, or all tabs.
-fn is_uniform(indent: &[u8]) -> bool
+/// Whether the blanks are all spaces, or all tabs.
+pub fn is_uniform(indent: &[u8]) -> bool
     ensures { result ≡ is_uniform indent.now }
 {
     run_len(b' ', indent) == indent.len() || run_len(b'\t', indent) == indent.len()
@@ -139,8 +139,8 @@ fn is_nowdoc(text: &[u8]) -> bool
     is_word(b"<<<", front(text, 3)) || is_word(b"b<<<", front(text, 4))
 }
 
-// Whether a text is no nowdoc, or one whose lines fit.
-fn text_fits(text: &[u8]) -> bool
+/// Whether a text is no nowdoc, or one whose lines fit.
+pub fn text_fits(text: &[u8]) -> bool
     ensures { result ≡ text_fits text.now }
 {
     if !is_nowdoc(text) {
@@ -150,23 +150,40 @@ fn text_fits(text: &[u8]) -> bool
     is_uniform(indent) && is_indented(indent, false, text)
 }
 
-// Whether a token between the opening and the closing of a heredoc fits.
-#[tactic(auto, unfolding(crate::specs::Indents::leaf_fits))]
-fn leaf_fits(indent: &[u8], fresh: bool, token: &Token) -> bool
-    ensures { result ≡ leaf_fits indent.now fresh token.now }
+/// Whether a token of a class between the opening and the closing of a heredoc fits.
+pub fn leaf_fits_by(class: Terminal, indent: &[u8], fresh: bool, text: &[u8]) -> bool
+    ensures { result ≡ leaf_fits_by class indent.now fresh text.now }
 {
-    match terminal(token) {
-        Terminal::Piece => is_indented(indent, fresh, token.text.as_slice()),
+    match class {
+        Terminal::Piece => is_indented(indent, fresh, text),
         Terminal::QuotedEnd => true,
         _ => node_fits(indent, fresh),
     }
 }
 
-// Whether a part that is no text may stand here: where no line begins, or none is indented.
-fn node_fits(indent: &[u8], fresh: bool) -> bool
+// Whether a token between the opening and the closing of a heredoc fits.
+#[tactic(auto, unfolding(crate::specs::Indents::leaf_fits))]
+fn leaf_fits(indent: &[u8], fresh: bool, token: &Token) -> bool
+    ensures { result ≡ leaf_fits indent.now fresh token.now }
+{
+    leaf_fits_by(terminal(token), indent, fresh, token.text.as_slice())
+}
+
+/// Whether a part that is no text may stand here: where no line begins, or none is indented.
+pub fn node_fits(indent: &[u8], fresh: bool) -> bool
     ensures { result ≡ node_fits indent.now fresh }
 {
     !fresh || indent.is_empty()
+}
+
+/// Whether a line begins behind a token of a class.
+pub fn fresh_by(class: Terminal, fresh: bool, text: &[u8]) -> bool
+    ensures { result ≡ fresh_by class fresh text.now }
+{
+    match class {
+        Terminal::Piece => ends_line(fresh, text),
+        _ => false,
+    }
 }
 
 // Whether a line begins behind a token.
@@ -174,10 +191,7 @@ fn node_fits(indent: &[u8], fresh: bool) -> bool
 fn fresh_behind(fresh: bool, token: &Token) -> bool
     ensures { result ≡ fresh_behind fresh token.now }
 {
-    match terminal(token) {
-        Terminal::Piece => ends_line(fresh, token.text.as_slice()),
-        _ => false,
-    }
+    fresh_by(terminal(token), fresh, token.text.as_slice())
 }
 
 // The text of the last token among the parts.

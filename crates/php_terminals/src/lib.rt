@@ -5,6 +5,11 @@
 pub mod ahead;
 pub mod classify;
 pub mod indents;
+mod lookahead;
+mod looks;
+pub mod mark;
+pub mod marked;
 pub mod marks;
 pub mod terminal;
+pub mod tokens;
 pub mod words;

@@ -1,1 +1,3 @@
-pub mod Single
+pub mod Formed
+pub mod DirectNames
+pub mod Kept

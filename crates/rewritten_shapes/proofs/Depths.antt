@@ -8,7 +8,7 @@ use Rattle.php_tree.specs.declared.kind.NodeKind.{NodeKind}
 use Rattle.php_tree.specs.declared.kind.NodeKind.TheVariants as kind
 use Rattle.php_tree.specs.Tree.{Forest, none, leaf, node, Tree, depth}
 use Rattle.php_tree.specs.Places.{placed, end_of, behind}
-use Rattle.tree_patches.specs.Patches.{Wrapping, InParens}
+use Rattle.tracked_changes.specs.patches.Patches.{Wrapping, InParens}
 use Rattle.tracked_changes.specs.Pieces.{before}
 use Rattle.tracked_changes.specs.Draft.{NewToken, Draft, no_more, new_leaf, new_node, ◌then◌, rewritten}
 use Rattle.tracked_changes.specs.Leads.{holds_none, without_lead}

@@ -1,3 +1,4 @@
+pub mod paired
 pub mod Tabled
 pub mod Depths
 pub mod Bare

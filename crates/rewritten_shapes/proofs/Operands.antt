@@ -20,7 +20,7 @@ use Rattle.php_shapes.specs.Notation.{word, place, ◌~◌}
 use Rattle.php_shapes.specs.Operators.{binary}
 use Rattle.php_shapes.specs.Places.{Left, Operand, is_expression, is_prefix, may_stand}
 use Rattle.php_shapes.specs.Shapes.{Fits, IsNode, is_both, is_first, is_node, is_place, is_second, is_word}
-use Rattle.tree_patches.specs.Patches.{Wrapping, InParens}
+use Rattle.tracked_changes.specs.patches.Patches.{Wrapping, InParens}
 use Rattle.syntax_rules.specs.Around.{Around, kind_if_first, operator_of}
 use Rattle.syntax_rules.specs.DotPrecedence.{is_dot, is_regrouped, takes_apart}
 use Rattle.syntax_rules.specs.HashComment.{hash_comment}

@@ -5,7 +5,7 @@ use Rattle.php_tree.specs.declared.kind.NodeKind.TheVariants as kind
 use Rattle.php_tree.specs.declared.token.Token.{Token}
 use Rattle.php_tree.specs.declared.token.TokenKind.TheVariants as token
 use Rattle.php_tree.specs.Tree.{Forest, Tree, none, leaf, node, ◌+++◌}
-use Rattle.tree_patches.specs.Patches.{Wrapping, InParens}
+use Rattle.tracked_changes.specs.patches.Patches.{Wrapping, InParens}
 use Rattle.tracked_changes.specs.Pieces.{after, before}
 use Rattle.tracked_changes.specs.Draft.{NewToken, Draft, no_more, new_leaf, new_node, ◌then◌, rewritten}
 use Rattle.tracked_changes.specs.Leads.{holds_none, without_lead}

@@ -5,7 +5,7 @@ use Rattle.std.specs.Prelude.{codes}
 use Rattle.php_tree.specs.declared.kind.NodeKind.{NodeKind}
 use Rattle.php_tree.specs.declared.kind.NodeKind.TheVariants as k
 use Rattle.php_tree.specs.Tree.{Forest}
-use Rattle.tree_patches.specs.Patches.{Wrapping, InParens}
+use Rattle.tracked_changes.specs.patches.Patches.{Wrapping, InParens}
 use Rattle.tracked_changes.specs.Walk.{NewTree}
 use Rattle.syntax_rules.specs.Around.{Around, kind_if_first, operator_of, within}
 use Rattle.syntax_rules.specs.DotPrecedence.{around_dot, is_binary, is_regrouped, takes_apart}

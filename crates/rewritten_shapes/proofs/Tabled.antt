@@ -3,7 +3,7 @@ use Rattle.std.proofs.Common.{◌≡◌, ℕ, zero, suc, ◌+◌, ◌<◌, Bool,
 use Rattle.std.specs.Prelude.{unwrap_or}
 use Rattle.php_tree.specs.declared.kind.NodeKind.{NodeKind}
 use Rattle.php_tree.specs.Tree.{Forest, none, leaf, node, Tree, count}
-use Rattle.tree_patches.specs.Patches.{Patches, Wrapping}
+use Rattle.tracked_changes.specs.patches.Patches.{Patches, Wrapping}
 use Rattle.tracked_changes.specs.Draft.{Draft, no_more, new_leaf, ◌then◌}
 use Rattle.tracked_changes.specs.Parens.{in_wrappings}
 use Rattle.tracked_changes.specs.Walk.{NewTree, new_alone, drafted}

@@ -19,7 +19,7 @@ use Rattle.php_shapes.specs.Notation.{Rule, word, place, ◌~◌, ◌|||◌, exp
 use Rattle.php_shapes.specs.Operators.{prefix, yield, ternary, short_ternary}
 use Rattle.php_shapes.specs.Places.{Place, Left, LeftShort, Operand, Target, is_expression, may_stand}
 use Rattle.php_shapes.specs.Shapes.{Fits, IsNode, is_nothing, is_both, is_first, is_node, is_place, is_second, is_word}
-use Rattle.tree_patches.specs.Patches.{InParens}
+use Rattle.tracked_changes.specs.patches.Patches.{InParens}
 use Rattle.syntax_rules.specs.Around.{Around, within}
 use Rattle.syntax_rules.specs.DotPrecedence.{around_dot, is_dot}
 use Rattle.syntax_rules.specs.HashComment.{hash_comment}

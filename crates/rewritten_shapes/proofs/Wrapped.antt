@@ -15,7 +15,7 @@ use Rattle.php_grammar.specs.Levels.{binary_level, level, middle_leaf}
 use Rattle.php_shapes.specs.Nearest.{arrows_are_nearest, elses_are_nearest, ends_in_if, ends_in_yield, goes_on_if, is_nearest, is_open_if, is_open_yield, is_to}
 use Rattle.php_shapes.specs.Places.{Operand, is_class_name, is_expression, is_prefix, may_stand}
 use Rattle.php_shapes.specs.Shapes.{IsNode, is_both, is_node, is_place, is_word}
-use Rattle.tree_patches.specs.Patches.{Wrapping, InParens}
+use Rattle.tracked_changes.specs.patches.Patches.{Wrapping, InParens}
 use Rattle.rewritten_shapes.proofs.Kept.{Good, becomes_paren, edge_is, is_bare}
 use Rattle.rewritten_shapes.proofs.Like.{Below, below_zero}
 use Rattle.rewritten_shapes.proofs.Same.{lines_fine}

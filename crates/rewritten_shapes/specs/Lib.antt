@@ -1,2 +1,3 @@
+pub mod paired
 pub mod RefusedWords
 pub mod Laws

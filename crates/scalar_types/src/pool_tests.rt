@@ -1,5 +1,5 @@
 // Pools on small types.
-use crate::{INT, PhpType, Pool, TypeId, WORD, laws};
+use crate::{INT, PhpType, Pool, TypeId, WORD};
 use std::test::Fail;
 
 #[test]
@@ -40,19 +40,4 @@ fn numbers_are_joined_and_compared(rt: HostRuntime) -> Result<(), Fail> {
     assert!(rt; !pool.below_ids(either, int));
     assert_eq!(rt; pool.join_ids(alloc, either, int)?, either);
     Ok(())
-}
-
-#[test]
-fn the_laws_can_be_called() {
-    laws::below_is_reflexive();
-    laws::below_is_transitive();
-    laws::below_is_antisymmetric();
-    laws::join_is_least();
-    laws::meet_is_above_what_is_below_both();
-    laws::flattening_is_a_closure();
-    laws::element_keeps_order();
-    laws::results_are_well_formed();
-    laws::results_nest_no_deeper();
-    laws::results_use_no_more();
-    laws::rank_rises();
 }

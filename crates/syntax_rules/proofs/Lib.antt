@@ -6,6 +6,15 @@ pub mod HashCommentKeeps
 pub mod SplitNameKeeps
 pub mod DollarBraceKeeps
 pub mod TogetherKeeps
-pub mod OwnTexts
-pub mod Drafts
+pub mod Rewrites
+pub mod RewrittenTables
+pub mod UnsetCastAcross
+pub mod QuotedForms
+pub mod QuotedAcross
+pub mod QuotedParts
+pub mod RewritesAcross
+pub mod Walked
+pub mod WrapsFit
+pub mod NamesKept
+pub mod ProperDrafts
 pub mod Kept

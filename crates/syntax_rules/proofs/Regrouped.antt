@@ -3,8 +3,8 @@ use Rattle.std.proofs.Common.{◌≡◌, ℕ, zero, suc, ◌+◌, ◌<◌, List,
 use Rattle.std.specs.Prelude.{unwrap_or}
 use Rattle.php_tree.specs.declared.kind.NodeKind.{NodeKind}
 use Rattle.php_tree.specs.Tree.{Forest, none, leaf, node, alone, ◌+++◌, count}
-use Rattle.tree_patches.specs.Patches.{Patches, Wrapping}
-use Rattle.tree_patches.specs.Rewritten.{wrapped, rewritten}
+use Rattle.tracked_changes.specs.patches.Patches.{Patches, Wrapping}
+use Rattle.tracked_changes.specs.patches.Rewritten.{wrapped, rewritten}
 use Rattle.syntax_rules.specs.NestedTernary.{around, wrappings, nested_ternary}
 
 -- a forest with its nested ternaries in parentheses, whose first part stands leftmost in a node of a kind, if any
@@ -23,12 +23,12 @@ length-wrappings outer (node k c f) =
 abbrev pub entry : List (List Wrapping) → ℕ → List Wrapping
 entry ws j = unwrap_or (slice_get ws j) []
 
-entry-within : (ws vs : List (List Wrapping)) (j : ℕ) → j < length ws → entry (ws ++ vs) j ≡ entry ws j
+pub entry-within : (ws vs : List (List Wrapping)) (j : ℕ) → j < length ws → entry (ws ++ vs) j ≡ entry ws j
 entry-within [] vs j h = absurd (omega arith)
 entry-within (w ∷ ws) vs zero h = refl
 entry-within (w ∷ ws) vs (suc j) h = entry-within ws vs j (omega arith)
 
-entry-behind : (ws vs : List (List Wrapping)) (n j : ℕ) → n ≡ length ws + j → entry (ws ++ vs) n ≡ entry vs j
+pub entry-behind : (ws vs : List (List Wrapping)) (n j : ℕ) → n ≡ length ws + j → entry (ws ++ vs) n ≡ entry vs j
 entry-behind [] vs n j e = ap (entry vs) (e ∙ zero-add j)
 entry-behind (w ∷ ws) vs n j e =
     let d : n ≡ suc (length ws + j) = omega arith in

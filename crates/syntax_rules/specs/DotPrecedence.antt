@@ -5,7 +5,7 @@ use Rattle.std.specs.Str.{bytes_eq}
 use Rattle.php_tree.specs.declared.kind.NodeKind.{NodeKind}
 use Rattle.php_tree.specs.declared.kind.NodeKind.TheVariants.{Binary}
 use Rattle.php_tree.specs.Tree.{Tree}
-use Rattle.tree_patches.specs.Patches.{Wrapping, InParens}
+use Rattle.tracked_changes.specs.patches.Patches.{Wrapping, InParens}
 use Rattle.syntax_rules.specs.Around.{Around, operator_of}
 
 abbrev pub is_binary : NodeKind → Bool

@@ -4,8 +4,8 @@ use Rattle.std.specs.Prelude.{Bool, true, false, if◌then◌else◌, List, [], 
 use Rattle.php_tree.specs.declared.kind.NodeKind.{NodeKind}
 use Rattle.php_tree.specs.declared.kind.NodeKind.TheVariants.{Ternary, ShortTernary}
 use Rattle.php_tree.specs.Tree.{Forest, none, leaf, node, File}
-use Rattle.tree_patches.specs.Patches.{Patches, Wrapping, InParens}
-use Rattle.tree_patches.specs.Rewritten.{rewritten_file}
+use Rattle.tracked_changes.specs.patches.Patches.{Patches, Wrapping, InParens}
+use Rattle.tracked_changes.specs.patches.Rewritten.{rewritten_file}
 use Rattle.php_meaning.specs.World.{Bytes}
 use Rattle.php_meaning.specs.Run.{Program, Mark}
 use Rattle.php_meaning.specs.Laws.{KeepsMeaning}

@@ -2,7 +2,7 @@
 use Rattle.std.specs.Prelude.{Bool, true, false, List, [], ◌∷◌, ◌++◌, Option, unwrap_or, slice_get}
 use Rattle.span_edits.specs.declared.edit.Edit.{Edit}
 use Rattle.php_tree.specs.Tree.{Forest, none, leaf, node, Tree, File}
-use Rattle.tree_patches.specs.Patches.{Patches, Wrapping}
+use Rattle.tracked_changes.specs.patches.Patches.{Patches, Wrapping}
 use Rattle.tracked_changes.specs.Draft.{FileDraft, rewritten_file}
 use Rattle.tracked_changes.specs.Edits as draft
 use Rattle.syntax_rules.specs.Around.{Around, within, at_top, kind_if_first}

@@ -6,7 +6,7 @@ use Rattle.php_tree.specs.declared.token.Token.{Token}
 use Rattle.php_tree.specs.declared.kind.NodeKind.{NodeKind}
 use Rattle.php_tree.specs.declared.kind.NodeKind.TheVariants as kind
 use Rattle.php_tree.specs.Tree.{none, node, Tree, File, file_printed}
-use Rattle.tree_patches.specs.Patches.{Patches, InParens}
+use Rattle.tracked_changes.specs.patches.Patches.{Patches, InParens}
 use Rattle.tracked_changes.specs.Draft.{NewToken, Draft, FileDraft, source, unchanged_token, rewritten_file}
 use Rattle.tracked_changes.specs.Edits.{edits}
 use Rattle.tracked_changes.specs.Walk.{NewTree, Rewriting, drafted_file}

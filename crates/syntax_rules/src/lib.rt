@@ -21,21 +21,3 @@ pub use real_cast::real_cast_is_written;
 pub use split_name::split_name_is_written;
 pub use together::syntax_is_rewritten;
 pub use unset_cast::unset_cast_is_written;
-
-#[cfg(test)]
-mod tests {
-    use super::*;
-
-    #[test]
-    fn laws_can_be_called() {
-        brace_offset_is_written();
-        dollar_brace_is_written();
-        hash_comment_is_written();
-        nested_ternary_keeps_meaning();
-        real_cast_is_written();
-        rewriting_keeps_meaning();
-        split_name_is_written();
-        syntax_is_rewritten();
-        unset_cast_is_written();
-    }
-}

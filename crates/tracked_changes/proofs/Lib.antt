@@ -1,3 +1,4 @@
+pub mod patches
 pub mod Joining
 pub mod Splicing
 pub mod Replaced

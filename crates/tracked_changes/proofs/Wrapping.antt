@@ -4,9 +4,9 @@ use Rattle.std.proofs.lemmas.List.{map-append}
 use Rattle.php_tree.specs.declared.token.Token.{Token}
 use Rattle.php_tree.specs.declared.kind.NodeKind.{NodeKind}
 use Rattle.php_tree.specs.Tree.{Forest, none, leaf, node, Tree, ◌+++◌, alone, leaves, count}
-use Rattle.tree_patches.specs.Patches.{Patches, Wrapping, InParens}
-use Rattle.tree_patches.specs.Rewritten as patched
-use Rattle.tree_patches.proofs.Leads.{none_append, lead_append, filled_append}
+use Rattle.tracked_changes.specs.patches.Patches.{Patches, Wrapping, InParens}
+use Rattle.tracked_changes.specs.patches.Rewritten as patched
+use Rattle.tracked_changes.proofs.patches.Leads.{none_append, lead_append, filled_append}
 use Rattle.tracked_changes.specs.Pieces.{Piece, changed, before, after}
 use Rattle.tracked_changes.specs.Draft.{Draft, no_more, new_leaf, new_node, pieces, rewritten}
 use Rattle.tracked_changes.specs.Walk.{NewTree, new_alone, NodesKeepBytes, drafted}

@@ -10,11 +10,11 @@ use Rattle.php_tree.specs.Tree.{Forest, none, leaf, node, leaves, count, printed
 use Rattle.php_tree.specs.Places.{ArePlaced, behind, end_of}
 use Rattle.php_tree.specs.Ids.{first_or, stop_or, place_of}
 use Rattle.php_tree.proofs.Placed.{ends_at, placed-front, placed-back, stop_is}
-use Rattle.tree_patches.specs.Patches.{Patches, Wrapping, InParens, opening, closing}
-use Rattle.tree_patches.specs.Rewritten as patched
-use Rattle.tree_patches.specs.Changes as table
-use Rattle.tree_patches.specs.Laws.{HaveTokens}
-use Rattle.tree_patches.proofs.Leads.{clash, none_append, lead_append, unwrapped, rewritten_none, rewritten_lead}
+use Rattle.tracked_changes.specs.patches.Patches.{Patches, Wrapping, InParens, opening, closing}
+use Rattle.tracked_changes.specs.patches.Rewritten as patched
+use Rattle.tracked_changes.specs.patches.Changes as table
+use Rattle.tracked_changes.specs.patches.Laws.{HaveTokens}
+use Rattle.tracked_changes.proofs.patches.Leads.{clash, none_append, lead_append, unwrapped, rewritten_none, rewritten_lead}
 use Rattle.tracked_changes.specs.Pieces.{Piece, kept, changed, also, before, after}
 use Rattle.tracked_changes.specs.Draft.{Draft, new_node, token_pieces, pieces, unchanged_token}
 use Rattle.tracked_changes.specs.Edits.{join, joined, replacement, edits_from}

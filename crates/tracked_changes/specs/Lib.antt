@@ -1,3 +1,4 @@
+pub mod patches
 pub mod Pieces
 pub mod Draft
 pub mod Edits

@@ -3,10 +3,10 @@ use Rattle.std.specs.Prelude.{◌≡◌, codes, List, [], ◌∷◌}
 use Rattle.php_tree.specs.declared.kind.NodeKind.TheVariants.{Paren}
 use Rattle.php_tree.specs.Tree.{alone, File, file_leaves, file_printed}
 use Rattle.php_tree.specs.Places.{ArePlaced}
-use Rattle.tree_patches.specs.Patches.{Patches, Wrapping, InParens}
-use Rattle.tree_patches.specs.Rewritten as patched
-use Rattle.tree_patches.specs.Changes as table
-use Rattle.tree_patches.specs.Laws.{HaveTokens}
+use Rattle.tracked_changes.specs.patches.Patches.{Patches, Wrapping, InParens}
+use Rattle.tracked_changes.specs.patches.Rewritten as patched
+use Rattle.tracked_changes.specs.patches.Changes as table
+use Rattle.tracked_changes.specs.patches.Laws.{HaveTokens}
 use Rattle.tracked_changes.specs.Draft.{no_more, new_leaf, new_node, source, rewritten, rewritten_file, unchanged_token}
 use Rattle.tracked_changes.specs.Edits.{edits}
 use Rattle.tracked_changes.specs.Tokens.{put_in}

@@ -2,6 +2,8 @@
 //! are all read off. The definitions stand in `specs/`; the functions here carry the laws that they agree.
 #![tactic(auto)]
 
+pub mod patch_laws;
+
 ghost use Rattle.tracked_changes.specs.Laws.{SplicedIsRewritten, EditsAreApart, EachComesNext, EditsCompose, KeptBytesStay, TakenBytesGo, UnchangedIsTheFile};
 ghost use Rattle.tracked_changes.specs.Walk.{WalksKeepTheSource};
 ghost use Rattle.tracked_changes.specs.Parens.{ParensStandRound, WrappingIsRewritten, WrappingHasEdits};
@@ -64,23 +66,3 @@ pub fn wrapping_is_rewritten()
 pub fn wrapping_has_edits()
     ensures { WrappingHasEdits }
 {}
-
-#[cfg(test)]
-mod tests {
-    use super::*;
-
-    #[test]
-    fn laws_can_be_called() {
-        spliced_is_rewritten();
-        edits_are_apart();
-        each_comes_next();
-        edits_compose();
-        kept_bytes_stay();
-        taken_bytes_go();
-        unchanged_is_the_file();
-        walks_keep_the_source();
-        parens_stand_round();
-        wrapping_is_rewritten();
-        wrapping_has_edits();
-    }
-}

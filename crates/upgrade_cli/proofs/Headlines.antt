@@ -16,9 +16,11 @@ use Rattle.syntax_rules.specs.Rewritten.{patches, draft_of, edits, rewritten}
 use Rattle.syntax_rules.specs.Together.{all_on}
 use Rattle.syntax_rules.specs.Keeps.{all_rewritten}
 use Rattle.syntax_rules.proofs.TogetherKeeps.{syntax_is_rewritten}
-use Rattle.syntax_edits.proofs.NextEdit.{makes_rewritten}
-use Rattle.rewriting_keeps.proofs.Single.{shaped_files_keep_meaning}
-use Rattle.edited_rows.specs.Laws.{WrittenFilesAreRead}
+use Rattle.syntax_upgrade.proofs.NextEdit.{makes_rewritten}
+use Rattle.rewriting_keeps.specs.Laws.{NamesAreDirect}
+use Rattle.rewriting_keeps.proofs.DirectNames.{read_names_are_direct}
+use Rattle.rewriting_keeps.proofs.Kept.{shaped_files_keep_meaning}
+use Rattle.written_reading.specs.edited.Laws.{WrittenFilesAreRead}
 use Rattle.io_ports.specs.Files as ports
 use Rattle.upgrade_cli.specs.declared.stop.Status.{Status}
 use Rattle.upgrade_cli.specs.declared.stop.Status.TheVariants as status
@@ -73,9 +75,23 @@ are_shaped (f ∷ []) [] r = absurd r
 are_shaped (f ∷ []) (t ∷ u ∷ ts) r = absurd r
 are_shaped (f ∷ g ∷ fs) trees r = absurd r
 
-means_the_same : (files : List (Bytes × File)) → All (λ f. Shape V74 f.1) files → MeansTheSame files
-means_the_same files h =
-    let keeps = shaped_files_keep_meaning files None (marks files) h in
+are_direct : (files : List ports.File) (trees : List File) → AreRead files trees
+    → All (λ f. NamesAreDirect f.1.statements) (by_path files trees)
+are_direct [] [] r = λ k d below. absurd (omega (arith, below))
+are_direct (f ∷ []) (t ∷ []) r = λ k d below. one k d below
+  where
+    one : All (λ (g : Bytes × File). NamesAreDirect g.1.statements) ((f.0, t) ∷ [])
+    one zero d below = read_names_are_direct f.1 t r.reads
+    one (suc k) d below = absurd (omega (arith, below))
+are_direct [] (t ∷ ts) r = absurd r
+are_direct (f ∷ []) [] r = absurd r
+are_direct (f ∷ []) (t ∷ u ∷ ts) r = absurd r
+are_direct (f ∷ g ∷ fs) trees r = absurd r
+
+means_the_same : (files : List (Bytes × File)) → All (λ f. Shape V74 f.1) files → All (λ f. NamesAreDirect f.1.statements) files
+    → MeansTheSame files
+means_the_same files h d =
+    let keeps = shaped_files_keep_meaning files None (marks files) h d in
     record {
       meaning = keeps;
       runs = λ asks. inside_is_covered (program files None) (program (all_rewritten files) None) (marks files) asks keeps;
@@ -96,7 +112,7 @@ done_headline law files before after held held' s result d e l = record {
   written = are_written law files d.trees d.read;
   line = line_of held l;
   status = e ∙ ap (λ (x : Summary). status_of (Ok x)) d.counted;
-  means_the_same = means_the_same (by_path files d.trees) (are_shaped files d.trees d.read);
+  means_the_same = means_the_same (by_path files d.trees) (are_shaped files d.trees d.read) (are_direct files d.trees d.read);
 }
   where
     line_of : (h : Option (List ℕ)) → IfSome h (λ old. held' ≡ Some (old ++ summary_line s))

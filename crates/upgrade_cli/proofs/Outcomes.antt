@@ -11,7 +11,7 @@ use Rattle.upgrade_cli.specs.declared.stop.Stop.{Stop}
 use Rattle.upgrade_cli.specs.declared.stop.Stop.TheVariants as stop
 use Rattle.upgrade_cli.specs.declared.stop.Summary.{Summary}
 use Rattle.upgrade_cli.specs.declared.upgrade.Upgraded.{Upgraded}
-use Rattle.upgrade_cli.specs.Reports.{reports}
+use Rattle.syntax_upgrade.specs.Reports.{reports}
 use Rattle.upgrade_cli.specs.Outcome.{HasTree, AreRead, counts, IsDone, IsOutcome, IsFileOutcome, IsUpgraded, IsOfTree}
 
 pub one_path : (ps : List (List ℕ)) (x path : List ℕ) → 1 ≤ length ps → length ps < 2 → x ≡ get_or ps 0 x → path ≡ x → ps ≡ path ∷ []

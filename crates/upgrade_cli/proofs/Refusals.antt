@@ -6,10 +6,10 @@ use Rattle.php_shapes.specs.Shapes.{Shape}
 use Rattle.php_shapes.proofs.Walked.{file_has_shape}
 use Rattle.php_reading.specs.declared.fault.ReadFault.{ReadFault}
 use Rattle.php_reading.specs.declared.fault.ReadFault.TheVariants.{OpenText, OpenComment, OpenHeredoc, BadByte, TooLong, NotInGrammar, Memory}
-use Rattle.php_reading.specs.Reading.{Reads, Answers, IsFault}
+use Rattle.php_reading.specs.Reading.{Reads, AnswersRow, IsFault}
 
 pub refused : (bytes : List ℕ) (fault : ReadFault) → length bytes ≤ 1048576
-    → ((f : File) → Reads V74 bytes f → Answers (Err fault) f)
+    → ((f : File) → Reads V74 bytes f → AnswersRow (Err fault) f)
     → IsFault V74 bytes fault → fault ≢ Memory → (f : File) → Reads V74 bytes f → ⊥
 refused bytes (OpenText at) h a i m f r = a f r
 refused bytes (OpenComment at) h a i m f r = a f r

@@ -11,14 +11,15 @@ use Rattle.php_meaning.specs.Asking.{asks_nothing}
 use Rattle.syntax_rules.specs.NestedTernary.{program}
 use Rattle.syntax_rules.specs.Rewritten.{edits, rewritten}
 use Rattle.syntax_rules.specs.Keeps.{all_rewritten}
-use Rattle.rewritten_tokens.specs.Written.{NoNullsafeText}
+use Rattle.written_tokens.specs.tokens.Written.{NoNullsafeText}
 use Rattle.written_reading.specs.Laws.{IsRead}
-use Rattle.paired_parts.specs.Traits.{PlainTraits}
-use Rattle.edited_rows.specs.PlainTexts.{PlainTexts}
+use Rattle.rewritten_shapes.specs.paired.Traits.{PlainTraits}
+use Rattle.written_reading.specs.edited.PlainTexts.{PlainTexts}
 use Rattle.io_ports.specs.Files as ports
 use Rattle.upgrade_cli.specs.declared.stop.Status.{Status}
 use Rattle.upgrade_cli.specs.Lines.{summary_line}
-use Rattle.upgrade_cli.specs.Reports.{reports, marks}
+use Rattle.syntax_upgrade.specs.Reports.{reports}
+use Rattle.upgrade_cli.specs.Reports.{marks}
 use Rattle.upgrade_cli.specs.Outcome.{AreRead, with_written, counts}
 use Rattle.upgrade_cli.specs.Run.{status_of}
 

@@ -1,10 +1,10 @@
 -- What a run comes to, by the words and the sources.
 use Rattle.std.specs.Prelude.{◌≡◌, ◌<◌, ◌≤◌, ℕ, ◌+◌, List, [], ◌∷◌, length, Option, Some, None, IfSome, Result, Ok, Err, Vec}
 use Rattle.std.specs.declared.alloc.Global.{Global}
-use Rattle.php_tree.specs.declared.file.FileTree.{FileTree}
+use Rattle.php_rows.specs.declared.file.RowTree.{RowTree}
 use Rattle.php_tree.specs.declared.version.Version.TheVariants.{V74}
 use Rattle.php_tree.specs.Tree.{File, file_printed}
-use Rattle.php_tree.specs.Whole.{file}
+use Rattle.php_rows.specs.File.{file_in}
 use Rattle.php_reading.specs.Reading.{Reads}
 use Rattle.syntax_rules.specs.Rewritten.{edits, rewritten}
 use Rattle.io_ports.specs.Files as ports
@@ -13,7 +13,7 @@ use Rattle.upgrade_cli.specs.declared.upgrade.Upgraded.{Upgraded}
 use Rattle.upgrade_cli.specs.declared.stop.Stop.{Stop}
 use Rattle.upgrade_cli.specs.declared.stop.Stop.TheVariants as stop
 use Rattle.upgrade_cli.specs.declared.stop.Summary.{Summary}
-use Rattle.upgrade_cli.specs.Reports.{reports}
+use Rattle.syntax_upgrade.specs.Reports.{reports}
 
 -- ---- what the sources are
 
@@ -131,9 +131,9 @@ IsAnyReading (Err stop.Memory) = Unit {0}
 IsAnyReading (Err _) = ⊥
 
 -- the tree of some bytes, or none where they have no tree
-abbrev pub MayBeRead : List ℕ → Option FileTree → Type 0
+abbrev pub MayBeRead : List ℕ → Option RowTree → Type 0
 MayBeRead bytes None = (t : File) → Reads V74 bytes t → ⊥
-MayBeRead bytes (Some tree) = Reads V74 bytes (file tree)
+MayBeRead bytes (Some tree) = Reads V74 bytes (file_in tree)
 
 -- what is written of a tree, and what is counted of it
 pub record IsOfTree (t : File) (u : Upgraded) : Type 0 where

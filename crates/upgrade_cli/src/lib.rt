@@ -2,7 +2,6 @@
 #![tactic(auto)]
 
 mod line;
-mod reports;
 mod sources;
 mod stop;
 #[cfg(test)]

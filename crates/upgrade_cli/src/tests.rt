@@ -1,9 +1,5 @@
 // Worked runs, over memory.
 mod files;
-mod many_rules;
-mod syntax;
-mod texts;
-mod words;
 
 ghost use Rattle.std.specs.Prelude.{◌≡◌, IfOk, ◌∷◌, [], codes};
 
@@ -95,7 +91,11 @@ const NONE_FAILS: Failing = Failing {
 
 fn run_on(alloc: Global, bytes: &[u8], failing: Failing) -> Result<Ran, AllocError> {
     let words = upgrade_words(alloc)?;
-    let mut source = MemorySource::new(one_file(alloc, bytes)?, vec![in alloc; failing.source]?);
+    let mut source = MemorySource::new(
+        one_file(alloc, bytes)?,
+        Vec::new(alloc),
+        vec![in alloc; failing.source]?,
+    );
     let mut target = MemoryTarget::new(alloc, Vec::new(alloc), vec![in alloc; failing.target]?);
     let mut out = MemorySink::new(Vec::new(alloc), vec![in alloc; failing.out]?);
     let status = status_number(run(alloc, words.as_slice(), &mut source, &mut target, &mut out));
@@ -133,14 +133,14 @@ fn assert_rows(
 fn there_is_at_most_one_file(rt: HostRuntime) -> Result<(), Fail> {
     let alloc = rt.alloc();
     let words = upgrade_words(alloc)?;
-    let mut source = CalmSource::new(two_files(alloc)?);
+    let mut source = CalmSource::new(two_files(alloc)?, Vec::new(alloc));
     let mut target = CalmTarget::new(alloc, Vec::new(alloc));
     let mut out = CalmSink::new(Vec::new(alloc));
     let status = run(alloc, words.as_slice(), &mut source, &mut target, &mut out);
     assert_eq!(rt; status, Status::Limit);
     assert_eq!(rt; out.bytes(), b"limit files 2\n".as_slice());
     assert!(rt; target.files().is_empty());
-    let mut source = CalmSource::new(Vec::new(alloc));
+    let mut source = CalmSource::new(Vec::new(alloc), Vec::new(alloc));
     let status = run(alloc, words.as_slice(), &mut source, &mut target, &mut out);
     assert_eq!(rt; status, Status::Done);
     assert!(rt;
@@ -154,7 +154,7 @@ fn there_is_at_most_one_file(rt: HostRuntime) -> Result<(), Fail> {
 // Whether these words get the usage line and nothing else.
 fn get_usage(alloc: Global, texts: &[&str]) -> Result<bool, AllocError> {
     let words = words_of(alloc, texts)?;
-    let mut source = CalmSource::new(one_file(alloc, b"")?);
+    let mut source = CalmSource::new(one_file(alloc, b"")?, Vec::new(alloc));
     let mut target = CalmTarget::new(alloc, Vec::new(alloc));
     let mut out = CalmSink::new(Vec::new(alloc));
     let status = run(alloc, words.as_slice(), &mut source, &mut target, &mut out);

@@ -10,9 +10,9 @@ use crate::line::line_of;
 use crate::stop::{Status, Stop, Summary, status_of};
 use crate::upgrade::upgrade;
 use crate::words::are_in_grammar;
-use edited_rows::written_files_are_read;
 use io_ports::{PortFault, Sink, SourceTree, TargetTree};
 use std::alloc::Global;
+use written_reading::row_laws::written_files_are_read;
 
 // Puts the line of what a run came to, and answers its status unless that fails.
 fn answer<O: Sink>(alloc: Global, out: &mut O, came: &Result<Summary, Stop>) -> Status

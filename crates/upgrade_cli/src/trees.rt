@@ -3,8 +3,9 @@ ghost use Rattle.std.specs.Prelude.{◌≡◌, ◌≢◌, ◌≤◌, IfOk, OnOk,
 ghost use Rattle.upgrade_cli.specs.Outcome as spec;
 
 use crate::sources::MAX_BYTES;
-use php_reading::{ReadFault, read};
-use php_tree::{FileTree, Version};
+use php_reading::{ReadFault, read_rows};
+use php_rows::RowTree;
+use php_tree::Version;
 use std::alloc::{AllocError, Global};
 
 // A refusal, unless it is want of memory.
@@ -24,11 +25,11 @@ fn refused(fault: ReadFault) -> Result<(), AllocError>
 
 /// The tree that 7.4 reads in the bytes of a file, by all of its tokens and all of its grammar; none exactly where it reads
 /// none. The only error is want of memory.
-pub fn tree_of(alloc: Global, bytes: &[u8]) -> Result<Option<FileTree>, AllocError>
-    requires { length bytes.now ≤ MAX_BYTES }
-    ensures { IfOk result (λ r. spec.MayBeRead bytes.now r) }
+pub fn tree_of(alloc: Global, bytes: Vec<u8>) -> Result<Option<RowTree>, AllocError>
+    requires { length bytes.items ≤ MAX_BYTES }
+    ensures { IfOk result (λ r. spec.MayBeRead bytes.items r) }
 {
-    match read(alloc, Version::V74, bytes) {
+    match read_rows(alloc, Version::V74, bytes) {
         Ok(tree) => Ok(Some(tree)),
         Err(fault) => {
             refused(fault)?;

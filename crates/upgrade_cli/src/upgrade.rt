@@ -1,21 +1,20 @@
 // The upgrade: from the sources to the target.
-ghost use Rattle.std.specs.Prelude.{◌≡◌, ◌≤◌, List, length, IfOk, IfSome};
+ghost use Rattle.std.specs.Prelude.{◌≡◌, ◌≤◌, ℕ, List, length, IfOk, IfSome};
 ghost use Rattle.php_tree.specs.declared.version.Version.TheVariants.{V74};
 ghost use Rattle.php_tree.specs.Tree.{File};
-ghost use Rattle.php_tree.specs.Whole.{file};
+ghost use Rattle.php_rows.specs.File.{file_in};
 ghost use Rattle.php_reading.specs.Reading.{Reads};
 ghost use Rattle.upgrade_cli.specs.Outcome as spec;
 ghost use Rattle.upgrade_cli.specs.Run.{HaveCauses, TargetCause, Keeps, NotSource};
 
-use crate::reports::report_count;
 use crate::sources::{MAX_BYTES, list_sources, read_source};
 use crate::stop::{Stop, Summary, target_stop};
 use crate::trees::tree_of;
 use io_ports::{PathText, SourceTree, TargetTree};
-use paired_parts::quoted_texts_are_walked;
-use php_tree::FileTree;
+use php_rows::RowTree;
+use rewritten_shapes::paired_laws::quoted_texts_are_walked;
 use std::alloc::{AllocError, Global};
-use syntax_edits::upgraded;
+use syntax_upgrade::{Found, upgraded};
 
 /// A file upgraded: the bytes to write, how many edits made them, and how many reports stand.
 #[derive(Drop)]
@@ -25,31 +24,36 @@ pub struct Upgraded {
     pub reports: usize,
 }
 
-// What is written of the tree that 7.4 reads in these bytes.
-fn upgrade_tree(alloc: Global, tree: &FileTree, bytes: &[u8]) -> Result<Upgraded, AllocError>
-    requires read { Reads V74 bytes.now (file tree.now) }
-    requires small { length bytes.now ≤ MAX_BYTES }
-    ensures { IfOk result (λ u. spec.IsOfTree (file tree.now) u) }
+// How many reports there are.
+fn count(reports: &[Found]) -> usize
+    ensures { result ≡ length reports.now }
+{
+    reports.len()
+}
+
+// What is written of a tree that 7.4 reads, and what is reported of it.
+fn upgrade_tree(alloc: Global, tree: &RowTree) -> Result<Upgraded, AllocError>
+    requires { (bytes : List ℕ) × Reads V74 bytes (file_in tree.now) }
+    ensures { IfOk result (λ u. spec.IsOfTree (file_in tree.now) u) }
 {
     quoted_texts_are_walked();
-    let upgrade = upgraded(alloc, tree, bytes)?;
-    let reports = report_count(alloc, tree)?;
+    let upgrade = upgraded(alloc, tree)?;
     Ok(Upgraded {
         bytes: upgrade.bytes,
         edits: upgrade.edits,
-        reports,
+        reports: count(upgrade.reports.as_slice()),
     })
 }
 
 // The upgraded file; none where the bytes have no tree.
-fn upgrade_file(alloc: Global, bytes: &[u8]) -> Result<Option<Upgraded>, AllocError>
-    requires { length bytes.now ≤ MAX_BYTES }
-    ensures { IfOk result (λ r. spec.MayBeUpgraded bytes.now r) }
+fn upgrade_file(alloc: Global, bytes: Vec<u8>) -> Result<Option<Upgraded>, AllocError>
+    requires { length bytes.items ≤ MAX_BYTES }
+    ensures { IfOk result (λ r. spec.MayBeUpgraded bytes.items r) }
 {
     let Some(tree) = tree_of(alloc, bytes)? else {
         return Ok(None);
     };
-    let upgraded = upgrade_tree(alloc, &tree, bytes)?;
+    let upgraded = upgrade_tree(alloc, &tree)?;
     Ok(Some(upgraded))
 }
 
@@ -58,12 +62,12 @@ fn upgrade_one<D: TargetTree>(
     alloc: Global,
     target: &mut D,
     path: &PathText,
-    bytes: &[u8],
+    bytes: Vec<u8>,
 ) -> Result<Summary, Stop>
-    requires { length bytes.now ≤ MAX_BYTES }
-    ensures told { spec.IsFileOutcome path.now bytes.now (D.files target.old) (D.files target.new) result }
+    requires { length bytes.items ≤ MAX_BYTES }
+    ensures told { spec.IsFileOutcome path.now bytes.items (D.files target.old) (D.files target.new) result }
     ensures kept { Keeps result (target.new ≡ target.old) }
-    ensures untouched { ((t : File) → spec.HasTree bytes.now t → ⊥) → target.new ≡ target.old }
+    ensures untouched { ((t : File) → spec.HasTree bytes.items t → ⊥) → target.new ≡ target.old }
     ensures not_source { NotSource result }
     ensures cause { TargetCause result (D.faults target.old) (D.faults target.new) }
 {
@@ -104,7 +108,7 @@ pub fn upgrade<T: SourceTree, D: TargetTree>(
         }),
         [path] => {
             let bytes = read_source(alloc, source, path.as_str())?;
-            upgrade_one(alloc, target, path, bytes.as_slice())
+            upgrade_one(alloc, target, path, bytes)
         }
         more => Err(Stop::Files(more.len())),
     }

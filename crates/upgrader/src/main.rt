@@ -1,7 +1,7 @@
 //! The program: it upgrades the folder `source` into the folder `target`, and prints one line.
 #![tactic(auto)]
 
-use io_ports::{FolderSource, FolderTarget, StdoutSink};
+use folder_ports::{FolderSource, FolderTarget, StdoutSink};
 use std::alloc::AllocError;
 use std::process::ExitCode;
 use std::{env, io};
@@ -25,7 +25,7 @@ fn words_of(rt: &HostRuntime) -> io::Result<Vec<String>> {
 fn run_in_folders(rt: HostRuntime, words: &[String]) -> Result<Status, AllocError> {
     let alloc = rt.alloc();
     let mut source = FolderSource::new(rt.clone()?, alloc, "source")?;
-    let mut target = FolderTarget::new(rt.clone()?, alloc, "target")?;
+    let mut target = FolderTarget::beside(rt.clone()?, alloc, "target", "source")?;
     let mut out = StdoutSink::new(rt, alloc)?;
     Ok(run(alloc, words, &mut source, &mut target, &mut out))
 }

@@ -1,5 +1,5 @@
 -- Files with rows have the tokens of 8.3 once they are rewritten.
-use Rattle.rewritten_tokens.proofs.Parts.{parts_are_written}
+use Rattle.written_tokens.proofs.tokens.Parts.{parts_are_written}
 use Rattle.written_reading.specs.Parted.{RowsAreLexed}
 
 pub rows_are_lexed : RowsAreLexed

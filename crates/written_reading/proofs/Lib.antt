@@ -1,3 +1,4 @@
+pub mod edited
 pub mod Rows
 pub mod Texts
 pub mod CastTexts

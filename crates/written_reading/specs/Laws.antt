@@ -9,7 +9,7 @@ use Rattle.php_shapes.specs.Shapes.{Shape}
 use Rattle.php_reading.specs.Reading.{Reads}
 use Rattle.syntax_rules.specs.Rewritten.{rewritten}
 use Rattle.rewritten_shapes.specs.Laws.{AreSpelled, NoneReported, is_namespace_label, opens_name}
-use Rattle.rewritten_tokens.specs.Written.{HasTokens}
+use Rattle.written_tokens.specs.tokens.Written.{HasTokens}
 
 -- ---- the texts of tokens
 

@@ -1,3 +1,4 @@
+pub mod edited
 pub mod Spellings
 pub mod Laws
 pub mod Parted

@@ -7,12 +7,12 @@ use Rattle.php_relexing.specs.Tiles.{Tile}
 use Rattle.php_relexing.specs.Spelled.{Steps, spelled}
 use Rattle.php_reading.specs.Reading.{Reads}
 use Rattle.syntax_rules.specs.Rewritten.{rewritten}
-use Rattle.rewritten_tokens.specs.Names.{all_common}
-use Rattle.rewritten_tokens.specs.Whole.{all_apart}
-use Rattle.rewritten_tokens.specs.Written.{new_lexeme, draft_tokens, HasTokens}
-use Rattle.rewritten_tokens.specs.Drafted.{names_within}
-use Rattle.rewritten_tokens.specs.Parted.{parted, NamesStay}
-use Rattle.rewritten_tokens.specs.Spaced.{nameless_draft, in_parts, PartsHaveText}
+use Rattle.written_tokens.specs.tokens.Names.{all_common}
+use Rattle.written_tokens.specs.tokens.Whole.{all_apart}
+use Rattle.written_tokens.specs.tokens.Written.{new_lexeme, draft_tokens, HasTokens}
+use Rattle.written_tokens.specs.tokens.Drafted.{names_within}
+use Rattle.written_tokens.specs.tokens.Parted.{parted, NamesStay}
+use Rattle.written_tokens.specs.tokens.Spaced.{nameless_draft, in_parts, PartsHaveText}
 
 -- In 7.4 the rewritten bytes have a row of tokens and trivia that is the draft's, with names in parts, and 8.3 takes the row
 -- as 7.4 does.

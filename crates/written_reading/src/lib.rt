@@ -1,6 +1,8 @@
 //! What PHP 8.3 reads from the bytes of a file that the rules on syntax rewrote.
 #![tactic(auto)]
 
+pub mod row_laws;
+
 ghost use Rattle.written_reading.specs.Laws.{SourcesAreSpelled, NoNameIsNamespace, ShapedIsRead, RewrittenIsRead};
 ghost use Rattle.written_reading.specs.Parted.{RowsAreLexed};
 
@@ -35,18 +37,4 @@ pub fn rewritten_is_read()
 {
     shaped_is_read();
     rewritten_shapes::rewritten_has_shape();
-}
-
-#[cfg(test)]
-mod tests {
-    use super::*;
-
-    #[test]
-    fn laws_can_be_called() {
-        sources_are_spelled();
-        no_name_is_namespace();
-        rows_are_lexed();
-        shaped_is_read();
-        rewritten_is_read();
-    }
 }

@@ -1,7 +1,7 @@
 // Sources in memory, of which no call fails.
 ghost use Rattle.std.specs.Prelude.{◌≡◌};
 ghost use Rattle.io_ports.specs.Props.{sources_prop};
-ghost use Rattle.io_ports.specs.Files.{IsSources};
+ghost use Rattle.io_ports.specs.Files.{AreDistinct, IsSources};
 
 use crate::fault::PortFault;
 use crate::memory::files;
@@ -9,22 +9,30 @@ use crate::source::{Found, SourceTree};
 use span_edits::{Bytes, PathText};
 use std::alloc::Global;
 
-/// Sources in memory, of which no call fails. Contracts see `calm_source_files`.
+/// Sources in memory, of which no call fails. Contracts see `calm_source_files` and
+/// `calm_source_stored`.
 #[derive(Drop)]
 pub struct CalmSource {
     files: Vec<(PathText, Bytes)>,
+    stored: Vec<(PathText, Bytes)>,
     ghost ordered: { IsSources files.items } by { sources_prop files.items },
 }
 
 impl CalmSource {
-    ghost use Rattle.io_ports.specs.Memory.{calm_source_files};
+    ghost use Rattle.io_ports.specs.Memory.{calm_source_files, calm_source_stored};
 
-    /// These files, whose paths strictly ascend and end in `.php`.
-    pub fn new(files: Vec<(PathText, Bytes)>) -> CalmSource
-        requires { IsSources files.items }
-        ensures { calm_source_files result ≡ files.items }
+    /// These files, whose paths strictly ascend and end in `.php`, and these settings files, whose
+    /// names are distinct.
+    pub fn new(files: Vec<(PathText, Bytes)>, settings: Vec<(PathText, Bytes)>) -> CalmSource
+        requires files { IsSources files.items }
+        requires settings { AreDistinct settings.items }
+        ensures files { calm_source_files result ≡ files.items }
+        ensures stored { calm_source_stored result ≡ settings.items }
     {
-        CalmSource { files }
+        CalmSource {
+            files,
+            stored: settings,
+        }
     }
 
     /// The files.
@@ -37,9 +45,11 @@ impl CalmSource {
 
 impl SourceTree for CalmSource {
     ghost use Rattle.std.specs.Prelude.{Some};
-    ghost use Rattle.io_ports.specs.Memory.{calm_source_files};
+    ghost use Rattle.io_ports.specs.Memory.{calm_source_files, calm_source_stored};
 
     ghost files = { λ s. Some (calm_source_files s) };
+
+    ghost stored = { λ s. Some (calm_source_stored s) };
 
     ghost faults = { λ _. 0 };
 
@@ -49,5 +59,9 @@ impl SourceTree for CalmSource {
 
     fn read(&mut self, path: &str, max: u64, into: &mut Vec<u8>) -> Result<Found, PortFault> {
         Ok(files::read_of(self.files.as_slice(), path, max, into)?)
+    }
+
+    fn settings(&mut self, name: &str, max: u64, into: &mut Vec<u8>) -> Result<Found, PortFault> {
+        Ok(files::read_of(self.stored.as_slice(), name, max, into)?)
     }
 }

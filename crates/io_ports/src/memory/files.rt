@@ -40,6 +40,7 @@ pub fn read_of(
 ) -> Result<Found, AllocError>
     ensures told { IfOk result (λ came. Reads files.now path.now max came into.old.items into.new.items) }
     ensures err { OnErr result (into.new.items ≡ into.old.items) }
+    ensures longer { IfOk result (λ came. came ≡ Found.Longer → into.new.items ≡ into.old.items) }
 {
     match find(files, path) {
         None => Ok(Found::Absent),

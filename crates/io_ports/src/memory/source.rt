@@ -1,7 +1,7 @@
 // Sources in memory.
 ghost use Rattle.std.specs.Prelude.{◌≡◌};
 ghost use Rattle.io_ports.specs.Props.{sources_prop};
-ghost use Rattle.io_ports.specs.Files.{IsSources};
+ghost use Rattle.io_ports.specs.Files.{AreDistinct, IsSources};
 
 use crate::fault::PortFault;
 use crate::memory::files;
@@ -10,27 +10,36 @@ use crate::source::{Found, SourceTree};
 use span_edits::{Bytes, PathText};
 use std::alloc::Global;
 
-/// Sources in memory. Contracts see `memory_source_files` and `memory_source_tally`.
+/// Sources in memory. Contracts see `memory_source_files`, `memory_source_stored` and
+/// `memory_source_tally`.
 #[derive(Drop)]
 pub struct MemorySource {
     files: Vec<(PathText, Bytes)>,
+    stored: Vec<(PathText, Bytes)>,
     tally: Tally,
     ghost ordered: { IsSources files.items } by { sources_prop files.items },
 }
 
 impl MemorySource {
     ghost use Rattle.io_ports.specs.Fails.{IsFresh};
-    ghost use Rattle.io_ports.specs.Memory.{memory_source_files, memory_source_tally};
+    ghost use Rattle.io_ports.specs.Memory.{memory_source_files, memory_source_stored, memory_source_tally};
 
-    /// These files, whose paths strictly ascend and end in `.php`. `failing` has the numbers, from
-    /// 1, of the calls that fail.
-    pub fn new(files: Vec<(PathText, Bytes)>, failing: Vec<u64>) -> MemorySource
-        requires { IsSources files.items }
+    /// These files, whose paths strictly ascend and end in `.php`, and these settings files, whose
+    /// names are distinct. `failing` has the numbers, from 1, of the calls that fail.
+    pub fn new(
+        files: Vec<(PathText, Bytes)>,
+        settings: Vec<(PathText, Bytes)>,
+        failing: Vec<u64>,
+    ) -> MemorySource
+        requires files { IsSources files.items }
+        requires settings { AreDistinct settings.items }
         ensures files { memory_source_files result ≡ files.items }
+        ensures stored { memory_source_stored result ≡ settings.items }
         ensures tally { IsFresh failing.items (memory_source_tally result) }
     {
         MemorySource {
             files,
+            stored: settings,
             tally: Tally::new(failing),
         }
     }
@@ -48,9 +57,11 @@ impl SourceTree for MemorySource {
     ghost use Rattle.io_ports.specs.Causes.{HasCause};
     ghost use Rattle.io_ports.specs.Fails.{Fails};
     ghost use Rattle.io_ports.specs.Files.{Reads};
-    ghost use Rattle.io_ports.specs.Memory.{memory_source_files, memory_source_faults, memory_source_tally};
+    ghost use Rattle.io_ports.specs.Memory.{memory_source_files, memory_source_stored, memory_source_faults, memory_source_tally};
 
     ghost files = { λ s. Some (memory_source_files s) };
+
+    ghost stored = { λ s. Some (memory_source_stored s) };
 
     ghost faults = { memory_source_faults };
 
@@ -58,6 +69,7 @@ impl SourceTree for MemorySource {
         ensures told { IfOk result (λ ps. ps.items ≡ map (λ f. f.0) (memory_source_files self.old)) }
         ensures order { OnOk result (IsSources (memory_source_files self.old)) }
         ensures same { memory_source_files self.new ≡ memory_source_files self.old }
+        ensures settled { memory_source_stored self.new ≡ memory_source_stored self.old }
         ensures cause { HasCause (memory_source_faults self.old) (memory_source_faults self.new) result }
         ensures fails { Fails (memory_source_tally self.old) (memory_source_tally self.new) result }
     {
@@ -71,7 +83,9 @@ impl SourceTree for MemorySource {
         ensures told { IfOk result
             (λ answer. Reads (memory_source_files self.old) path.now max answer into.old.items into.new.items) }
         ensures err { OnErr result (into.new.items ≡ into.old.items) }
+        ensures longer { IfOk result (λ answer. answer ≡ Found.Longer → into.new.items ≡ into.old.items) }
         ensures same { memory_source_files self.new ≡ memory_source_files self.old }
+        ensures settled { memory_source_stored self.new ≡ memory_source_stored self.old }
         ensures cause { HasCause (memory_source_faults self.old) (memory_source_faults self.new) result }
         ensures fails { Fails (memory_source_tally self.old) (memory_source_tally self.new) result }
     {
@@ -79,5 +93,21 @@ impl SourceTree for MemorySource {
             return Err(PortFault::Failed);
         }
         Ok(files::read_of(self.files.as_slice(), path, max, into)?)
+    }
+
+    fn settings(&mut self, name: &str, max: u64, into: &mut Vec<u8>) -> Result<Found, PortFault>
+        ensures told { IfOk result
+            (λ answer. Reads (memory_source_stored self.old) name.now max answer into.old.items into.new.items) }
+        ensures err { OnErr result (into.new.items ≡ into.old.items) }
+        ensures longer { IfOk result (λ answer. answer ≡ Found.Longer → into.new.items ≡ into.old.items) }
+        ensures same { memory_source_files self.new ≡ memory_source_files self.old }
+        ensures settled { memory_source_stored self.new ≡ memory_source_stored self.old }
+        ensures cause { HasCause (memory_source_faults self.old) (memory_source_faults self.new) result }
+        ensures fails { Fails (memory_source_tally self.old) (memory_source_tally self.new) result }
+    {
+        if self.tally.fails() {
+            return Err(PortFault::Failed);
+        }
+        Ok(files::read_of(self.stored.as_slice(), name, max, into)?)
     }
 }

@@ -2,12 +2,11 @@
 ghost use Rattle.std.specs.Prelude.{◌≡◌, IfOk, codes, ◌∷◌, []};
 
 use crate::{
-    Bytes, CalmSink, CalmSource, CalmTarget, FolderSource, FolderTarget, Found, MemorySink,
-    MemorySource, MemoryTarget, PathText, PortFault, Sink, SourceTree, StdoutSink, TargetTree,
+    Bytes, CalmSink, CalmSource, CalmTarget, Found, MemorySink, MemorySource, MemoryTarget,
+    PathText, PortFault, Sink, SourceTree, TargetTree,
 };
 use std::alloc::{AllocError, Global};
 use std::test::Fail;
-use std::{env, fs, process};
 
 fn file(alloc: Global, path: &str, bytes: &[u8]) -> Result<(PathText, Bytes), AllocError>
     ensures { IfOk result (λ f. f ≡ (path.now, bytes.now)) }
@@ -25,18 +24,35 @@ fn two_files(alloc: Global) -> Result<Vec<(PathText, Bytes)>, AllocError>
     Ok(files)
 }
 
+fn settings(alloc: Global) -> Result<Vec<(PathText, Bytes)>, AllocError>
+    ensures { IfOk result (λ v. v.items ≡ (codes "s.toml", codes "#") ∷ []) }
+{
+    let mut files = Vec::new(alloc);
+    files.push(file(alloc, "s.toml", b"#")?)?;
+    Ok(files)
+}
+
 #[test]
 fn a_source_fails_where_it_is_told(rt: HostRuntime) -> Result<(), Fail> {
     let alloc = rt.alloc();
     let mut into = Vec::new(alloc);
-    let mut source = MemorySource::new(two_files(alloc)?, vec![in alloc; 1, 3]?);
+    let mut source = MemorySource::new(
+        two_files(alloc)?,
+        settings(alloc)?,
+        vec![in alloc; 1, 3, 5]?,
+    );
     assert_eq!(rt; source.paths(alloc).err(), Some(PortFault::Failed));
     let paths = source.paths(alloc)?;
     assert_eq!(rt; paths.len(), 2);
     assert_eq!(rt; paths[1].as_str(), "b/c.php");
     assert_eq!(rt; source.read("a.php", 5, &mut into), Err(PortFault::Failed));
     assert_eq!(rt; source.read("a.php", 5, &mut into), Ok(Found::Whole));
-    assert_eq!(rt; into.as_slice(), b"12345".as_slice());
+    assert_eq!(rt;
+        source.settings("s.toml", 5, &mut into),
+        Err(PortFault::Failed)
+    );
+    assert_eq!(rt; source.settings("s.toml", 5, &mut into), Ok(Found::Whole));
+    assert_eq!(rt; into.as_slice(), b"12345#".as_slice());
     assert_eq!(rt; source.files().len(), 2);
     Ok(())
 }
@@ -45,12 +61,15 @@ fn a_source_fails_where_it_is_told(rt: HostRuntime) -> Result<(), Fail> {
 fn a_read_has_three_answers(rt: HostRuntime) -> Result<(), Fail> {
     let alloc = rt.alloc();
     let mut into = vec![in alloc; 0]?;
-    let mut source = CalmSource::new(two_files(alloc)?);
+    let mut source = CalmSource::new(two_files(alloc)?, settings(alloc)?);
     assert_eq!(rt; source.paths(alloc)?.len(), 2);
     assert_eq!(rt; source.read("a.php", 4, &mut into), Ok(Found::Longer));
     assert_eq!(rt; source.read("c.php", 9, &mut into), Ok(Found::Absent));
     assert_eq!(rt; source.read("a.php", 5, &mut into), Ok(Found::Whole));
-    assert_eq!(rt; into.as_slice(), b"\x0012345".as_slice());
+    assert_eq!(rt; source.settings("s.toml", 0, &mut into), Ok(Found::Longer));
+    assert_eq!(rt; source.settings("t.toml", 9, &mut into), Ok(Found::Absent));
+    assert_eq!(rt; source.settings("s.toml", 1, &mut into), Ok(Found::Whole));
+    assert_eq!(rt; into.as_slice(), b"\x0012345#".as_slice());
     assert_eq!(rt; source.files().len(), 2);
     Ok(())
 }
@@ -98,47 +117,5 @@ fn a_sink_fails_where_it_is_told(rt: HostRuntime) -> Result<(), Fail> {
     assert_eq!(rt; calm.put(b"e"), Ok(()));
     assert_eq!(rt; calm.put(b"f"), Ok(()));
     assert_eq!(rt; calm.bytes(), b"ef".as_slice());
-    Ok(())
-}
-
-// A folder of this test's own, without files.
-fn fresh_folder(rt: &HostRuntime, test: &str) -> Result<String, Fail> {
-    let id = process::id(rt.process());
-    let top = env::temp_dir(rt)?.into_string();
-    let folder = format!(in rt.alloc(); "{top}/io_ports_{test}_{id}")?;
-    if fs::exists(rt, folder.as_str())? {
-        fs::remove_dir_all(rt, folder.as_str())?;
-    }
-    Ok(folder)
-}
-
-#[test]
-fn folders_are_written_and_read(rt: HostRuntime) -> Result<(), Fail> {
-    let alloc = rt.alloc();
-    let folder = fresh_folder(&rt, "folders")?;
-    let mut target = FolderTarget::new(rt.clone()?, alloc, folder.as_str())?;
-    assert_eq!(rt; target.put("b/d/e.php", b"12345"), Ok(()));
-    assert_eq!(rt; target.put("b.php", b""), Ok(()));
-    assert_eq!(rt; target.put("b/note.txt", b"x"), Ok(()));
-    assert_eq!(rt; target.put("b.php/c.php", b"x"), Err(PortFault::Failed));
-    let mut source = FolderSource::new(rt.clone()?, alloc, folder.as_str())?;
-    let paths = source.paths(alloc)?;
-    assert_eq!(rt; paths.len(), 2);
-    assert_eq!(rt; paths[0].as_str(), "b.php");
-    assert_eq!(rt; paths[1].as_str(), "b/d/e.php");
-    let mut into = Vec::new(alloc);
-    assert_eq!(rt; source.read("b/d/e.php", 4, &mut into), Ok(Found::Longer));
-    assert_eq!(rt; source.read("b/d/e.php", 5, &mut into), Ok(Found::Whole));
-    assert_eq!(rt; into.as_slice(), b"12345".as_slice());
-    fs::remove_dir_all(&rt, folder.as_str())?;
-    assert_eq!(rt; source.read("b.php", 5, &mut into), Err(PortFault::Failed));
-    assert_eq!(rt; source.paths(alloc).err(), Some(PortFault::Failed));
-    Ok(())
-}
-
-#[test]
-fn standard_output_takes_bytes(rt: HostRuntime) -> Result<(), Fail> {
-    let mut out = StdoutSink::new(rt.clone()?, rt.alloc())?;
-    assert_eq!(rt; out.put(b""), Ok(()));
     Ok(())
 }

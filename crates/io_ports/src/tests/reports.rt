@@ -2,13 +2,12 @@
 ghost use Rattle.std.specs.Prelude.{◌≤◌};
 
 use crate::{
-    CalmList, CalmSink, CountReports, FileSink, JsonReports, ListSink, MemorySink, PathText,
-    PortFault, Report, ReportSink, Sink, Span, TextReports, Weight, cause_name, code_name,
-    report_json, report_line, retire,
+    CalmList, CalmSink, CountReports, JsonReports, ListSink, MemorySink, PathText, PortFault,
+    Report, ReportSink, Sink, Span, TextReports, Weight, cause_name, code_name, report_json,
+    report_line, retire,
 };
 use std::alloc::{AllocError, Global};
 use std::test::Fail;
-use std::{env, fs, process};
 
 // A report of a place of `a.php`.
 fn report_of(alloc: Global, start: u32, end: u32, code: u16) -> Result<Report, AllocError>
@@ -154,27 +153,5 @@ fn a_sink_is_retired(rt: HostRuntime) -> Result<(), Fail> {
     assert!(rt; retire(&mut sinks, 0));
     assert_eq!(rt; sinks.len(), 1);
     assert_eq!(rt; sinks[0].taken(), 1);
-    Ok(())
-}
-
-#[test]
-fn a_file_is_made_at_the_first_put(rt: HostRuntime) -> Result<(), Fail> {
-    let alloc = rt.alloc();
-    let id = process::id(rt.process());
-    let top = env::temp_dir(&rt)?.into_string();
-    let path = format!(in alloc; "{top}/io_ports_sink_{id}")?;
-    let mut sink = FileSink::new(rt.clone()?, alloc, path.as_str())?;
-    assert_eq!(rt; sink.put(b""), Ok(()));
-    assert_eq!(rt; fs::read(&rt, path.as_str())?.len(), 0);
-    assert_eq!(rt; sink.put(b"ab"), Ok(()));
-    assert_eq!(rt; sink.put(b"c"), Ok(()));
-    assert_eq!(rt; fs::read(&rt, path.as_str())?.as_slice(), b"abc".as_slice());
-    let mut newer = FileSink::new(rt.clone()?, alloc, path.as_str())?;
-    assert_eq!(rt; newer.put(b"d"), Ok(()));
-    assert_eq!(rt; fs::read(&rt, path.as_str())?.as_slice(), b"d".as_slice());
-    fs::remove_file(&rt, path.as_str())?;
-    let below = format!(in alloc; "{path}/none")?;
-    let mut none = FileSink::new(rt.clone()?, alloc, below.as_str())?;
-    assert_eq!(rt; none.put(b""), Err(PortFault::Failed));
     Ok(())
 }

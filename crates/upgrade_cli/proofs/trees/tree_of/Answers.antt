@@ -3,4 +3,4 @@ use Rattle.upgrade_cli.proofs.trees.tree_of.Goals as goal
 
 pub returns-in_ok-refused-in-Err : goal.returns-in_ok-refused-in-Err
 returns-in_ok-refused-in-Err c =
-    refused c.args.bytes.now c.in-Err.fault c.requires c.in-Err.ensures.only c.in-Err.ensures.fault c.in_ok-refused-in-Err.ensures
+    refused c.args.bytes.items c.in-Err.fault c.requires c.in-Err.ensures.only c.in-Err.ensures.fault c.in_ok-refused-in-Err.ensures

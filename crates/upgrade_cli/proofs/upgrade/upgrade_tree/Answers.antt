@@ -1,13 +1,28 @@
-use Rattle.std.proofs.Common.{sym}
-use Rattle.php_tree.specs.declared.version.Version.TheVariants.{V74}
-use Rattle.php_tree.specs.Whole.{file}
-use Rattle.php_reading.proofs.Trees.{is_printed}
+use Rattle.std.proofs.Common.{◌≡◌, List, length, map, sym, ap, ◌∙◌}
+use Rattle.std.proofs.lemmas.List.{length-map}
+use Rattle.std.proofs.lemmas.List.Sorted.{length_permutation}
+use Rattle.php_rows.specs.File.{file_in}
+use Rattle.syntax_upgrade.specs.declared.found.Found.{Found}
+use Rattle.syntax_upgrade.specs.Found.{found_of}
+use Rattle.syntax_upgrade.specs.Reports.{reports}
 use Rattle.upgrade_cli.proofs.Refusals.{shaped}
 use Rattle.upgrade_cli.proofs.upgrade.upgrade_tree.Goals as goal
 
-pub upgraded-requires-clause-quotable : goal.upgraded-requires-clause-quotable
-upgraded-requires-clause-quotable c =
-    c.quoted_texts_are_walked.ensures (file c.args.tree.now) (shaped c.args.bytes.now (file c.args.tree.now) c.requires.read)
+pub upgraded-requires : goal.upgraded-requires
+upgraded-requires c = record {
+  quotable = c.quoted_texts_are_walked.ensures (file_in c.args.tree.now) (shaped c.requires.0 (file_in c.args.tree.now) c.requires.1);
+}
 
-pub upgraded-requires-clause-bytes : goal.upgraded-requires-clause-bytes
-upgraded-requires-clause-bytes c = sym (is_printed V74 c.args.bytes.now (file c.args.tree.now) c.requires.read)
+pub returns : goal.returns
+returns c =
+    let f = file_in c.args.tree.now in
+    let found = c.in_ok-upgrade.upgrade.reports.items in
+    record {
+      bytes_are = c.in_ok-upgrade.ensures.bytes;
+      edits_are = c.in_ok-upgrade.ensures.edits;
+      reports_are =
+          c.count.ensures
+          ∙ ap (λ (xs : List Found). length xs) c.as_slice.ensures.value
+          ∙ sym (length-map found found_of)
+          ∙ length_permutation (reports f) (map found_of found) c.in_ok-upgrade.ensures.reports;
+    }

@@ -1,0 +1,72 @@
+-- Rows of the tables, each found by its name.
+use Rattle.std.proofs.Common.{◌≡◌, List, [], ◌∷◌, refl, pos, negsuc, codes, Some, None, true}
+use Rattle.builtin_tables.specs.declared.release.Release.TheVariants.{V80, V81, V82, V83}
+use Rattle.builtin_tables.specs.declared.builtin.Builtin.TheVariants.{Strlen, Join, Define, GetClass, IsReal}
+use Rattle.builtin_tables.specs.declared.kinds.ArgumentKind.TheVariants as argument
+use Rattle.builtin_tables.specs.declared.kinds.Change.TheVariants.{Removed}
+use Rattle.builtin_tables.specs.declared.constant.ConstantValue.TheVariants.{Null, Bool, Int, LineEnd}
+use Rattle.builtin_tables.specs.Builtins.{builtin_rows, row_of}
+use Rattle.builtin_tables.specs.Constants.{constant_named, named_constants, word_constants}
+use Rattle.builtin_tables.specs.Named.{found, found_exactly, is_same_name}
+use Rattle.builtin_tables.specs.Newer.{newer_functions, newer_classes, newer_constants}
+
+-- `StrLen` is `strlen`, and `implode` has two names
+named_strlen : found builtin_rows (codes "StrLen") ≡ Some Strlen
+unfolding builtin_rows is_same_name
+named_strlen = refl
+
+named_join : found builtin_rows (codes "JOIN") ≡ Some Join
+unfolding builtin_rows is_same_name
+named_join = refl
+
+named_nowhere : found builtin_rows (codes "printf") ≡ None
+unfolding builtin_rows is_same_name
+named_nowhere = refl
+
+-- `define` may have a third argument, and `get_class` has none
+two_of_define : (row_of Define).required ≡ 2
+two_of_define = refl
+
+none_of_get_class : (row_of GetClass).arguments ≡ []
+none_of_get_class = refl
+
+removed_is_real : (row_of IsReal).change ≡ Removed
+removed_is_real = refl
+
+-- 8.0 declares `str_contains` and `Stringable`, 8.2 a class in a namespace, 8.3 `json_validate`
+newer_str_contains : found newer_functions (codes "Str_Contains") ≡ Some V80
+unfolding newer_functions is_same_name
+newer_str_contains = refl
+
+newer_json_validate : found newer_functions (codes "json_validate") ≡ Some V83
+unfolding newer_functions is_same_name
+newer_json_validate = refl
+
+newer_stringable : found newer_classes (codes "Stringable") ≡ Some V80
+unfolding newer_classes is_same_name
+newer_stringable = refl
+
+newer_randomizer : found newer_classes (codes "Random\\Randomizer") ≡ Some V82
+unfolding newer_classes is_same_name
+newer_randomizer = refl
+
+newer_enum_token : found_exactly newer_constants (codes "T_ENUM") ≡ Some V81
+unfolding newer_constants
+newer_enum_token = refl
+
+-- words are told apart without case, other constants with case; `E_ALL` is none
+constant_true : constant_named (codes "True") ≡ Some (Bool true)
+unfolding word_constants is_same_name
+constant_true = refl
+
+constant_least : constant_named (codes "PHP_INT_MIN") ≡ Some (Int (negsuc 9223372036854775807))
+unfolding word_constants named_constants is_same_name
+constant_least = refl
+
+constant_in_lower_case : constant_named (codes "php_eol") ≡ None
+unfolding word_constants named_constants is_same_name
+constant_in_lower_case = refl
+
+constant_all_errors : constant_named (codes "E_ALL") ≡ None
+unfolding word_constants named_constants is_same_name
+constant_all_errors = refl

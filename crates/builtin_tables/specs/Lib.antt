@@ -1,0 +1,4 @@
+pub mod Builtins
+pub mod Constants
+pub mod Named
+pub mod Newer

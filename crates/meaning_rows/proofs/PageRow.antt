@@ -1,0 +1,10 @@
+-- The page, computed in both versions.
+use Rattle.std.proofs.Common.{refl}
+use Rattle.builtin_tables.specs.Builtins.{builtin_rows}
+use Rattle.builtin_tables.specs.Constants.{named_constants, word_constants}
+use Rattle.builtin_tables.specs.Named.{is_same_name}
+use Rattle.meaning_rows.specs.Page.{PageComes}
+
+pub page : PageComes
+unfolding builtin_rows named_constants word_constants is_same_name
+page = (refl, refl)

@@ -1,0 +1,4 @@
+pub mod Words
+pub mod Page
+pub mod Values
+pub mod Unlisted

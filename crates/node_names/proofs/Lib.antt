@@ -1,0 +1,5 @@
+mod ComparedLemmas
+mod FormLemmas
+mod NameRows
+mod ResultLemmas
+mod SlotRows

@@ -1,0 +1,10 @@
+use Rattle.std.proofs.Common.{◌≡◌, ◌++◌, drop, map}
+use Rattle.scope_names.specs.Sites.{in_space}
+use Rattle.node_names.specs.Compared.{names_of}
+use Rattle.node_names.specs.Seen.{texts_of}
+use Rattle.node_names.proofs.comparing.space_names.Given as goal
+
+abbrev pub invariant-loop-word : goal.invariant-loop-word
+invariant-loop-word l =
+    l.names.items ++ names_of l.sort (map (in_space l.space) (texts_of (drop l.word-index l.words)))
+    ≡ names_of l.sort (map (in_space l.space) (texts_of l.words))

@@ -1,0 +1,86 @@
+-- Calls of builtin functions. (PHP manual, "Functions", `get_class`, `define`; UPGRADING 8.0, removed functions.)
+use Rattle.std.specs.Prelude.{ℕ, zero, suc, Bool, true, false, cond, if◌then◌else◌, List, [], ◌∷◌, pos, Option, Some, None}
+use Rattle.builtin_tables.specs.declared.builtin.Builtin.{Builtin}
+use Rattle.builtin_tables.specs.declared.builtin.Builtin.TheVariants as builtin
+use Rattle.builtin_tables.specs.declared.kinds.Change.{Change}
+use Rattle.builtin_tables.specs.declared.kinds.Change.TheVariants.{Same, PastEnd, Needle, Exchanged, ConstantCase, Removed}
+use Rattle.builtin_tables.specs.Builtins.{builtin_rows, row_of}
+use Rattle.builtin_tables.specs.Named as table
+use Rattle.php_meaning.specs.Value.{Value, Null, Truth, Text, IntKey, Arr, Entries, none, own, shared}
+use Rattle.php_meaning.specs.Cause.{Call, Error}
+use Rattle.php_meaning.specs.Differences.{Differs}
+use Rattle.php_meaning.specs.Differences as difference
+use Rattle.php_meaning.specs.Arrays.{Own, behind}
+use Rattle.php_meaning.specs.World.{Bytes, Store}
+use Rattle.php_meaning.specs.Sites.{Site}
+use Rattle.php_meaning.specs.Stores.{cells_of}
+use Rattle.php_meaning.specs.Script.{Fresh, Handed, Kid, Script, Give, Stop, Look, Run, give, child_value, value_then, given, asking, comes, throws}
+use Rattle.php_meaning.specs.builtins.Arguments.{takes}
+use Rattle.php_meaning.specs.builtins.Answers.{answer}
+use Rattle.php_meaning.specs.builtins.Constants.{define}
+
+-- the builtin with one of these names, the first name first
+abbrev pub builtin_named : List Bytes → Option Builtin
+builtin_named [] = None
+builtin_named (n ∷ ns) = elim (table.found builtin_rows n) [ Some b ↦ Some b | None ↦ builtin_named ns ]
+
+-- ---- arguments
+
+-- The values of the children from `i` on, behind those so far, as they are: a builtin copies nothing.
+abbrev pub handed : ℕ → ℕ → Entries → Script
+handed i zero es = Give (Fresh (Arr None i es))
+handed i (suc n) es = child_value i (λ v. handed (suc i) n (behind es (IntKey (pos i)) i (Own v)))
+
+abbrev pub values_of_entries : Store → Entries → List Value
+values_of_entries s none = []
+values_of_entries s (own k n v rest) = v ∷ values_of_entries s rest
+values_of_entries s (shared k n c rest) = s.held c ∷ values_of_entries s rest
+
+-- the values that were passed
+abbrev pub values_of : Store → Value → List Value
+values_of s (Arr largest next es) = values_of_entries s es
+values_of s v = []
+
+-- ---- the functions that look at more than values
+
+-- `get_class` without arguments: the class around the call; outside where there is none
+abbrev pub class_around : Site → List Value → Script
+class_around s [] = elim s.class [ Some name ↦ give (Text name) | None ↦ Stop Call ]
+class_around s vs = Stop Call
+
+abbrev pub define_of : Store → List Value → Script
+define_of s (Text name ∷ v ∷ []) = define s name v false
+define_of s (Text name ∷ v ∷ Truth b ∷ []) = define s name v b
+define_of s vs = Stop Call
+
+abbrev pub unless_refused : Store → Builtin → List Value → Script → Script
+unless_refused s b vs k = if takes (cells_of s) (row_of b) vs then k else Stop Call
+
+-- what a builtin does with the values that were passed
+abbrev pub answering : Site → Store → Builtin → List Value → Script
+answering s st builtin.GetClass vs = class_around s vs
+answering s st builtin.Define vs = unless_refused st builtin.Define vs (define_of st vs)
+answering s st b vs = asking (answer b (cells_of st) vs) (λ r. given r comes)
+
+-- ---- calls
+
+abbrev pub is_removed : Change → Bool
+is_removed Same = false
+is_removed PastEnd = false
+is_removed Needle = false
+is_removed Exchanged = false
+is_removed ConstantCase = false
+is_removed Removed = true
+
+-- the arguments of the child `i`, and then the builtin
+abbrev pub call_there : Site → ℕ → Builtin → Script
+call_there s i b = Run (Kid i Handed) (value_then (λ es. Look (λ st. answering s st b (values_of st es))))
+
+-- A builtin is called, where there is one: what 8.3 has no more throws there before its arguments are evaluated, as what
+-- neither version has.
+abbrev pub call_builtin : Site → ℕ → Option Builtin → Script
+call_builtin s i None = throws Error
+call_builtin s i (Some b) =
+    if is_removed (row_of b).change
+    then asking (Differs difference.Builtin true false) (λ there. cond there (call_there s i b) (throws Error))
+    else call_there s i b

@@ -1,0 +1,12 @@
+pub mod Flattened
+pub mod Closing
+pub mod RowReads
+pub mod Roundtrip
+pub mod Growing
+pub mod Fitting
+pub mod TokensRead
+pub mod Leaves
+pub mod Found
+pub mod LastNode
+pub mod Whole
+pub mod Adding

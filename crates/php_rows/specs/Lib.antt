@@ -1,0 +1,4 @@
+pub mod Flatten
+pub mod Rows
+pub mod Reading
+pub mod File

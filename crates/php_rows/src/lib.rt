@@ -1,0 +1,17 @@
+//! Trees as rows: each node stands before those inside it.
+#![tactic(auto)]
+
+mod file;
+mod flat;
+mod flattening;
+mod inner;
+mod next;
+mod parts;
+mod row;
+mod views;
+
+pub use file::RowTree;
+pub use flat::Flat;
+pub use flattening::row_of;
+pub use parts::{Parts, Step};
+pub use row::Row;

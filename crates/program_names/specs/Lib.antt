@@ -1,0 +1,4 @@
+pub mod Files
+pub mod Whole
+pub mod Table
+pub mod Classes

@@ -1,0 +1,5 @@
+pub mod Head
+pub mod HeadBytes
+pub mod Refusals
+pub mod Stops
+pub mod Taken

@@ -1,5 +1,0 @@
-use Rattle.syntax_edits.proofs.Styles.{inside_written}
-use Rattle.syntax_edits.proofs.laws.insides_are_written.Goals as goal
-
-pub returns : goal.returns
-returns c = inside_written

@@ -1,5 +1,0 @@
-use Rattle.syntax_edits.proofs.Names.{node_written}
-use Rattle.syntax_edits.proofs.laws.nodes_are_written.Goals as goal
-
-pub returns : goal.returns
-returns c = node_written

@@ -1,9 +1,0 @@
-pub mod ChildEnds
-pub mod Parts
-pub mod NodeRules
-pub mod DollarBraces
-pub mod DollarEdits
-pub mod ReservedName
-pub mod TokenStandings
-pub mod Places
-pub mod Rows

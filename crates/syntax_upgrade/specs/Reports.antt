@@ -1,0 +1,45 @@
+-- The reports of a file, in the order of a walk: the places at which a rule on syntax is undecided.
+use Rattle.std.specs.Prelude.{ℕ, zero, suc, ◌+◌, ◌&&◌, if◌then◌else◌, List, [], ◌∷◌, ◌++◌, length}
+use Rattle.rule_tables.specs.declared.cause.Cause.TheVariants.{Shape}
+use Rattle.rule_tables.specs.declared.rule.RuleId.TheVariants as rule
+use Rattle.php_tree.specs.declared.kind.NodeKind.{NodeKind}
+use Rattle.php_tree.specs.declared.kind.NodeKind.TheVariants as kind
+use Rattle.php_tree.specs.declared.token.Token.{Token}
+use Rattle.php_tree.specs.Tree.{Forest, none, leaf, node, Tree, File, leaves, file_leaves}
+use Rattle.php_tree.specs.Places.{behind, end_of}
+use Rattle.php_terminals.specs.declared.terminal.Terminal.TheVariants as t
+use Rattle.php_terminals.specs.Classify.{terminal}
+use Rattle.syntax_rules.specs.UnsetCast.{is_undecided}
+use Rattle.syntax_upgrade.specs.Found.{Report, undecided}
+use Rattle.syntax_upgrade.specs.NameHeads.{head_at}
+use Rattle.syntax_upgrade.specs.ReservedName.{Standing, at_first, past, past_node, class_by, next, is_last, refuses, refuses_last, refused_if}
+use Rattle.syntax_upgrade.specs.Enums.{enums}
+
+-- where the text of the first of some tokens begins, whose trivia begin at a place
+abbrev pub text_start : ℕ → List Token → ℕ
+text_start at [] = at
+text_start at (x ∷ xs) = at + length x.lead
+
+-- a cast `(unset)` of anything but a plain variable: it stays, for its shape
+abbrev pub cast_reports : ℕ → Tree → List Report
+cast_reports at n =
+    if is_undecided n then undecided rule.UnsetCast Shape (text_start at (leaves n.1)) (end_of at n.1) ∷ [] else []
+
+-- The rules that report a node whose trivia begin at a place: one line a rule.
+abbrev pub at_node : ℕ → Tree → List Report
+at_node at n = cast_reports at n
+
+-- Those of the own parts of a node, the first so many tokens inside a name, and of the nodes inside it.
+abbrev pub reports_in : NodeKind → Standing → ℕ → ℕ → Forest → List Report
+reports_in k s more at none = []
+reports_in k s zero at (leaf x f) =
+    refused_if (is_last (head_at x f).more && refuses k s (terminal x) (next f)) at x
+    ++ reports_in k (past s (class_by (head_at x f).more (terminal x))) (head_at x f).more (behind at x) f
+reports_in k s (suc more) at (leaf x f) =
+    refused_if (is_last more && refuses_last k s (terminal x) (next f)) at x ++ reports_in k s more (behind at x) f
+reports_in k s more at (node j b f) =
+    (reports_in j at_first zero at b ++ at_node at (j, b)) ++ reports_in k (past_node s) zero (end_of at b) f
+
+-- The reports of a file: its statements stand as in a block, and the labels `enum` that 8.1 reads as a keyword come last.
+abbrev pub reports : File → List Report
+reports f = reports_in kind.Block at_first zero 0 f.statements ++ enums t.End 0 (file_leaves f)

@@ -1,0 +1,57 @@
+// What is reported.
+ghost use Rattle.std.specs.Prelude.{◌≡◌, ◌≤◌, ◌+◌, ◌*◌, ◌^◌, ◌++◌, ◌∷◌, [], map, IfOk, OnOk};
+ghost use Rattle.std.specs.List.Sorted.{IsNonDecreasingBy, IsPermutation};
+ghost use Rattle.rule_tables.specs.Rules.{number_of, undecided_weight_of};
+ghost use Rattle.syntax_upgrade.specs.Found.{found_of, order_of};
+
+use rule_tables::{Cause, RuleId, Span, Weight};
+use std::alloc::AllocError;
+
+/// A place of a rule that stays as it is, in bytes of the file, with its cause and its weight.
+#[derive(Clone, Copy, Debug, PartialEq, Eq)]
+pub struct Found {
+    pub span: Span,
+    pub rule: RuleId,
+    pub cause: Cause,
+    pub weight: Weight,
+}
+
+/// Puts an undecided place of a rule behind others.
+pub(crate) fn add(
+    start: u32,
+    end: u32,
+    rule: RuleId,
+    cause: Cause,
+    out: &mut Vec<Found>,
+) -> Result<(), AllocError>
+    requires { start ≤ end }
+    ensures { OnOk result (map found_of out.new.items ≡ map found_of out.old.items
+        ++ record { start = start; end = end; rule = rule; cause = cause; weight = undecided_weight_of rule } ∷ []) }
+{
+    out.push(Found {
+        span: Span { start, end },
+        rule,
+        cause,
+        weight: rule.undecided_weight(),
+    })?;
+    Ok(())
+}
+
+// A number by which places are in order of start, then end, then the rule's number.
+fn order(place: &Found) -> u128
+    ensures { result ≡ order_of place.now }
+{
+    place.span.start as u128 * 4_294_967_296 * 65_536
+        + place.span.end as u128 * 65_536
+        + place.rule.number() as u128
+}
+
+/// The places in order of start, then end, then the rule's number.
+pub(crate) fn in_order(places: Vec<Found>) -> Result<Vec<Found>, AllocError>
+    ensures same { IfOk result (λ v. IsPermutation places.items v.items) }
+    ensures ordered { IfOk result (λ v. IsNonDecreasingBy order_of v.items) }
+{
+    let mut sorted = places;
+    sorted.sort_by_key(|place| order(place))?;
+    Ok(sorted)
+}

@@ -1,3 +1,0 @@
-pub mod EditLemmas
-pub mod NameHeadLemmas
-pub mod NamesFoundLemmas

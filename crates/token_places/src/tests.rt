@@ -1,3 +1,0 @@
-// The places in small rows of tokens, worked out by hand.
-mod rows;
-mod table;

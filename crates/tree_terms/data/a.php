@@ -1,0 +1,1 @@
+<?php echo "a\n" . strlen($x["k"]), 'é';

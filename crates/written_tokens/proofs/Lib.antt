@@ -1,0 +1,5 @@
+pub mod tokens
+pub mod tiles
+pub mod texts
+pub mod drafts
+pub mod names
