@@ -7,7 +7,7 @@ use Rattle.builtin_tables.specs.Builtins.{builtin_rows}
 use Rattle.builtin_tables.specs.Constants.{named_constants, word_constants}
 use Rattle.builtin_tables.specs.Named.{is_same_name}
 use Rattle.php_meaning.specs.Cause.{Conversion, Overflow}
-use Rattle.php_meaning.specs.World.{Going}
+use Rattle.php_meaning.specs.runs.World.{Going}
 use Rattle.meaning_rows.specs.Words.{t, b, file, ended, outside, Comes}
 
 -- <?php echo 1 + 2 * 3, 7 - 10, 10 / 5, 17 % 5, -17 % 5, 2 - -2, +'5', -'6';

@@ -6,7 +6,7 @@ use Rattle.php_tree.specs.Tree.{Forest, none, node}
 use Rattle.builtin_tables.specs.Builtins.{builtin_rows}
 use Rattle.builtin_tables.specs.Constants.{named_constants, word_constants}
 use Rattle.builtin_tables.specs.Named.{is_same_name}
-use Rattle.php_meaning.specs.World.{Threw}
+use Rattle.php_meaning.specs.runs.World.{Threw}
 use Rattle.meaning_rows.specs.Words.{t, b, file, ended, Comes}
 
 -- <?php function f($n) { if ($n > 1) throw new LogicException('big', 7); return $n; } try { echo f(1), f(2), 'no'; } catch (RuntimeException $e) { echo 'R'; } catch (LogicException $e) { echo $e->getMessage(), $e->getCode(); }

@@ -6,7 +6,7 @@ use Rattle.php_tree.specs.Tree.{Forest, none, node}
 use Rattle.builtin_tables.specs.Builtins.{builtin_rows}
 use Rattle.builtin_tables.specs.Constants.{named_constants, word_constants}
 use Rattle.builtin_tables.specs.Named.{is_same_name}
-use Rattle.php_meaning.specs.World.{Going}
+use Rattle.php_meaning.specs.runs.World.{Going}
 use Rattle.meaning_rows.specs.Words.{t, b, file, ended, Comes}
 
 -- <?php function f() { f(); } f();

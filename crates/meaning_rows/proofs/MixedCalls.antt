@@ -6,7 +6,7 @@ use Rattle.php_tree.specs.Tree.{Forest, none, node}
 use Rattle.builtin_tables.specs.Builtins.{builtin_rows}
 use Rattle.builtin_tables.specs.Constants.{named_constants, word_constants}
 use Rattle.builtin_tables.specs.Named.{is_same_name}
-use Rattle.php_meaning.specs.World.{Threw}
+use Rattle.php_meaning.specs.runs.World.{Threw}
 use Rattle.meaning_rows.specs.Words.{t, b, file, ended, Comes}
 
 -- <?php echo g(3), f(1, 2); function f($a, $b = 5, $c = 'z') { return $a . $b . $c; } function g($n) { if ($n == 0) return 'e'; return $n . g($n - 1); } function h(&$r, $d = 5) { $r .= $d; } $q = 'a'; h($q); h($q, 'z'); echo $q; function s() { static $n = 0, $m; $n++; return $n; } s(); s(); echo s();

@@ -6,7 +6,7 @@ use Rattle.php_tree.specs.Tree.{Forest, none, node}
 use Rattle.builtin_tables.specs.Builtins.{builtin_rows}
 use Rattle.builtin_tables.specs.Constants.{named_constants, word_constants}
 use Rattle.builtin_tables.specs.Named.{is_same_name}
-use Rattle.php_meaning.specs.World.{Ended}
+use Rattle.php_meaning.specs.runs.World.{Ended}
 use Rattle.meaning_rows.specs.Words.{t, b, file, ended, Comes}
 
 -- <?php namespace N\M; use N\M\Inner as I; class Inner { function n() { return __CLASS__; } } function f() { return 'ns'; } const C = 'c'; echo f(), \strlen('abc'), strlen('ab'), namespace\f(), C, \N\M\C; $i = new I; echo $i->n(), __NAMESPACE__; try { throw new \LogicException('m'); } catch (\Error | \LogicException $x) { echo $x->getMessage(); }

@@ -2,10 +2,10 @@
 use Rattle.std.specs.Prelude.{◌≡◌, false, List}
 use Rattle.builtin_tables.specs.declared.builtin.Builtin.{Builtin}
 use Rattle.builtin_tables.specs.Builtins.{row_of}
-use Rattle.php_meaning.specs.Value.{Value}
+use Rattle.php_meaning.specs.values.Value.{Value}
 use Rattle.php_meaning.specs.Cause.{Call, Outside}
 use Rattle.php_meaning.specs.Differences.{Alike}
-use Rattle.php_meaning.specs.Cells.{Cells}
+use Rattle.php_meaning.specs.values.Cells.{Cells}
 use Rattle.php_meaning.specs.builtins.Arguments.{takes}
 use Rattle.php_meaning.specs.builtins.Answers.{answer}
 

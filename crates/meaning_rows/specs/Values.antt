@@ -3,11 +3,11 @@ use Rattle.std.specs.Prelude.{◌≡◌, ℕ, suc, true, false, List, [], ◌∷
 use Prim.Native.String.{String}
 use Rattle.builtin_tables.specs.declared.builtin.Builtin.{Builtin}
 use Rattle.php_tree.specs.declared.version.Version.TheVariants.{V74, V83}
-use Rattle.php_meaning.specs.Value.{Key, IntKey, TextKey, Value, Null, Truth, Int, Text, Entries, none}
+use Rattle.php_meaning.specs.values.Value.{Key, IntKey, TextKey, Value, Null, Truth, Int, Text, Entries, none}
 use Rattle.php_meaning.specs.Cause.{Cause, Outcome, Gives, Outside, Came, Returns, Throws, ExceptionClass}
 use Rattle.php_meaning.specs.Differences.{ByVersion, in_version}
-use Rattle.php_meaning.specs.Cells.{Cells}
-use Rattle.php_meaning.specs.Arrays.{Array, Own, array, empty_array, added}
+use Rattle.php_meaning.specs.values.Cells.{Cells}
+use Rattle.php_meaning.specs.values.Arrays.{Array, Own, array, empty_array, added}
 use Rattle.php_meaning.specs.builtins.Answers.{answer}
 
 abbrev pub text : String → Value

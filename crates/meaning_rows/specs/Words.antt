@@ -7,9 +7,9 @@ use Rattle.php_tree.specs.declared.version.Version.{Version}
 use Rattle.php_tree.specs.declared.version.Version.TheVariants.{V74, V83}
 use Rattle.php_tree.specs.Tree.{Forest, leaf}
 use Rattle.php_meaning.specs.Cause.{Cause}
-use Rattle.php_meaning.specs.World.{Bytes, Place, End, Going, Ended, Threw, Outside}
-use Rattle.php_meaning.specs.Input.{Input, nothing, item, SentText}
-use Rattle.php_meaning.specs.Run.{Program, run}
+use Rattle.php_meaning.specs.runs.World.{Bytes, Place, End, Going, Ended, Threw, Outside}
+use Rattle.php_meaning.specs.runs.Input.{Input, nothing, item, SentText}
+use Rattle.php_meaning.specs.runs.Run.{Program, run}
 
 -- a token by its bytes, without trivia, and what follows it
 abbrev pub b : TokenKind → Bytes → Forest → Forest

@@ -6,20 +6,20 @@ use Rattle.std.proofs.lemmas.Slice.Eq.{bytes_eq-Decides}
 use Rattle.std.proofs.lemmas.Bool.{true≢false}
 use Rattle.php_tree.specs.declared.kind.NodeKind.{NodeKind}
 use Rattle.php_tree.specs.Tree.{Forest, none, node, count}
-use Rattle.php_meaning.specs.Slot.{Declared}
-use Rattle.php_meaning.specs.Form.{parts, form, kids}
-use Rattle.php_meaning.specs.Sites.{Site, file_site, is_declaration, declarations, within, beside}
-use Rattle.php_meaning.specs.Tables.{Tables, tables_of}
+use Rattle.scope_names.specs.Slot.{Declared}
+use Rattle.scope_names.specs.Form.{parts, form, kids}
+use Rattle.scope_names.specs.Sites.{Site, file_site, is_declaration, declarations, within, beside}
+use Rattle.php_meaning.specs.names.Tables.{Tables, tables_of}
 use Rattle.php_meaning.specs.Cause.{NoRule}
-use Rattle.php_meaning.specs.Value.{Value}
-use Rattle.php_meaning.specs.World.{Asked, Visit, Moment, Store, Bytes, Place, Going, Outside, Before, World}
-use Rattle.php_meaning.specs.Script.{Return, Throw, Break, Continue, Out, Val, Fresh, At, Jump, Mode, Target, Kid, Again, There, File, Script, Give, Stop, Finish, Look, Put, Echo, Turn, Ask, Run}
+use Rattle.php_meaning.specs.values.Value.{Value}
+use Rattle.php_meaning.specs.runs.World.{Asked, Visit, Moment, Store, Bytes, Place, Going, Outside, Before, World}
+use Rattle.php_meaning.specs.runs.Script.{Return, Throw, Break, Continue, Out, Val, Fresh, At, Jump, Mode, Target, Kid, Again, There, File, Script, Give, Stop, Finish, Look, Put, Echo, Turn, Ask, Run}
 use Rattle.php_meaning.specs.Rules.{rule, file_script}
-use Rattle.php_meaning.specs.Statements.{is_statement}
-use Rattle.php_meaning.specs.Run.{begun, Program, Mark, file_at, is_stopped, is_refused, Result, Done, Over, then_do, with_turn, play, Entry, FileStart, DeclarationStart, place_in, place_of_file, told, moment_of, value_of, left, starting, unless_stopped, going, passes, at_node, step, run_file, declared_in, run_declared, unless_refused, enter, first_world, answer, and_start, start_all}
-use Rattle.php_meaning.specs.Laws.{IsInside, SameRun}
-use Rattle.php_meaning.specs.Following.{Same, DoneAlike, OverAlike}
-use Rattle.php_meaning.specs.Across.{Claim, AskedAt, Show, Meets, Extends, world_in, Grown, FollowsAcross, Across, IsRewritten, nothing, token_before, token_behind, same, replaced, kept, wrapped, AreRewritten, no_more, one_more, RewrittenRunsAcross}
+use Rattle.php_meaning.specs.runs.Kinds.{is_statement}
+use Rattle.php_meaning.specs.runs.Run.{begun, Program, Mark, file_at, is_stopped, is_refused, Result, Done, Over, then_do, with_turn, play, Entry, FileStart, DeclarationStart, place_in, place_of_file, told, moment_of, value_of, left, starting, unless_stopped, going, passes, at_node, step, run_file, declared_in, run_declared, unless_refused, enter, first_world, answer, and_start, start_all}
+use Rattle.php_meaning.specs.laws.Laws.{IsInside, SameRun}
+use Rattle.php_meaning.specs.laws.Following.{Same, DoneAlike, OverAlike}
+use Rattle.php_meaning.specs.laws.Across.{Claim, AskedAt, Show, Meets, Extends, world_in, Grown, FollowsAcross, Across, IsRewritten, nothing, token_before, token_behind, same, replaced, kept, wrapped, AreRewritten, no_more, one_more, RewrittenRunsAcross}
 use Rattle.php_meaning.proofs.Alike.{passed, kids_behind, answer_same}
 
 below : (p : Place → Bool) (front old : List Asked) → AskedAt p (front ++ old) → AskedAt p old

@@ -7,20 +7,20 @@ use Rattle.php_tree.specs.declared.token.TokenKind.TheVariants as token
 use Rattle.php_tree.specs.declared.token.Token.{Token}
 use Rattle.php_tree.specs.declared.kind.NodeKind.{NodeKind}
 use Rattle.php_tree.specs.Tree.{Forest, none, leaf, node, count}
-use Rattle.php_meaning.specs.Slot.{Declared}
-use Rattle.php_meaning.specs.Form.{Form, Part, word, child, joins, part_of, part_before, bits, parts, form, kids}
-use Rattle.php_meaning.specs.Sites.{Site, file_site, is_declaration, declarations, one_if, within, beside}
-use Rattle.php_meaning.specs.Tables.{Tables, tables_of}
+use Rattle.scope_names.specs.Slot.{Declared}
+use Rattle.scope_names.specs.Form.{Form, Part, word, child, joins, part_of, part_before, bits, parts, form, kids}
+use Rattle.scope_names.specs.Sites.{Site, file_site, is_declaration, declarations, one_if, within, beside}
+use Rattle.php_meaning.specs.names.Tables.{Tables, tables_of}
 use Rattle.php_meaning.specs.Cause.{NoRule}
-use Rattle.php_meaning.specs.World.{Store, Bytes, Place, Going, Outside, Before, World}
-use Rattle.php_meaning.specs.Script.{Return, Throw, Break, Continue, Out, Val, Fresh, At, Jump, Mode, Target, Kid, Again, There, File, Script, Give, Stop, Finish, Look, Put, Echo, Turn, Ask, Run}
+use Rattle.php_meaning.specs.runs.World.{Store, Bytes, Place, Going, Outside, Before, World}
+use Rattle.php_meaning.specs.runs.Script.{Return, Throw, Break, Continue, Out, Val, Fresh, At, Jump, Mode, Target, Kid, Again, There, File, Script, Give, Stop, Finish, Look, Put, Echo, Turn, Ask, Run}
 use Rattle.php_meaning.specs.Rules.{rule, file_script}
-use Rattle.php_meaning.specs.Statements.{is_statement}
-use Rattle.php_meaning.specs.Input.{Input}
-use Rattle.php_meaning.specs.Run.{begun, Program, Mark, file_at, is_stopped, is_refused, Result, Done, Over, then_do, with_turn, play, Entry, FileStart, DeclarationStart, place_in, place_of_file, told, left, starting, unless_stopped, going, passes, at_node, step, run_file, declared_in, run_declared, unless_refused, enter, first_world, end_of_file, answer, and_start, start_all, run_of}
-use Rattle.php_meaning.specs.Laws.{IsInside, SameRun}
-use Rattle.php_meaning.specs.Following.{Same, Follows, Alike}
-use Rattle.php_meaning.specs.SameScripts.{HasScriptsOf, nothing, token_before, token_behind, same, replaced, kept, wrapped, HaveScriptsOf, no_more, one_more, DeclareAlike}
+use Rattle.php_meaning.specs.runs.Kinds.{is_statement}
+use Rattle.php_meaning.specs.runs.Input.{Input}
+use Rattle.php_meaning.specs.runs.Run.{begun, Program, Mark, file_at, is_stopped, is_refused, Result, Done, Over, then_do, with_turn, play, Entry, FileStart, DeclarationStart, place_in, place_of_file, told, left, starting, unless_stopped, going, passes, at_node, step, run_file, declared_in, run_declared, unless_refused, enter, first_world, end_of_file, answer, and_start, start_all, run_of}
+use Rattle.php_meaning.specs.laws.Laws.{IsInside, SameRun}
+use Rattle.php_meaning.specs.laws.Following.{Same, Follows, Alike}
+use Rattle.php_meaning.specs.laws.SameScripts.{HasScriptsOf, nothing, token_before, token_behind, same, replaced, kept, wrapped, HaveScriptsOf, no_more, one_more, DeclareAlike}
 
 then_follows : (r q : Result) (k l : Out → World → Result) → Follows r q → ((o : Out) → Alike (k o) (l o)) → Follows (then_do r k) (then_do q l)
 then_follows (Done o w) (Done p u) k l f h = subst (λ x. Follows (k o w) (l x u)) (sym f.0) ((h o).follows w u f.1)

@@ -8,19 +8,20 @@ use Rattle.php_tree.specs.declared.kind.NodeKind.TheVariants as kind
 use Rattle.std.proofs.lemmas.Bool.{true≢false}
 use Rattle.php_tree.specs.declared.version.Version.TheVariants.{V74, V83}
 use Rattle.php_tree.specs.Tree.{Forest, none, leaf, node}
-use Rattle.php_meaning.specs.World.{Bytes}
-use Rattle.php_meaning.specs.Script.{Mode, Read, Quiet, Write, Later}
-use Rattle.php_meaning.specs.Slot.{Declared}
-use Rattle.php_meaning.specs.Form.{Form, Part, word, child, part_of, part_before, parts, bits, form, kids, joins, is_name_part, is_namespace, first_is, is_backslash}
-use Rattle.php_meaning.specs.Sites.{Site, file_site, is_declaration, is_expression, declarations, one_if, declared_here, within, within_form, beside, names_beside}
-use Rattle.php_meaning.specs.Tables.{Tables, tables_of, listed, entry, holder, keeps_top, kid_forms, kid_before}
-use Rattle.php_meaning.specs.Loops.{switch}
-use Rattle.php_meaning.specs.Bodies.{global_all}
-use Rattle.php_meaning.specs.Expressions.{array_literal, isset, unset_all}
+use Rattle.php_meaning.specs.runs.World.{Bytes}
+use Rattle.php_meaning.specs.runs.Script.{Mode, Read, Quiet, Write, Later}
+use Rattle.scope_names.specs.Slot.{Declared}
+use Rattle.scope_names.specs.Form.{Form, Part, word, child, part_of, part_before, parts, bits, form, kids, joins, is_name_part, is_namespace, first_is, is_backslash}
+use Rattle.scope_names.specs.Sites.{Site, file_site, is_declaration, declarations, one_if, declared_here, within, within_form, beside, names_beside}
+use Rattle.php_meaning.specs.runs.Kinds.{is_expression}
+use Rattle.php_meaning.specs.names.Tables.{Tables, tables_of, listed, entry, holder, keeps_top, kid_forms, kid_before}
+use Rattle.php_meaning.specs.statements.Loops.{switch}
+use Rattle.php_meaning.specs.calls.Bodies.{global_all}
+use Rattle.php_meaning.specs.expressions.Expressions.{array_literal, isset, unset_all}
 use Rattle.php_meaning.specs.Rules.{rule, reading, reading_quietly, locating, running, run_all, return, choices, exit, echo_all, ternary}
-use Rattle.php_meaning.specs.Run.{Program, is_newer, run}
-use Rattle.php_meaning.specs.Laws.{IsInside, SameRun, ParensChangeNoRun, ParensKeepMeaning, MarksOnlyStop, Parenthesized, ends, token, inner, parens, AreParenthesized, no_files, file}
-use Rattle.php_meaning.specs.SameScripts.{HasScriptsOf, nothing, token_before, token_behind, same, wrapped, HaveScriptsOf, no_more, one_more, DeclareAlike, SameScriptsKeepMeaning, NamesAsOneToken, counts_children, OtherTokensCountNothing}
+use Rattle.php_meaning.specs.runs.Run.{Program, is_newer, run}
+use Rattle.php_meaning.specs.laws.Laws.{IsInside, SameRun, ParensChangeNoRun, ParensKeepMeaning, MarksOnlyStop, Parenthesized, ends, token, inner, parens, AreParenthesized, no_files, file}
+use Rattle.php_meaning.specs.laws.SameScripts.{HasScriptsOf, nothing, token_before, token_behind, same, wrapped, HaveScriptsOf, no_more, one_more, DeclareAlike, SameScriptsKeepMeaning, NamesAsOneToken, counts_children, OtherTokensCountNothing}
 use Rattle.php_meaning.proofs.Alike.{scripts_alike}
 use Rattle.php_meaning.proofs.Unasked.{same_where_unasked}
 

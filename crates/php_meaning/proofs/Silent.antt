@@ -6,24 +6,24 @@ use Rattle.php_tree.specs.declared.kind.NodeKind.{NodeKind}
 use Rattle.php_tree.specs.declared.kind.NodeKind.TheVariants as kind
 use Rattle.php_tree.specs.declared.version.Version.TheVariants.{V74}
 use Rattle.php_tree.specs.Tree.{Forest, none, leaf, node, count}
-use Rattle.php_meaning.specs.Slot.{Declared}
-use Rattle.php_meaning.specs.Form.{Form, form, kids, texts}
-use Rattle.php_meaning.specs.Sites.{Site, file_site, is_declaration, within, beside}
-use Rattle.php_meaning.specs.Tables.{Tables, tables_of}
-use Rattle.php_meaning.specs.Value.{Value}
+use Rattle.scope_names.specs.Slot.{Declared}
+use Rattle.scope_names.specs.Form.{Form, form, kids, texts}
+use Rattle.scope_names.specs.Sites.{Site, file_site, is_declaration, within, beside}
+use Rattle.php_meaning.specs.names.Tables.{Tables, tables_of}
+use Rattle.php_meaning.specs.values.Value.{Value}
 use Rattle.php_meaning.specs.Cause.{NoRule, Outcome, Gives, Outside, Came, Returns, Throws, outcome_map}
-use Rattle.php_meaning.specs.Convert.{to_text, to_truth}
-use Rattle.php_meaning.specs.World as End
-use Rattle.php_meaning.specs.World.{Store, Asked, Bytes, Place, Before, World}
-use Rattle.php_meaning.specs.Script.{Return, Throw, Break, Continue, Out, Val, Fresh, At, Jump, Mode, Read, Quiet, Write, Target, Kid, Again, There, File, Script, Give, Stop, Finish, Look, Put, Echo, Turn, Ask, Run, value_then, given, comes}
-use Rattle.php_meaning.specs.Arithmetic.{joined}
-use Rattle.php_meaning.specs.Operators.{of_values, binary}
-use Rattle.php_meaning.specs.Literals.{constant_named, name_of}
-use Rattle.php_meaning.specs.TextLiterals.{text_literal}
+use Rattle.php_meaning.specs.values.Convert.{to_text, to_truth}
+use Rattle.php_meaning.specs.runs.World as End
+use Rattle.php_meaning.specs.runs.World.{Store, Asked, Bytes, Place, Before, World}
+use Rattle.php_meaning.specs.runs.Script.{Return, Throw, Break, Continue, Out, Val, Fresh, At, Jump, Mode, Read, Quiet, Write, Target, Kid, Again, There, File, Script, Give, Stop, Finish, Look, Put, Echo, Turn, Ask, Run, value_then, given, comes}
+use Rattle.php_meaning.specs.values.Arithmetic.{joined}
+use Rattle.php_meaning.specs.expressions.Operators.{of_values, binary}
+use Rattle.php_meaning.specs.literals.Literals.{constant_named, name_of}
+use Rattle.php_meaning.specs.literals.TextLiterals.{text_literal}
 use Rattle.php_meaning.specs.Rules.{first_text, run_all, declare_early, is_early, is_there, file_script, echo_all, choices, constant, ternary, short_ternary, reading, reading_quietly, locating, running, rule}
-use Rattle.php_meaning.specs.Statements.{is_statement}
-use Rattle.php_meaning.specs.Run.{begun, Program, Mark, file_at, is_stopped, is_refused, Result, Done, Over, then_do, with_turn, play, Entry, FileStart, DeclarationStart, place_in, place_of_file, told, left, starting, unless_stopped, going, passes, at_node, step, run_file, declared_in, run_declared, unless_refused, enter, first_world, and_start, start_all, is_newer}
-use Rattle.php_meaning.specs.Asking.{may_ask, asks_nothing, AsksNowhere, InsideIsCovered}
+use Rattle.php_meaning.specs.runs.Kinds.{is_statement}
+use Rattle.php_meaning.specs.runs.Run.{begun, Program, Mark, file_at, is_stopped, is_refused, Result, Done, Over, then_do, with_turn, play, Entry, FileStart, DeclarationStart, place_in, place_of_file, told, left, starting, unless_stopped, going, passes, at_node, step, run_file, declared_in, run_declared, unless_refused, enter, first_world, and_start, start_all, is_newer}
+use Rattle.php_meaning.specs.laws.Asking.{may_ask, asks_nothing, AsksNowhere, InsideIsCovered}
 use Rattle.php_meaning.proofs.Unasked.{asked_in, answer_asked}
 
 -- ---- scripts

@@ -5,33 +5,35 @@ use Rattle.std.specs.Prelude.{ℕ, zero, suc, Bool, true, false, not, ◌&&◌, 
 use Rattle.std.specs.Str.{bytes_eq, str_to_ascii_lowercase}
 use Rattle.php_tree.specs.declared.kind.NodeKind.{NodeKind}
 use Rattle.php_tree.specs.declared.kind.NodeKind.TheVariants as kind
-use Rattle.php_meaning.specs.Slot.{Declared}
-use Rattle.php_meaning.specs.Value.{Value, Null, Truth, Int, Text, Object, Arr}
-use Rattle.php_meaning.specs.Value as entries
+use Rattle.scope_names.specs.Slot.{Declared}
+use Rattle.php_meaning.specs.values.Value.{Value, Null, Truth, Int, Text, Object, Arr}
+use Rattle.php_meaning.specs.values.Value as entries
 use Rattle.php_meaning.specs.Cause.{NoRule, Declaration, Call, Error}
 use Rattle.php_meaning.specs.Differences.{Differs, UndefinedConstant}
-use Rattle.php_meaning.specs.Convert.{to_text, to_truth, to_int, to_array}
-use Rattle.php_meaning.specs.Arithmetic.{incremented, decremented, joined}
-use Rattle.php_meaning.specs.Literals.{int_literal, constant_named, found, name_of, behind_backslash}
-use Rattle.php_meaning.specs.TextLiterals.{text_literal}
-use Rattle.php_meaning.specs.Offsets.{Strict}
-use Rattle.php_meaning.specs.Offsets as offsets
-use Rattle.php_meaning.specs.World.{Bytes, Store}
-use Rattle.php_meaning.specs.Form.{Form, texts, kids, has_word}
-use Rattle.php_meaning.specs.Sites.{Site, candidates, is_end, in_space, split}
-use Rattle.php_meaning.specs.Tables.{Tables}
-use Rattle.php_meaning.specs.Tables as table
-use Rattle.php_meaning.specs.Stores.{cells_of}
-use Rattle.php_meaning.specs.Script.{Return, Throw, Break, Continue, Out, At, Jump, Mode, Read, Quiet, Write, Unset, Name, Later, Left, Behind, Against, Into, Given, Handed, Entered, Item, InProperty, InCell, File, Script, Give, Stop, Finish, Look, Put, Echo, Run, Kid, give, child_value, given, asking, comes, value_then, throws}
-use Rattle.php_meaning.specs.Operators.{operation, binary, of_values, signs, prefix}
-use Rattle.php_meaning.specs.Assigning.{numbered, Properties, kept_then, unset}
-use Rattle.php_meaning.specs.Expressions.{plain_name, in_variable, variable_value, read_offset, offset_location, with_array, item, array_literal, variable_quietly, assign, assign_reference, operator_of, compound, stepped, isset, empty_test, coalesce, both, either, unset_all}
-use Rattle.php_meaning.specs.Nowdocs.{is_blank}
-use Rattle.php_meaning.specs.QuotedTexts.{quoted_text}
-use Rattle.php_meaning.specs.Loops.{while_pass, do_pass, for_first, for_later, foreach, foreach_pass, foreach_behind, switch, case_against, case_statements}
-use Rattle.php_meaning.specs.Bodies.{function_named, declared_function, function_name, is_function, reach_function, call, arguments, body_script, parameter, global_all, statics, declare}
-use Rattle.php_meaning.specs.Objects.{property_then, property_value, property_quietly, member_word, reach_class, new_object, method_call, static_call, throw_value, try_script, class_constant, static_property, instance_of, is_a, class_by, object_at, is_class, class_name, declared_class}
-use Rattle.php_meaning.specs.builtins.Constants.{constant_value, define_all}
+use Rattle.php_meaning.specs.values.Convert.{to_text, to_truth, to_int, to_array}
+use Rattle.php_meaning.specs.values.Arithmetic.{incremented, decremented, joined}
+use Rattle.php_meaning.specs.literals.Literals.{int_literal, constant_named, found, name_of, behind_backslash}
+use Rattle.php_meaning.specs.literals.TextLiterals.{text_literal}
+use Rattle.php_meaning.specs.values.Offsets.{Strict}
+use Rattle.php_meaning.specs.values.Offsets as offsets
+use Rattle.php_meaning.specs.runs.World.{Bytes, Store}
+use Rattle.scope_names.specs.Form.{Form, texts, kids}
+use Rattle.scope_names.specs.Words.{has_word, has_keyword, is_end, before_word}
+use Rattle.scope_names.specs.Sites.{Site, candidates}
+use Rattle.scope_names.specs.Imports.{OfFunction}
+use Rattle.php_meaning.specs.names.Tables.{Tables}
+use Rattle.php_meaning.specs.names.Tables as table
+use Rattle.php_meaning.specs.runs.Stores.{cells_of}
+use Rattle.php_meaning.specs.runs.Script.{Return, Throw, Break, Continue, Out, At, Jump, Mode, Read, Quiet, Write, Unset, Name, Later, Left, Behind, Against, Into, Given, Handed, Entered, Item, InProperty, InCell, File, Script, Give, Stop, Finish, Look, Put, Echo, Run, Kid, give, child_value, given, asking, comes, value_then, throws}
+use Rattle.php_meaning.specs.expressions.Operators.{operation, binary, of_values, signs, prefix}
+use Rattle.php_meaning.specs.expressions.Assigning.{numbered, Properties, kept_then, unset}
+use Rattle.php_meaning.specs.expressions.Expressions.{plain_name, in_variable, variable_value, read_offset, offset_location, with_array, item, array_literal, variable_quietly, assign, assign_reference, operator_of, compound, stepped, isset, empty_test, coalesce, both, either, unset_all}
+use Rattle.php_meaning.specs.literals.Nowdocs.{is_blank}
+use Rattle.php_meaning.specs.expressions.QuotedTexts.{quoted_text}
+use Rattle.php_meaning.specs.statements.Loops.{while_pass, do_pass, for_first, for_later, foreach, foreach_pass, foreach_behind, switch, case_against, case_statements}
+use Rattle.php_meaning.specs.calls.Bodies.{function_named, declared_function, function_name, is_function, reach_function, call, arguments, body_script, parameter, global_all, statics, declare}
+use Rattle.php_meaning.specs.classes.Objects.{property_then, property_value, property_quietly, member_word, reach_class, new_object, method_call, static_call, throw_value, try_script, class_constant, static_property, instance_of, is_a, class_by, object_at, is_class, class_name, declared_class}
+use Rattle.php_meaning.specs.names.Constants.{constant_value, define_all}
 use Rattle.php_meaning.specs.builtins.Calls.{handed, builtin_named, call_builtin}
 
 -- the text of a node's first token of its own
@@ -175,10 +177,6 @@ exit (suc n) = child_value 0 exit_with
 
 -- ---- calls of functions
 
-abbrev pub up_to_bracket : List Bytes → List Bytes
-up_to_bracket [] = []
-up_to_bracket (w ∷ ws) = if bytes_eq w (codes "(") then [] else w ∷ up_to_bracket ws
-
 abbrev pub call_named : Tables → Site → List Bytes → Script
 call_named t s names = Look (λ st. elim (function_named t st.declared names) [
   | Some d ↦ call 0 d None None Give
@@ -186,9 +184,9 @@ call_named t s names = Look (λ st. elim (function_named t st.declared names) [
 ])
 
 abbrev pub function_call : Tables → Site → Form → Script
-function_call t s f = elim (up_to_bracket (texts f)) [
+function_call t s f = elim (before_word (codes "(") (texts f)) [
   | [] ↦ Stop NoRule
-  | w ∷ ws ↦ call_named t s (candidates s s.functions (name_of (w ∷ ws)))
+  | w ∷ ws ↦ call_named t s (candidates s OfFunction (name_of (w ∷ ws)))
 ]
 
 -- ---- types
@@ -250,7 +248,7 @@ include s w = child_value 0 (λ v. given (to_text v) (λ t. include_path s w (fo
 -- without interfaces
 abbrev pub is_early : table.Declaration → Bool
 is_early d =
-    d.is_top && (is_function d.kind || (is_class d.kind && not (has_word (codes "extends") (texts d.form)) && not (has_word (codes "implements") (texts d.form))))
+    d.is_top && (is_function d.kind || (is_class d.kind && not (has_keyword (codes "extends") (texts d.form)) && not (has_keyword (codes "implements") (texts d.form))))
 
 abbrev pub is_there : Tables → List Declared → table.Declaration → Bool
 is_there t ds d =

@@ -5,5 +5,4 @@ pub mod Searches
 pub mod Lists
 pub mod Numbers
 pub mod Answers
-pub mod Constants
 pub mod Calls

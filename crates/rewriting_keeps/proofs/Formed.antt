@@ -17,8 +17,8 @@ use Rattle.php_shapes.specs.Places.{Operand, may_stand, is_prefix}
 use Rattle.php_shapes.specs.Places as shapes
 use Rattle.php_shapes.specs.Quoted.{interpolated, quoted_part, simple_key}
 use Rattle.php_shapes.specs.Shapes.{Shape, is_balanced, Fits, is_nothing, is_word, is_kind, is_place, is_inside, is_both, is_first, is_second, no_more, once_more, is_tokens, IsNode, is_node}
-use Rattle.php_meaning.specs.World.{Bytes}
-use Rattle.php_meaning.specs.Sites.{is_expression}
+use Rattle.php_meaning.specs.runs.World.{Bytes}
+use Rattle.php_meaning.specs.runs.Kinds.{is_expression}
 use Rattle.syntax_rules.specs.Keeps as formed
 use Rattle.syntax_rules.specs.Keeps.{token_of, opens_text, is_common, AreFormed, token_first, common, braced, a_cast, IsQuoted}
 use Rattle.rewritten_shapes.specs.paired.Tokens as paired

@@ -3,7 +3,7 @@ use Rattle.std.proofs.Common.{List, All}
 use Rattle.php_tree.specs.declared.version.Version.TheVariants.{V74}
 use Rattle.php_tree.specs.Tree.{File}
 use Rattle.php_shapes.specs.Shapes.{Shape}
-use Rattle.php_meaning.specs.World.{Bytes}
+use Rattle.php_meaning.specs.runs.World.{Bytes}
 use Rattle.syntax_rules.specs.Keeps.{AreFormed}
 use Rattle.syntax_rules.proofs.Kept.{rewriting_keeps_meaning}
 use Rattle.rewriting_keeps.specs.Laws.{NamesAreDirect, ShapedFilesKeepMeaning}

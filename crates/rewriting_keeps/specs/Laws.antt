@@ -6,9 +6,9 @@ use Rattle.php_tree.specs.declared.version.Version.TheVariants.{V74}
 use Rattle.php_tree.specs.Tree.{Forest, none, leaf, node, File}
 use Rattle.php_shapes.specs.Shapes.{Shape}
 use Rattle.php_reading.specs.Reading.{Reads}
-use Rattle.php_meaning.specs.World.{Bytes}
-use Rattle.php_meaning.specs.Run.{Mark}
-use Rattle.php_meaning.specs.Laws.{KeepsMeaning}
+use Rattle.php_meaning.specs.runs.World.{Bytes}
+use Rattle.php_meaning.specs.runs.Run.{Mark}
+use Rattle.php_meaning.specs.laws.Laws.{KeepsMeaning}
 use Rattle.syntax_rules.specs.NestedTernary.{program}
 use Rattle.syntax_rules.specs.Keeps.{AreFormed, all_rewritten}
 

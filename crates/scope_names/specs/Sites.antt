@@ -164,22 +164,26 @@ as_space words s = record s {
   imports = [];
 }
 
--- where the children of a node of a form stand, but for the number of the next declaration
+-- the names within a node of a form
+abbrev pub names_within : NodeKind → Form → Site → Site
+names_within kind.Function f s = in_no_class (in_body s)
+names_within kind.Method f s = in_member (in_body s)
+names_within kind.Property f s = in_member s
+names_within kind.ClassConst f s = in_member s
+names_within kind.Class f s = in_class (texts f) s
+names_within kind.Interface f s = in_interface (texts f) s
+names_within kind.Trait f s = in_no_class s
+names_within kind.New f s = in_new (texts f) s
+names_within kind.Namespace f s = as_space (texts f) s
+names_within k f s = s
+
+-- where the children of a node of a form stand
 abbrev pub within_form : NodeKind → Form → Site → Site
-within_form kind.Function f s = in_no_class (in_body s)
-within_form kind.Method f s = in_member (in_body s)
-within_form kind.Property f s = in_member s
-within_form kind.ClassConst f s = in_member s
-within_form kind.Class f s = in_class (texts f) s
-within_form kind.Interface f s = in_interface (texts f) s
-within_form kind.Trait f s = in_no_class s
-within_form kind.New f s = in_new (texts f) s
-within_form kind.Namespace f s = as_space (texts f) s
-within_form k f s = s
+within_form k f s = record (names_within k f s) { number = one_if (is_declaration k) s.number }
 
 -- where the children of a node stand
 abbrev pub within : NodeKind → Forest → Site → Site
-within k c s = record (within_form k (form c) s) { number = one_if (is_declaration k) s.number }
+within k c s = within_form k (form c) s
 
 -- the names behind a node: those of a namespace without braces, and those of a use
 abbrev pub names_beside : NodeKind → Form → Site → Site

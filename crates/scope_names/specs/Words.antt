@@ -11,10 +11,20 @@ has_word w (t ∷ ts) = bytes_eq w t || has_word w ts
 abbrev pub is_keyword : List ℕ → List ℕ → Bool
 is_keyword keyword w = str_eq_ignore_ascii_case keyword w
 
+-- whether a keyword is among them
+abbrev pub has_keyword : List ℕ → List (List ℕ) → Bool
+has_keyword keyword [] = false
+has_keyword keyword (w ∷ ws) = is_keyword keyword w || has_keyword keyword ws
+
 -- the words behind a keyword
 abbrev pub behind_word : List ℕ → List (List ℕ) → List (List ℕ)
 behind_word keyword [] = []
 behind_word keyword (w ∷ ws) = if is_keyword keyword w then ws else behind_word keyword ws
+
+-- the words before a word with this text
+abbrev pub before_word : List ℕ → List (List ℕ) → List (List ℕ)
+before_word w [] = []
+before_word w (t ∷ ts) = if bytes_eq w t then [] else t ∷ before_word w ts
 
 -- the first word
 abbrev pub first_word : List (List ℕ) → List ℕ

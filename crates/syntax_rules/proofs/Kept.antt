@@ -2,14 +2,14 @@
 use Rattle.std.proofs.Common.{◌≡◌, ℕ, suc, Bool, true, false, IsTrue, List, [], ◌∷◌, map, All, Option, refl, ap, sym, ◌∙◌, subst, arith}
 use Rattle.php_tree.specs.Tree.{Forest, File}
 use Rattle.php_tree.specs.declared.version.Version.TheVariants.{V74, V83}
-use Rattle.php_meaning.specs.World.{Bytes, Place, Visit, Asked}
-use Rattle.php_meaning.specs.Tables.{Tables, tables_of}
-use Rattle.php_meaning.specs.Sites.{file_site}
-use Rattle.php_meaning.specs.Input.{Input}
-use Rattle.php_meaning.specs.Run.{Program, Mark, Answer, run}
-use Rattle.php_meaning.specs.Laws.{IsInside, SameRun}
-use Rattle.php_meaning.specs.SameScripts.{HaveScriptsOf, DeclareAlike}
-use Rattle.php_meaning.specs.Across.{Claim, AskedAt, Show, AreRewritten, no_more, one_more}
+use Rattle.php_meaning.specs.runs.World.{Bytes, Place, Visit, Asked}
+use Rattle.php_meaning.specs.names.Tables.{Tables, tables_of}
+use Rattle.scope_names.specs.Sites.{file_site}
+use Rattle.php_meaning.specs.runs.Input.{Input}
+use Rattle.php_meaning.specs.runs.Run.{Program, Mark, Answer, run}
+use Rattle.php_meaning.specs.laws.Laws.{IsInside, SameRun}
+use Rattle.php_meaning.specs.laws.SameScripts.{HaveScriptsOf, DeclareAlike}
+use Rattle.php_meaning.specs.laws.Across.{Claim, AskedAt, Show, AreRewritten, no_more, one_more}
 use Rattle.php_meaning.proofs.Alike.{scripts_alike}
 use Rattle.php_meaning.proofs.Across.{rewritten_runs_across}
 use Rattle.tracked_changes.specs.Draft as draft

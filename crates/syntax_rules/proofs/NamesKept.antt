@@ -8,13 +8,14 @@ use Rattle.php_tree.specs.declared.token.Token.{Token}
 use Rattle.php_tree.specs.declared.kind.NodeKind.{NodeKind}
 use Rattle.php_tree.specs.Tree.{Forest, none, leaf, node, count}
 use Rattle.php_tree.specs.Places.{placed, behind, end_of}
-use Rattle.php_meaning.specs.World.{Bytes}
-use Rattle.php_meaning.specs.Slot.{Declared}
-use Rattle.php_meaning.specs.Form.{Form, Part, child, part_before, parts, bits, form, joins, is_name_part, is_namespace, first_is, is_backslash}
-use Rattle.php_meaning.specs.Sites.{Site, file_site, is_declaration, is_expression, declarations, one_if, declared_here, within, within_form, beside, names_beside}
-use Rattle.php_meaning.specs.Tables.{Tables, tables_of, listed, entry, holder, keeps_top, kid_forms, kid_before}
+use Rattle.php_meaning.specs.runs.World.{Bytes}
+use Rattle.scope_names.specs.Slot.{Declared}
+use Rattle.scope_names.specs.Form.{Form, Part, child, part_before, parts, bits, form, joins, is_name_part, is_namespace, first_is, is_backslash}
+use Rattle.scope_names.specs.Sites.{Site, file_site, is_declaration, declarations, one_if, declared_here, within, within_form, beside, names_beside}
+use Rattle.php_meaning.specs.runs.Kinds.{is_expression}
+use Rattle.php_meaning.specs.names.Tables.{Tables, tables_of, listed, entry, holder, keeps_top, kid_forms, kid_before}
 use Rattle.php_meaning.specs.Rules.{rule}
-use Rattle.php_meaning.specs.SameScripts.{HasScriptsOf, nothing, token_before, token_behind, same, HaveScriptsOf, no_more, one_more}
+use Rattle.php_meaning.specs.laws.SameScripts.{HasScriptsOf, nothing, token_before, token_behind, same, HaveScriptsOf, no_more, one_more}
 use Rattle.php_meaning.proofs.Parens.{same_before, names_joined}
 use Rattle.tracked_changes.specs.Pieces.{before, after, changed}
 use Rattle.tracked_changes.specs.Draft as draft

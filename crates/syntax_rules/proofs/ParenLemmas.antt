@@ -6,10 +6,10 @@ use Rattle.php_tree.specs.Tree.{Forest, none, leaf, node, Tree, File, alone, ◌
 use Rattle.php_tree.specs.Places.{placed, behind, end_of}
 use Rattle.tracked_changes.specs.patches.Patches.{Wrapping, InParens}
 use Rattle.tracked_changes.specs.patches.Rewritten.{has_none, without_lead, wrapped}
-use Rattle.php_meaning.specs.World.{Bytes}
-use Rattle.php_meaning.specs.Laws.{Parenthesized, ends, token, inner, parens, AreParenthesized, no_files, file}
+use Rattle.php_meaning.specs.runs.World.{Bytes}
+use Rattle.php_meaning.specs.laws.Laws.{Parenthesized, ends, token, inner, parens, AreParenthesized, no_files, file}
 use Rattle.php_meaning.proofs.Parens.{parens_keep_meaning}
-use Rattle.php_meaning.specs.Sites.{is_expression}
+use Rattle.php_meaning.specs.runs.Kinds.{is_expression}
 use Rattle.syntax_rules.specs.NestedTernary.{around, program, all_grouped, GroupingKeepsMeaning}
 use Rattle.syntax_rules.proofs.Regrouped.{regrouped, rewritten_is}
 

@@ -7,20 +7,20 @@ use Rattle.php_tree.specs.declared.token.Token.{Token}
 use Rattle.php_tree.specs.declared.kind.NodeKind.{NodeKind}
 use Rattle.php_tree.specs.declared.kind.NodeKind.TheVariants as kind
 use Rattle.php_tree.specs.Tree.{Forest, none, leaf, node}
-use Rattle.php_meaning.specs.Value.{Value, Text, Object}
+use Rattle.php_meaning.specs.values.Value.{Value, Text, Object}
 use Rattle.php_meaning.specs.Cause.{Cause, NoRule, Outcome, Gives, Outside, Came, Returns, Throws, ExceptionClass, exception_name}
-use Rattle.php_meaning.specs.Convert.{to_text}
-use Rattle.php_meaning.specs.Offsets.{Strict, at_offset}
-use Rattle.php_meaning.specs.World.{Bytes, Store, Place, World, Moment, Before, After, with_object}
-use Rattle.php_meaning.specs.Sites.{Site}
-use Rattle.php_meaning.specs.Expressions.{offset_of}
-use Rattle.php_meaning.specs.Form.{Form, Word, Child, Part, word, child, part_of, part_before, parts, bits, form, joins, is_name_part, is_namespace, first_is, is_backslash}
-use Rattle.php_meaning.specs.Stores.{cells_of, held_or_null, variable_cell}
-use Rattle.php_meaning.specs.Script.{Throw, Jump, Out, Val, Fresh, At, Mode, Read, Target, Kid, Script, Give, Stop, Look, Run, give, value_then, child_value, given, came_then, throws}
-use Rattle.php_meaning.specs.QuotedTexts.{object_then, variable_read, Style, piece, ends_line, Standing, InText, InCode, BeforeBrace, BehindDollar, BehindName, InBrackets, BeforeBracket, text_then, text_at, quoted, ends_here}
-use Rattle.php_meaning.specs.Run.{Result, Done, Over, then_do, play, Entry, going, place_in, told, left}
-use Rattle.php_meaning.specs.Following.{Same}
-use Rattle.php_meaning.specs.Across.{Claim, world_in, Grown, Meets, FollowsAcross, Across}
+use Rattle.php_meaning.specs.values.Convert.{to_text}
+use Rattle.php_meaning.specs.values.Offsets.{Strict, at_offset}
+use Rattle.php_meaning.specs.runs.World.{Bytes, Store, Place, World, Moment, Before, After, with_object}
+use Rattle.scope_names.specs.Sites.{Site}
+use Rattle.php_meaning.specs.expressions.Expressions.{offset_of}
+use Rattle.scope_names.specs.Form.{Form, Word, Child, Part, word, child, part_of, part_before, parts, bits, form, joins, is_name_part, is_namespace, first_is, is_backslash}
+use Rattle.php_meaning.specs.runs.Stores.{cells_of, held_or_null, variable_cell}
+use Rattle.php_meaning.specs.runs.Script.{Throw, Jump, Out, Val, Fresh, At, Mode, Read, Target, Kid, Script, Give, Stop, Look, Run, give, value_then, child_value, given, came_then, throws}
+use Rattle.php_meaning.specs.expressions.QuotedTexts.{object_then, variable_read, Style, piece, ends_line, Standing, InText, InCode, BeforeBrace, BehindDollar, BehindName, InBrackets, BeforeBracket, text_then, text_at, quoted, ends_here}
+use Rattle.php_meaning.specs.runs.Run.{Result, Done, Over, then_do, play, Entry, going, place_in, told, left}
+use Rattle.php_meaning.specs.laws.Following.{Same}
+use Rattle.php_meaning.specs.laws.Across.{Claim, world_in, Grown, Meets, FollowsAcross, Across}
 use Rattle.php_meaning.proofs.Across.{grown, grown_more, then_grown, then_follows}
 use Rattle.syntax_rules.specs.DollarBrace.{ends_bare}
 use Rattle.syntax_rules.proofs.Rewrites.{IsToken}

@@ -6,9 +6,9 @@ use Rattle.php_tree.specs.declared.token.Token.{Token}
 use Rattle.php_tree.specs.declared.kind.NodeKind.{NodeKind}
 use Rattle.php_tree.specs.declared.kind.NodeKind.TheVariants as kind
 use Rattle.php_tree.specs.Tree.{Forest, none, leaf, node}
-use Rattle.php_meaning.specs.Form.{Form, Word, Child, Part, word, child, part_of, part_before, parts, bits, form, joins, is_name_part, is_namespace, first_is, is_backslash}
-use Rattle.php_meaning.specs.QuotedTexts.{closing_word, ends_here, begins_dollar}
-use Rattle.php_meaning.specs.QuotedTexts as quoted
+use Rattle.scope_names.specs.Form.{Form, Word, Child, Part, word, child, part_of, part_before, parts, bits, form, joins, is_name_part, is_namespace, first_is, is_backslash}
+use Rattle.php_meaning.specs.expressions.QuotedTexts.{closing_word, ends_here, begins_dollar}
+use Rattle.php_meaning.specs.expressions.QuotedTexts as quoted
 use Rattle.syntax_rules.specs.DollarBrace.{ends_bare}
 use Rattle.syntax_rules.specs.Keeps.{token_of}
 use Rattle.syntax_rules.proofs.Rewrites.{IsToken, begins, Rewrites, Curled, closing, piece, escaped, simple, code, name, offset, expression}

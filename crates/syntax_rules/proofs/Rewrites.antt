@@ -7,7 +7,7 @@ use Rattle.php_tree.specs.declared.token.Token.{Token}
 use Rattle.php_tree.specs.declared.kind.NodeKind.{NodeKind}
 use Rattle.php_tree.specs.declared.kind.NodeKind.TheVariants as kind
 use Rattle.php_tree.specs.Tree.{Forest, none, leaf, node}
-use Rattle.php_meaning.specs.Sites.{is_expression}
+use Rattle.php_meaning.specs.runs.Kinds.{is_expression}
 use Rattle.php_meaning.specs.Rules.{cast_word}
 use Rattle.syntax_rules.specs.DollarBrace.{is_dollar_brace, ends_bare}
 use Rattle.syntax_rules.specs.Keeps.{token_of}

@@ -7,24 +7,24 @@ use Rattle.php_tree.specs.declared.token.Token.{Token}
 use Rattle.php_tree.specs.declared.kind.NodeKind.{NodeKind}
 use Rattle.php_tree.specs.declared.kind.NodeKind.TheVariants as kind
 use Rattle.php_tree.specs.Tree.{Forest, none, leaf, node, count}
-use Rattle.php_meaning.specs.Value.{Value, Text}
+use Rattle.php_meaning.specs.values.Value.{Value, Text}
 use Rattle.php_meaning.specs.Cause.{NoRule}
-use Rattle.php_meaning.specs.World.{Bytes, Place, Before, World}
-use Rattle.php_meaning.specs.Literals.{found}
-use Rattle.php_meaning.specs.Nowdocs.{blanks}
-use Rattle.php_meaning.specs.Form.{Form, Word, Child, form}
-use Rattle.php_meaning.specs.Sites.{Site, is_declaration, is_expression, declarations, one_if, within, beside}
-use Rattle.php_meaning.specs.Tables.{Tables}
-use Rattle.php_meaning.specs.Script.{Out, Val, Mode, Read, Quiet, Write, Unset, Name, Later, Left, Behind, Against, Into, Given, Entered, Item, Target, Kid, Script, Give, Stop, Run, give, given, value_then, child_value}
-use Rattle.php_meaning.specs.Offsets.{Strict}
-use Rattle.php_meaning.specs.Expressions.{plain_name, offset_of}
-use Rattle.php_meaning.specs.QuotedTexts.{variable_read, Style, InQuotes, InHeredoc, piece, ends_line, InText, InCode, BeforeBrace, InBrackets, BeforeBracket, text_then, text_at, quoted, quoted_by, quoted_text, closing_word, ends_here, begins_dollar}
-use Rattle.php_meaning.specs.QuotedTexts as texts
+use Rattle.php_meaning.specs.runs.World.{Bytes, Place, Before, World}
+use Rattle.php_meaning.specs.literals.Literals.{found}
+use Rattle.php_meaning.specs.literals.Nowdocs.{blanks}
+use Rattle.scope_names.specs.Form.{Form, Word, Child, form}
+use Rattle.scope_names.specs.Sites.{Site, is_declaration, declarations, one_if, within, beside}
+use Rattle.php_meaning.specs.runs.Kinds.{is_expression, is_statement}
+use Rattle.php_meaning.specs.names.Tables.{Tables}
+use Rattle.php_meaning.specs.runs.Script.{Out, Val, Mode, Read, Quiet, Write, Unset, Name, Later, Left, Behind, Against, Into, Given, Entered, Item, Target, Kid, Script, Give, Stop, Run, give, given, value_then, child_value}
+use Rattle.php_meaning.specs.values.Offsets.{Strict}
+use Rattle.php_meaning.specs.expressions.Expressions.{plain_name, offset_of}
+use Rattle.php_meaning.specs.expressions.QuotedTexts.{variable_read, Style, InQuotes, InHeredoc, piece, ends_line, InText, InCode, BeforeBrace, InBrackets, BeforeBracket, text_then, text_at, quoted, quoted_by, quoted_text, closing_word, ends_here, begins_dollar}
+use Rattle.php_meaning.specs.expressions.QuotedTexts as texts
 use Rattle.php_meaning.specs.Rules.{rule, cast, casts, cast_word}
-use Rattle.php_meaning.specs.Statements.{is_statement}
-use Rattle.php_meaning.specs.Run.{Mark, Result, then_do, play, Entry, is_stopped, place_in, told, left, going, passes, at_node, step, declared_in}
-use Rattle.php_meaning.specs.SameScripts.{HasScriptOf}
-use Rattle.php_meaning.specs.Across.{Claim, world_in, Grown, FollowsAcross, Across, DoesAcross, IsRewritten, nothing, token_before, token_behind, same, replaced, kept, wrapped}
+use Rattle.php_meaning.specs.runs.Run.{Mark, Result, then_do, play, Entry, is_stopped, place_in, told, left, going, passes, at_node, step, declared_in}
+use Rattle.php_meaning.specs.laws.SameScripts.{HasScriptOf}
+use Rattle.php_meaning.specs.laws.Across.{Claim, world_in, Grown, FollowsAcross, Across, DoesAcross, IsRewritten, nothing, token_before, token_behind, same, replaced, kept, wrapped}
 use Rattle.php_meaning.proofs.Across.{grown, told_across, step_across, declared_across}
 use Rattle.syntax_rules.specs.Keeps.{token_of}
 use Rattle.syntax_rules.proofs.Rewrites.{IsToken, begins, Rewrites, ends, same_token, inner, changed, parens, Changed, brackets, float, null, curled, Curled, closing, piece as a_piece, escaped, simple, code, name, offset, expression}

@@ -7,11 +7,12 @@ use Rattle.php_tree.specs.declared.token.Token.{Token}
 use Rattle.php_tree.specs.declared.kind.NodeKind.{NodeKind}
 use Rattle.php_tree.specs.declared.kind.NodeKind.TheVariants as kind
 use Rattle.php_tree.specs.Tree.{Forest, none, leaf, node}
-use Rattle.php_meaning.specs.World.{Bytes}
-use Rattle.php_meaning.specs.Slot.{Declared}
-use Rattle.php_meaning.specs.Form.{Form, Word, Child, Part, word, child, part_of, part_before, parts, bits, form, joins, is_name_part, is_namespace, first_is, is_backslash}
-use Rattle.php_meaning.specs.Sites.{Site, file_site, is_declaration, is_expression, declarations, one_if, declared_here, within, within_form, beside, names_beside}
-use Rattle.php_meaning.specs.Tables.{Tables, tables_of, listed, entry, holder, keeps_top, kid_forms, kid_before}
+use Rattle.php_meaning.specs.runs.World.{Bytes}
+use Rattle.scope_names.specs.Slot.{Declared}
+use Rattle.scope_names.specs.Form.{Form, Word, Child, Part, word, child, part_of, part_before, parts, bits, form, joins, is_name_part, is_namespace, first_is, is_backslash}
+use Rattle.scope_names.specs.Sites.{Site, file_site, is_declaration, declarations, one_if, declared_here, within, within_form, beside, names_beside}
+use Rattle.php_meaning.specs.runs.Kinds.{is_expression}
+use Rattle.php_meaning.specs.names.Tables.{Tables, tables_of, listed, entry, holder, keeps_top, kid_forms, kid_before}
 use Rattle.php_meaning.proofs.Parens.{same_before, Plain, expression_plain}
 use Rattle.syntax_rules.specs.Keeps.{token_of}
 use Rattle.syntax_rules.proofs.Rewrites.{IsToken, Rewrites, ends, same_token, inner, changed, parens, Changed, brackets, float, null, curled, Curled, closing, piece, escaped, simple, code, name, offset, expression}

@@ -5,21 +5,21 @@ use Rattle.std.proofs.Common.{ap, sym, ◌∙◌, subst}
 use Rattle.php_tree.specs.declared.token.Token.{Token}
 use Rattle.php_tree.specs.declared.kind.NodeKind.TheVariants as kind
 use Rattle.php_tree.specs.Tree.{Forest, none, leaf, node}
-use Rattle.php_meaning.specs.Value.{Value, Null, Object}
+use Rattle.php_meaning.specs.values.Value.{Value, Null, Object}
 use Rattle.php_meaning.specs.Cause.{Cause, NoRule}
-use Rattle.php_meaning.specs.Form.{Word, Child, form}
-use Rattle.php_meaning.specs.Sites.{Site}
-use Rattle.php_meaning.specs.Tables.{Tables}
-use Rattle.php_meaning.specs.Literals.{found}
-use Rattle.php_meaning.specs.Stores.{held_or_null, variable_cell}
-use Rattle.php_meaning.specs.World.{Bytes, Store, Place, Outside, Before, After, World}
-use Rattle.php_meaning.specs.Script.{Val, Mode, Read, Quiet, Target, Stop, Look, give, value_then, child_value}
-use Rattle.php_meaning.specs.QuotedTexts.{object_then, variable_read}
-use Rattle.php_meaning.specs.Expressions.{plain_name}
+use Rattle.scope_names.specs.Form.{Word, Child, form}
+use Rattle.scope_names.specs.Sites.{Site}
+use Rattle.php_meaning.specs.names.Tables.{Tables}
+use Rattle.php_meaning.specs.literals.Literals.{found}
+use Rattle.php_meaning.specs.runs.Stores.{held_or_null, variable_cell}
+use Rattle.php_meaning.specs.runs.World.{Bytes, Store, Place, Outside, Before, After, World}
+use Rattle.php_meaning.specs.runs.Script.{Val, Mode, Read, Quiet, Target, Stop, Look, give, value_then, child_value}
+use Rattle.php_meaning.specs.expressions.QuotedTexts.{object_then, variable_read}
+use Rattle.php_meaning.specs.expressions.Expressions.{plain_name}
 use Rattle.php_meaning.specs.Rules.{rule, cast, casts, cast_word}
-use Rattle.php_meaning.specs.Run.{Mark, Result, Done, Over, then_do, play, Entry, is_stopped, place_in, told, left, unless_stopped, going, passes, at_node, step}
-use Rattle.php_meaning.specs.Following.{Same}
-use Rattle.php_meaning.specs.Across.{Claim, world_in, Grown, FollowsAcross, Across, DoesAcross}
+use Rattle.php_meaning.specs.runs.Run.{Mark, Result, Done, Over, then_do, play, Entry, is_stopped, place_in, told, left, unless_stopped, going, passes, at_node, step}
+use Rattle.php_meaning.specs.laws.Following.{Same}
+use Rattle.php_meaning.specs.laws.Across.{Claim, world_in, Grown, FollowsAcross, Across, DoesAcross}
 use Rattle.php_meaning.proofs.Across.{grown, grown_more, told_grown, no_rule_across}
 
 -- what reading a variable comes to: a value, with nothing changed and nothing asked, or a mark

@@ -10,7 +10,7 @@ use Rattle.php_tree.specs.declared.kind.NodeKind.{NodeKind}
 use Rattle.php_tree.specs.declared.kind.NodeKind.TheVariants as kind
 use Rattle.php_tree.specs.Tree.{Forest, none, leaf, node, count}
 use Rattle.tracked_changes.specs.patches.Patches.{Patches, Wrapping, InParens}
-use Rattle.php_meaning.specs.Sites.{is_expression}
+use Rattle.php_meaning.specs.runs.Kinds.{is_expression}
 use Rattle.php_meaning.specs.Rules.{cast_word}
 use Rattle.tracked_changes.specs.Pieces.{before, after}
 use Rattle.tracked_changes.specs.Draft.{NewToken, Draft, no_more, new_leaf, new_node, ◌then◌, rewritten, rewritten_token}

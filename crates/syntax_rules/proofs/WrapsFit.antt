@@ -4,7 +4,7 @@ use Rattle.php_tree.specs.declared.kind.NodeKind.{NodeKind}
 use Rattle.php_tree.specs.declared.kind.NodeKind.TheVariants as kind
 use Rattle.php_tree.specs.Tree.{Forest, none, leaf, node, Tree, count}
 use Rattle.tracked_changes.specs.patches.Patches.{Patches, Wrapping, InParens}
-use Rattle.php_meaning.specs.Sites.{is_expression}
+use Rattle.php_meaning.specs.runs.Kinds.{is_expression}
 use Rattle.syntax_rules.specs.Around.{Around, within, at_top, kind_if_first}
 use Rattle.syntax_rules.specs.NestedTernary.{around}
 use Rattle.syntax_rules.specs.DotPrecedence.{is_regrouped, around_dot, is_dot, takes_apart}

@@ -6,10 +6,10 @@ use Rattle.php_tree.specs.declared.token.Token.{Token}
 use Rattle.php_tree.specs.declared.kind.NodeKind.{NodeKind}
 use Rattle.php_tree.specs.declared.kind.NodeKind.TheVariants as kind
 use Rattle.php_tree.specs.Tree.{Forest, none, leaf, node, File}
-use Rattle.php_meaning.specs.World.{Bytes}
-use Rattle.php_meaning.specs.Run.{Mark}
-use Rattle.php_meaning.specs.Laws.{KeepsMeaning}
-use Rattle.php_meaning.specs.Sites.{is_expression}
+use Rattle.php_meaning.specs.runs.World.{Bytes}
+use Rattle.php_meaning.specs.runs.Run.{Mark}
+use Rattle.php_meaning.specs.laws.Laws.{KeepsMeaning}
+use Rattle.php_meaning.specs.runs.Kinds.{is_expression}
 use Rattle.syntax_rules.specs.NestedTernary.{program}
 use Rattle.syntax_rules.specs.Rewritten.{rewritten}
 

@@ -6,9 +6,9 @@ use Rattle.php_tree.specs.declared.kind.NodeKind.TheVariants.{Ternary, ShortTern
 use Rattle.php_tree.specs.Tree.{Forest, none, leaf, node, File}
 use Rattle.tracked_changes.specs.patches.Patches.{Patches, Wrapping, InParens}
 use Rattle.tracked_changes.specs.patches.Rewritten.{rewritten_file}
-use Rattle.php_meaning.specs.World.{Bytes}
-use Rattle.php_meaning.specs.Run.{Program, Mark}
-use Rattle.php_meaning.specs.Laws.{KeepsMeaning}
+use Rattle.php_meaning.specs.runs.World.{Bytes}
+use Rattle.php_meaning.specs.runs.Run.{Program, Mark}
+use Rattle.php_meaning.specs.laws.Laws.{KeepsMeaning}
 
 -- The place: a ternary that is the left part of another, unless both are `?:`.
 abbrev pub nests : NodeKind → NodeKind → Bool

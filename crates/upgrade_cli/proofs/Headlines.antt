@@ -8,7 +8,7 @@ use Rattle.php_tree.specs.declared.version.Version.TheVariants.{V74}
 use Rattle.php_shapes.specs.Shapes.{Shape}
 use Rattle.php_reading.specs.Reading.{Reads}
 use Rattle.php_reading.proofs.Trees.{is_printed}
-use Rattle.php_meaning.specs.World.{Bytes}
+use Rattle.php_meaning.specs.runs.World.{Bytes}
 use Rattle.php_meaning.proofs.Silent.{inside_is_covered}
 use Rattle.tracked_changes.proofs.Splicing.{edits_are_apart}
 use Rattle.syntax_rules.specs.NestedTernary.{program}

@@ -5,9 +5,9 @@ use Rattle.span_edits.specs.Splice.{spliced}
 use Rattle.php_tree.specs.Tree.{File, file_printed}
 use Rattle.php_tree.specs.declared.version.Version.TheVariants.{V74, V83}
 use Rattle.php_reading.specs.Reading.{Reads}
-use Rattle.php_meaning.specs.World.{Bytes}
-use Rattle.php_meaning.specs.Laws.{KeepsMeaning, KeepsRuns}
-use Rattle.php_meaning.specs.Asking.{asks_nothing}
+use Rattle.php_meaning.specs.runs.World.{Bytes}
+use Rattle.php_meaning.specs.laws.Laws.{KeepsMeaning, KeepsRuns}
+use Rattle.php_meaning.specs.laws.Asking.{asks_nothing}
 use Rattle.syntax_rules.specs.NestedTernary.{program}
 use Rattle.syntax_rules.specs.Rewritten.{edits, rewritten}
 use Rattle.syntax_rules.specs.Keeps.{all_rewritten}

@@ -4,13 +4,13 @@ use Rattle.std.specs.Prelude.{Bool, true, false, if◌then◌else◌, List, [], 
 use Rattle.builtin_tables.specs.declared.builtin.Builtin.{Builtin}
 use Rattle.builtin_tables.specs.declared.builtin.Builtin.TheVariants as builtin
 use Rattle.builtin_tables.specs.Builtins.{row_of}
-use Rattle.php_meaning.specs.Value.{Value, Null, Truth, Int, Text, Arr}
+use Rattle.php_meaning.specs.values.Value.{Value, Null, Truth, Int, Text, Arr}
 use Rattle.php_meaning.specs.Cause.{Call, Outcome, Outside, Came}
 use Rattle.php_meaning.specs.Differences.{ByVersion, Alike}
-use Rattle.php_meaning.specs.Keys.{text_key}
-use Rattle.php_meaning.specs.Value as value
-use Rattle.php_meaning.specs.Arrays.{count}
-use Rattle.php_meaning.specs.Cells.{Cells}
+use Rattle.php_meaning.specs.values.Keys.{text_key}
+use Rattle.php_meaning.specs.values.Value as value
+use Rattle.php_meaning.specs.values.Arrays.{count}
+use Rattle.php_meaning.specs.values.Cells.{Cells}
 use Rattle.php_meaning.specs.builtins.Arguments.{takes, is_text, is_int, is_truth, is_array}
 use Rattle.php_meaning.specs.builtins.Texts.{answers, refused, substr, substr_of_length, trim, chr, ord, str_repeat, implode, implode_exchanged}
 use Rattle.php_meaning.specs.builtins.Searches.{strpos, strpos_int, explode, str_replace}

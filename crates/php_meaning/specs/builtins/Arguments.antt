@@ -6,8 +6,8 @@ use Rattle.builtin_tables.specs.declared.kinds.ArgumentKind.TheVariants as argum
 use Rattle.builtin_tables.specs.declared.kinds.Change.{Change}
 use Rattle.builtin_tables.specs.declared.kinds.Change.TheVariants.{Same, PastEnd, Needle, Exchanged, ConstantCase, Removed}
 use Rattle.builtin_tables.specs.Builtins.{Row}
-use Rattle.php_meaning.specs.Value.{Value, Null, Truth, Int, Text, Object, Arr, Entries, none, own, shared}
-use Rattle.php_meaning.specs.Cells.{Cells}
+use Rattle.php_meaning.specs.values.Value.{Value, Null, Truth, Int, Text, Object, Arr, Entries, none, own, shared}
+use Rattle.php_meaning.specs.values.Cells.{Cells}
 
 -- null, a bool, an int or a text
 abbrev pub is_scalar : Value → Bool

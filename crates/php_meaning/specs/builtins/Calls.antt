@@ -6,18 +6,18 @@ use Rattle.builtin_tables.specs.declared.kinds.Change.{Change}
 use Rattle.builtin_tables.specs.declared.kinds.Change.TheVariants.{Same, PastEnd, Needle, Exchanged, ConstantCase, Removed}
 use Rattle.builtin_tables.specs.Builtins.{builtin_rows, row_of}
 use Rattle.builtin_tables.specs.Named as table
-use Rattle.php_meaning.specs.Value.{Value, Null, Truth, Text, IntKey, Arr, Entries, none, own, shared}
+use Rattle.php_meaning.specs.values.Value.{Value, Null, Truth, Text, IntKey, Arr, Entries, none, own, shared}
 use Rattle.php_meaning.specs.Cause.{Call, Error}
 use Rattle.php_meaning.specs.Differences.{Differs}
 use Rattle.php_meaning.specs.Differences as difference
-use Rattle.php_meaning.specs.Arrays.{Own, behind}
-use Rattle.php_meaning.specs.World.{Bytes, Store}
-use Rattle.php_meaning.specs.Sites.{Site}
-use Rattle.php_meaning.specs.Stores.{cells_of}
-use Rattle.php_meaning.specs.Script.{Fresh, Handed, Kid, Script, Give, Stop, Look, Run, give, child_value, value_then, given, asking, comes, throws}
+use Rattle.php_meaning.specs.values.Arrays.{Own, behind}
+use Rattle.php_meaning.specs.runs.World.{Bytes, Store}
+use Rattle.scope_names.specs.Sites.{Site}
+use Rattle.php_meaning.specs.runs.Stores.{cells_of}
+use Rattle.php_meaning.specs.runs.Script.{Fresh, Handed, Kid, Script, Give, Stop, Look, Run, give, child_value, value_then, given, asking, comes, throws}
 use Rattle.php_meaning.specs.builtins.Arguments.{takes}
 use Rattle.php_meaning.specs.builtins.Answers.{answer}
-use Rattle.php_meaning.specs.builtins.Constants.{define}
+use Rattle.php_meaning.specs.names.Constants.{define}
 
 -- the builtin with one of these names, the first name first
 abbrev pub builtin_named : List Bytes → Option Builtin

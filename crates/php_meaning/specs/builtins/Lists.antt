@@ -1,9 +1,9 @@
 -- Builtins on arrays. (PHP manual, "Array Functions": array_keys, array_values, array_key_exists.)
 use Rattle.std.specs.Prelude.{ℕ, suc, Bool, if◌then◌else◌, is_some, pos, List}
-use Rattle.php_meaning.specs.Value.{Key, IntKey, TextKey, Value, Truth, Int, Text, Entries, none, own, shared}
+use Rattle.php_meaning.specs.values.Value.{Key, IntKey, TextKey, Value, Truth, Int, Text, Entries, none, own, shared}
 use Rattle.php_meaning.specs.Cause.{Outcome, Gives, Outside, Reference, Came, Returns, outcome_map}
-use Rattle.php_meaning.specs.Arrays.{Array, Own, array, empty_array, added, element_at}
-use Rattle.php_meaning.specs.Cells.{Cells}
+use Rattle.php_meaning.specs.values.Arrays.{Array, Own, array, empty_array, added, element_at}
+use Rattle.php_meaning.specs.values.Cells.{Cells}
 
 -- a key as value
 abbrev pub key_value : Key → Value

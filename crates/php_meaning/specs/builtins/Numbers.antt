@@ -1,10 +1,10 @@
 -- Builtins on ints. (PHP manual, "Math" and "Variable handling" functions: intdiv, intval.)
 use Rattle.std.specs.Prelude.{ℤ, if◌then◌else◌, int_div}
-use Rattle.php_meaning.specs.Value.{Value, Int}
+use Rattle.php_meaning.specs.values.Value.{Value, Int}
 use Rattle.php_meaning.specs.Cause.{ArithmeticError, DivisionByZeroError, Outcome, Gives, Came, Returns, Throws, outcome_map}
-use Rattle.php_meaning.specs.Ints.{fits}
-use Rattle.php_meaning.specs.Convert.{to_int}
-use Rattle.php_meaning.specs.Arithmetic.{is_zero}
+use Rattle.php_meaning.specs.values.Ints.{fits}
+use Rattle.php_meaning.specs.values.Convert.{to_int}
+use Rattle.php_meaning.specs.values.Arithmetic.{is_zero}
 
 -- a quotient towards zero, where it is an int
 abbrev pub quotient_within : ℤ → Outcome Came

@@ -1,10 +1,10 @@
 -- Builtins that look for a text in another one. (PHP manual, "String Functions": strpos, explode, str_replace.)
 use Rattle.std.specs.Prelude.{ℕ, zero, suc, Bool, true, false, ◌&&◌, if◌then◌else◌, ◌==◌, nat_le, List, [], ◌∷◌, ◌++◌, ℤ, pos, negsuc, length, drop, Option, Some, None, option_map}
-use Rattle.php_meaning.specs.Value.{IntKey, Value, Truth, Int, Text}
+use Rattle.php_meaning.specs.values.Value.{IntKey, Value, Truth, Int, Text}
 use Rattle.php_meaning.specs.Cause.{Call, Outcome, Gives, Outside, Came, Returns}
 use Rattle.php_meaning.specs.Differences.{ByVersion, Alike, Differs, Builtin}
-use Rattle.php_meaning.specs.Ints.{int_text}
-use Rattle.php_meaning.specs.Arrays.{Array, Own, array, empty_array, added}
+use Rattle.php_meaning.specs.values.Ints.{int_text}
+use Rattle.php_meaning.specs.values.Arrays.{Array, Own, array, empty_array, added}
 use Rattle.php_meaning.specs.builtins.Texts.{answers, refused}
 
 -- whether a text begins with another one

@@ -1,0 +1,2 @@
+-- Scripts of functions.
+pub mod Bodies

@@ -1,0 +1,259 @@
+-- Scripts of functions: declaring, calling, parameters; and of the variables that a body shares. (PHP manual,
+-- "Functions", "Variable scope".)
+use Rattle.std.specs.Prelude.{ℕ, zero, suc, ◌-◌, Bool, true, false, ◌&&◌, ◌||◌, cond, if◌then◌else◌, List, [], ◌∷◌, ◌++◌, codes, pos, is_some, Option, Some, None}
+use Rattle.std.specs.Str.{bytes_eq, str_to_ascii_lowercase}
+use Rattle.php_tree.specs.declared.kind.NodeKind.{NodeKind}
+use Rattle.php_tree.specs.declared.kind.NodeKind.TheVariants as kind
+use Rattle.scope_names.specs.Slot.{Slot, Declared, StaticVariable}
+use Rattle.php_meaning.specs.values.Value.{Value, Null, Truth, Text, Arr, Cell, Entries, IntKey, none, own, shared}
+use Rattle.php_meaning.specs.Cause.{NoRule, Conversion, Declaration, Call, ArgumentCountError}
+use Rattle.php_meaning.specs.Differences.{ByVersion, Alike, Differs, StaticsOfChild}
+use Rattle.php_meaning.specs.values.Arrays.{Own, Shared, behind}
+use Rattle.php_meaning.specs.runs.World.{Bytes, Frame, Store}
+use Rattle.scope_names.specs.Form.{Form, Word, Child, kids, texts}
+use Rattle.scope_names.specs.Words.{has_word, is_keyword, is_end, first_word, behind_word}
+use Rattle.scope_names.specs.Sites.{Site, in_space, declared_here}
+use Rattle.php_meaning.specs.names.Tables.{Tables, declaration_at, is_same_declared}
+use Rattle.php_meaning.specs.names.Tables as table
+use Rattle.php_meaning.specs.runs.Stores.{next_cell, with_cell, variable_slot, with_variable, last_frame}
+use Rattle.php_meaning.specs.literals.Literals.{found}
+use Rattle.php_meaning.specs.expressions.Expressions.{plain_name}
+use Rattle.php_meaning.specs.expressions.Assigning.{Properties, kept_then, cell_then}
+use Rattle.php_meaning.specs.runs.Script.{Return, Throw, Out, Fresh, Jump, Mode, Read, Name, Against, Given, Entered, Kid, There, Script, Give, Stop, Look, Put, Run, give, value_then, child_location, asking, throws}
+
+-- ---- names of declarations
+
+-- the name of a function or method: the word behind `function`, and behind `&`
+abbrev pub behind_mark : List Bytes → Bytes
+behind_mark [] = []
+behind_mark (w ∷ ws) = if bytes_eq w (codes "&") then first_word ws else w
+
+abbrev pub function_word : Form → Bytes
+function_word f = behind_mark (behind_word (codes "function") (texts f))
+
+abbrev pub function_name : table.Declaration → Bytes
+function_name d = in_space d.site.space (function_word d.form)
+
+abbrev pub is_function : NodeKind → Bool
+is_function kind.Function = true
+is_function k = false
+
+abbrev pub same_name : Bytes → Bytes → Bool
+same_name a b = bytes_eq (str_to_ascii_lowercase a) (str_to_ascii_lowercase b)
+
+-- the declared function with one of these names, the first name first
+abbrev pub declared_function : Tables → List Declared → Bytes → Option table.Declaration
+declared_function t [] name = None
+declared_function t (d ∷ ds) name = elim (declaration_at t d) [
+  | None ↦ declared_function t ds name
+  | Some e ↦ if is_function e.kind && same_name (function_name e) name then Some e else declared_function t ds name
+]
+
+abbrev pub function_named : Tables → List Declared → List Bytes → Option table.Declaration
+function_named t ds [] = None
+function_named t ds (n ∷ ns) = elim (declared_function t ds n) [ Some d ↦ Some d | None ↦ function_named t ds ns ]
+
+-- ---- declaring
+
+abbrev pub is_declared : List Declared → Declared → Bool
+is_declared [] d = false
+is_declared (e ∷ es) d = is_same_declared e d || is_declared es d
+
+abbrev pub declare : Declared → Script → Script
+declare d k = Look (λ s. Put (record s { declared = d ∷ s.declared }) k)
+
+-- a function that is reached: an unconditional one was declared when its file started
+abbrev pub reach_function : Tables → Site → Script
+reach_function t s = elim (declaration_at t (declared_here s)) [
+  | None ↦ Stop Declaration
+  | Some d ↦
+      if d.is_top then give Null
+      else Look (λ st. elim (declared_function t st.declared (function_name d)) [
+        | None ↦ declare d.at (give Null)
+        | Some e ↦ Stop Declaration
+      ])
+]
+
+-- ---- calling
+
+-- which parameters are by reference
+abbrev pub reference_marks : List (NodeKind × Form) → List Bool
+reference_marks [] = []
+reference_marks ((kind.Param, f) ∷ ks) = has_word (codes "&") (texts f) ∷ reference_marks ks
+reference_marks (k ∷ ks) = reference_marks ks
+
+-- The arguments, from the child `i` on, behind those so far: an array whose entries are shared where they are by
+-- reference.
+abbrev pub arguments : Properties → Site → ℕ → ℕ → List Bool → Entries → Script
+arguments properties s i zero marks es = Give (Fresh (Arr None i es))
+arguments properties s i (suc n) (true ∷ marks) es =
+    child_location i (λ l. cell_then properties s l (λ c. arguments properties s (suc i) n marks (behind es (IntKey (pos i)) i (Shared c))))
+arguments properties s i (suc n) (false ∷ marks) es =
+    Run (Kid i Read) (kept_then (λ v. arguments properties s (suc i) n marks (behind es (IntKey (pos i)) i (Own v))))
+arguments properties s i (suc n) [] es =
+    Run (Kid i Read) (kept_then (λ v. arguments properties s (suc i) n [] (behind es (IntKey (pos i)) i (Own v))))
+
+abbrev pub entries_then : (Entries → Script) → Out → Script
+entries_then k (Fresh (Arr largest next es)) = k es
+entries_then k (Jump w) = Give (Jump w)
+entries_then k o = Stop NoRule
+
+-- the body that ran is left
+abbrev pub left : Store → Store
+left s = elim s.waiting [ [] ↦ s | f ∷ fs ↦ record s { here = f; waiting = fs } ]
+
+abbrev pub entered : Frame → Store → Store
+entered f s = record s { here = f; waiting = s.here ∷ s.waiting }
+
+-- a declaration runs in a frame of its own
+abbrev pub in_frame : Frame → Declared → Mode → (Out → Script) → Script
+in_frame f d m k = Look (λ s. Put (entered f s) (Run (There d m) (λ o. Look (λ u. Put (left u) (k o)))))
+
+abbrev pub body_frame : Declared → Option ℕ → Option Bytes → Entries → Frame
+body_frame d this class es = record {
+  body = Some d;
+  variables = [];
+  this = this;
+  class = class;
+  arguments = es;
+  item = None;
+}
+
+-- a function or method is called with these arguments
+abbrev pub call_with : table.Declaration → Option ℕ → Option Bytes → (Out → Script) → Entries → Script
+call_with d this class k es = in_frame (body_frame d.at this class es) d.at Entered k
+
+-- the words of some forms
+abbrev pub all_words : List (NodeKind × Form) → List Bytes
+all_words [] = []
+all_words (k ∷ ks) = texts k.1 ++ all_words ks
+
+-- The arguments of the child `i` are evaluated, and then a function or method is called. No call starts in a value that a
+-- declaration writes down, and a variadic parameter is outside.
+abbrev pub call : ℕ → table.Declaration → Option ℕ → Option Bytes → (Out → Script) → Script
+call i d this class k =
+    Look (λ s. if is_some s.here.item || has_word (codes "...") (all_words d.kids) then Stop Call else
+    Run (Kid i (Given (reference_marks d.kids))) (entries_then (call_with d this class k)))
+
+-- ---- bodies
+
+-- what a body came to, as the value of its call
+abbrev pub returned : (Value → Script) → Out → Script
+returned k (Jump (Return v)) = k v
+returned k (Jump (Throw n)) = Give (Jump (Throw n))
+returned k (Jump w) = Stop NoRule
+returned k o = k Null
+
+abbrev pub has_type : Form → Bool
+has_type f = has_word (codes ":") (texts f)
+
+-- a value that a type lets pass, as the child `i` says
+abbrev pub checked : ℕ → Value → Script → Script
+checked i v k = Run (Kid i (Against v)) (value_then (elim [ Truth true ↦ k | _ ↦ Stop Conversion ]))
+
+-- the parameters in order, and then the body, the last child
+abbrev pub enter_body : Form → ℕ → ℕ → Script
+enter_body f i zero =
+    Run (Kid (kids f - 1) Read) (returned (λ v. if has_type f then checked i v (give v) else give v))
+enter_body f i (suc n) = Run (Kid i Entered) (value_then (λ v. enter_body f (suc i) n))
+
+abbrev pub body_script : Form → Script
+body_script f = enter_body f 0 (kids f - 1 - cond (has_type f) 1 0)
+
+-- ---- parameters
+
+abbrev pub is_dollar : ℕ → Bool
+is_dollar b = bytes_eq (b ∷ []) (codes "$")
+
+abbrev pub variable_word : List Bytes → Bytes
+variable_word [] = []
+variable_word ([] ∷ ws) = variable_word ws
+variable_word ((b ∷ bs) ∷ ws) = cond (is_dollar b) bs (variable_word ws)
+
+-- a variable of the body with a value
+abbrev pub with_local : Site → Bytes → Value → Store → Store
+with_local s name v st =
+    let c = next_cell (variable_slot s.body name) st in with_variable name c (with_cell v st)
+
+abbrev pub has_default : Form → Bool
+has_default f = has_word (codes "=") (texts f)
+
+abbrev pub with_arguments : Entries → Store → Store
+with_arguments es s = record s { here = record s.here { arguments = es } }
+
+-- whether a type stands in front; a default of null makes it nullable, which only a run can tell
+abbrev pub is_typed : Form → Bool
+is_typed f = elim f [ Child ∷ g ↦ true | _ ↦ false ]
+
+abbrev pub passed : Site → Form → Value → Script → Script
+passed s f v k = if is_typed f then checked 0 v k else k
+
+abbrev pub parameter : Site → Form → Store → Entries → Script
+parameter s f st (own k n v rest) =
+    passed s f v (Put (with_local s (variable_word (texts f)) v (with_arguments rest st)) (give Null))
+parameter s f st (shared k n c rest) =
+    passed s f (st.held c) (Put (with_variable (variable_word (texts f)) c (with_arguments rest st)) (give Null))
+parameter s f st none =
+    if has_default f
+    then Run (Kid (kids f - 1) Read) (kept_then (λ v. Look (λ u. Put (with_local s (variable_word (texts f)) v u) (give Null))))
+    else throws ArgumentCountError
+
+-- ---- shared variables
+
+-- the cell of a file's variable, made where there is none
+abbrev pub with_last : (Frame → Frame) → Frame → List Frame → Frame × List Frame
+with_last change f [] = (change f, [])
+with_last change f (g ∷ gs) = (f, (with_last change g gs).0 ∷ (with_last change g gs).1)
+
+abbrev pub file_variable : Bytes → (Cell → Script) → Script
+file_variable name k = Look (λ s. elim (found (last_frame s.here s.waiting).variables name) [
+  | Some c ↦ k c
+  | None ↦
+      let c = next_cell (variable_slot None name) s in
+      let fs = with_last (λ f. record f { variables = (name, c) ∷ f.variables }) s.here s.waiting in
+      Put (record (with_cell Null s) { here = fs.0; waiting = fs.1 }) (k c)
+])
+
+abbrev pub global_all : ℕ → ℕ → Script
+global_all i zero = give Null
+global_all i (suc n) =
+    Run (Kid i Name) (value_then (elim [
+      | Text name ↦ file_variable name (λ c. Look (λ s. Put (with_variable name c s) (global_all (suc i) n)))
+      | _ ↦ Stop NoRule
+    ]))
+
+-- Static variables: each is bound to its cell, which is made with its first value where there is none. Those of a method
+-- that a child class inherits are the child's own in 7.4, and the parent's in 8.3. (UPGRADING 8.1.)
+abbrev pub same_class : Option Bytes → Option Bytes → Bool
+same_class None None = true
+same_class (Some a) (Some b) = same_name a b
+same_class a b = false
+
+abbrev pub static_cell : List (Slot × Option Bytes × Cell) → Declared → Bytes → Option Bytes → Option Cell
+static_cell [] d name class = None
+static_cell ((StaticVariable e n, o, c) ∷ cs) d name class =
+    if is_same_declared d e && bytes_eq n name && same_class o class then Some c else static_cell cs d name class
+static_cell (c ∷ cs) d name class = static_cell cs d name class
+
+abbrev pub static_owner : Site → Store → ByVersion (Option Bytes)
+static_owner s st = if same_class s.class st.here.class then Alike s.class else Differs StaticsOfChild st.here.class s.class
+
+abbrev pub bind_static : Site → Bytes → ((Value → Script) → Script) → Script → Script
+bind_static s name first k = Look (λ st. asking (static_owner s st) (λ class. elim (static_cell st.statics (declared_here s) name class) [
+  | Some c ↦ Put (with_variable name c st) k
+  | None ↦ first (λ v. Look (λ u.
+      let slot : Slot = StaticVariable (declared_here s) name in
+      let c : Cell = next_cell slot u in
+      Put (with_variable name c (record (with_cell v u) { statics = (slot, class, c) ∷ u.statics })) k))
+]))
+
+abbrev pub statics : Site → ℕ → Form → Script
+statics s i [] = give Null
+statics s i (Word _ w ∷ Word _ e ∷ Child ∷ f) =
+    if bytes_eq e (codes "=")
+    then bind_static s (plain_name w) (λ k. Run (Kid i Read) (kept_then k)) (statics s (suc i) f)
+    else Stop NoRule
+statics s i (Word _ w ∷ f) =
+    if is_end w || is_keyword (codes "static") w then statics s i f
+    else bind_static s (plain_name w) (λ k. k Null) (statics s i f)
+statics s i (Child ∷ f) = Stop NoRule

@@ -1,0 +1,2 @@
+-- Scripts of classes and objects.
+pub mod Objects

@@ -1,0 +1,172 @@
+-- Scripts of variables, offsets, array literals and assignments. (PHP manual, "Variables", "Arrays", "Assignment
+-- Operators", "Incrementing/Decrementing Operators".)
+use Rattle.std.specs.Prelude.{ℕ, zero, suc, Bool, true, false, not, cond, if◌then◌else◌, List, [], ◌∷◌, ◌++◌, codes, Option, Some, None}
+use Rattle.std.specs.Str.{bytes_eq}
+use Rattle.php_meaning.specs.values.Value.{Value, Null, Truth, Text, Object, Arr}
+use Rattle.php_meaning.specs.Cause.{NoRule, Outcome}
+use Rattle.php_meaning.specs.values.Convert.{to_text, to_truth}
+use Rattle.php_meaning.specs.values.Keys.{to_key}
+use Rattle.php_meaning.specs.values.Arrays.{Own, Shared, Array, array, empty_array, with_element, appended}
+use Rattle.php_meaning.specs.values.Offsets.{Reading, at_offset}
+use Rattle.php_meaning.specs.expressions.QuotedTexts.{variable_read}
+use Rattle.php_meaning.specs.expressions.Operators.{Operation}
+use Rattle.php_meaning.specs.runs.World.{Bytes}
+use Rattle.scope_names.specs.Form.{Form, Word, Child, texts}
+use Rattle.scope_names.specs.Words.{has_word}
+use Rattle.scope_names.specs.Sites.{Site}
+use Rattle.php_meaning.specs.runs.Stores.{cells_of, held_or_null, variable_cell}
+use Rattle.php_meaning.specs.expressions.Assigning.{Properties, numbered, kept_then, write, read, bind, cell_then}
+use Rattle.php_meaning.specs.runs.Script.{InVariable, Location, Out, Val, Fresh, At, Jump, Mode, Read, Quiet, Unset, Into, Kid, Script, Give, Stop, Look, Put, Run, give, value_then, child_value, child_location, given, asking, came_then, comes}
+
+-- ---- variables
+
+-- the variable of its token: the name is what follows the `$`
+abbrev pub plain_name : Bytes → Bytes
+plain_name [] = []
+plain_name (b ∷ bs) = bs
+
+abbrev pub in_variable : Bytes → Location
+in_variable name = record { root = InVariable name; offsets = [] }
+
+abbrev pub variable_value : Bytes → Script
+variable_value name = variable_read name give
+
+-- the same where nothing is said of what isn't there
+abbrev pub this_quietly : Option ℕ → Script
+this_quietly None = give Null
+this_quietly (Some n) = give (Object n)
+
+abbrev pub variable_quietly : Bytes → Script
+variable_quietly name =
+    if bytes_eq name (codes "this") then Look (λ s. this_quietly s.here.this) else variable_value name
+
+-- ---- offsets
+
+abbrev pub behind_offset : Location → Option Value → Location
+behind_offset l k = record l { offsets = l.offsets ++ k ∷ [] }
+
+abbrev pub first_of : List Bytes → Bytes
+first_of [] = []
+first_of (w ∷ ws) = w
+
+-- the value that the key of a simple offset in a quoted text writes
+abbrev pub simple_key : List Bytes → Value
+simple_key (bracket ∷ k ∷ more) = if bytes_eq k (codes "-") then Text (codes "-" ++ first_of more) else Text k
+simple_key ws = Null
+
+abbrev pub offset_of : Reading → Value → Value → Script
+offset_of reading v k = Look (λ s. given (at_offset (cells_of s) reading v k) comes)
+
+-- read, of a base in a mode
+abbrev pub read_offset : Mode → Reading → Form → Script
+read_offset m reading (Child ∷ Word _ o ∷ Child ∷ f) =
+    Run (Kid 0 m) (value_then (λ v. child_value 1 (λ k. offset_of reading v k)))
+read_offset m reading (Child ∷ Word _ o ∷ Word _ c ∷ []) = Stop NoRule
+read_offset m reading (Child ∷ f) = Run (Kid 0 m) (value_then (λ v. offset_of reading v (simple_key (texts f))))
+read_offset m reading f = Stop NoRule
+
+-- as location
+abbrev pub offset_location : Form → (Location → Script) → Script
+offset_location (Child ∷ Word _ o ∷ Child ∷ f) k =
+    child_location 0 (λ l. child_value 1 (λ v. k (behind_offset l (Some v))))
+offset_location (Child ∷ Word _ o ∷ Word _ c ∷ []) k = child_location 0 (λ l. k (behind_offset l None))
+offset_location f k = Stop NoRule
+
+-- ---- array literals
+
+-- the array so far, of a mode
+abbrev pub with_array : Value → (Array → Script) → Script
+with_array (Arr largest next es) k = k (record { largest = largest; next = next; entries = es })
+with_array v k = Stop NoRule
+
+abbrev pub fresh : Array → Script
+fresh a = Give (Fresh (array a))
+
+-- an item's value or cell behind the items so far
+abbrev pub item_value : Form → ℕ → (Bool → Script) → Script
+item_value f i k = k (has_word (codes "&") (texts f))
+
+-- an item, into the array so far
+abbrev pub item : Properties → Site → Form → Array → Script
+item properties s f a =
+    if has_word (codes "...") (texts f) then Stop NoRule
+    else (if has_word (codes "=>") (texts f)
+    then child_value 0 (λ v. given (to_key v) (λ key.
+    (if has_word (codes "&") (texts f)
+    then child_location 1 (λ l. cell_then properties s l (λ c. fresh (with_element key (Shared c) a)))
+    else Run (Kid 1 Read) (kept_then (λ w. fresh (with_element key (Own w) a))))))
+    else (if has_word (codes "&") (texts f)
+    then child_location 0 (λ l. cell_then properties s l (λ c. asking (appended (Shared c) a) (λ o. given o fresh)))
+    else Run (Kid 0 Read) (kept_then (λ w. asking (appended (Own w) a) (λ o. given o fresh)))))
+
+abbrev pub fresh_then : (Value → Script) → Out → Script
+fresh_then k (Fresh v) = k v
+fresh_then k (Val v) = Stop NoRule
+fresh_then k (At l) = Stop NoRule
+fresh_then k (Jump w) = Give (Jump w)
+
+abbrev pub items : ℕ → ℕ → Value → Script
+items i zero a = Give (Fresh a)
+items i (suc n) a = Run (Kid i (Into a)) (fresh_then (λ b. items (suc i) n b))
+
+abbrev pub array_literal : ℕ → Script
+array_literal n = Look (λ s. Put (numbered n s) (items 0 n (array (empty_array s.serials))))
+
+-- ---- assignments
+
+abbrev pub assign : Properties → Site → Script
+assign properties s =
+    child_location 0 (λ l. Run (Kid 1 Read) (kept_then (λ v. write properties s l v (give v))))
+
+-- by reference; an element to an element is outside
+abbrev pub has_offsets : Location → Bool
+has_offsets l = elim l.offsets [ [] ↦ false | k ∷ ks ↦ true ]
+
+abbrev pub assign_reference : Properties → Site → Script
+assign_reference properties s =
+    child_location 0 (λ l. child_location 1 (λ m.
+    if has_offsets l then cond (has_offsets m) (Stop NoRule) (cell_then properties s m (λ c. bind properties s l c (Look (λ st. give (st.held c)))))
+    else cell_then properties s m (λ c. bind properties s l c (Look (λ st. give (st.held c))))))
+
+-- the operator of a compound assignment, without its `=`
+abbrev pub operator_of : Bytes → Bytes
+operator_of [] = []
+operator_of (b ∷ []) = []
+operator_of (b ∷ c ∷ bs) = b ∷ operator_of (c ∷ bs)
+
+-- the target is read after the right side
+abbrev pub compound : Properties → Site → Option Operation → Script
+compound properties s None = Stop NoRule
+compound properties s (Some o) =
+    child_location 0 (λ l. child_value 1 (λ b. read properties s l (λ a.
+    given (o.left a) (λ left. asking (o.answer left b) (λ r. given r (came_then (λ v. write properties s l v (give v))))))))
+
+-- `++` and `--`: the value after it, or before it
+abbrev pub stepped : Properties → Site → Bool → (Value → Outcome Value) → Script
+stepped properties s is_before step =
+    child_location 0 (λ l. read properties s l (λ a. given (step a) (λ v. write properties s l v (give (cond is_before v a)))))
+
+-- ---- tests
+
+-- whether each child is there
+abbrev pub isset : ℕ → ℕ → Script
+isset i zero = give (Truth true)
+isset i (suc n) = Run (Kid i Quiet) (value_then (elim [ Null ↦ give (Truth false) | _ ↦ isset (suc i) n ]))
+
+abbrev pub empty_test : Script
+empty_test = Run (Kid 0 Quiet) (value_then (λ v. give (Truth (not (to_truth v)))))
+
+abbrev pub coalesce : Script
+coalesce = Run (Kid 0 Quiet) (value_then (elim [ Null ↦ Run (Kid 1 Read) Give | v ↦ give v ]))
+
+abbrev pub both : Script
+both = child_value 0 (λ a. cond (to_truth a) (child_value 1 (λ b. give (Truth (to_truth b)))) (give (Truth false)))
+
+abbrev pub either : Script
+either = child_value 0 (λ a. cond (to_truth a) (give (Truth true)) (child_value 1 (λ b. give (Truth (to_truth b)))))
+
+-- ---- unset
+
+abbrev pub unset_all : ℕ → ℕ → Script
+unset_all i zero = give Null
+unset_all i (suc n) = Run (Kid i Unset) (value_then (λ v. unset_all (suc i) n))

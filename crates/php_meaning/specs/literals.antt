@@ -1,0 +1,5 @@
+-- The values that literals write.
+pub mod Literals
+pub mod Escapes
+pub mod Nowdocs
+pub mod TextLiterals

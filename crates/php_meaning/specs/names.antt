@@ -1,0 +1,3 @@
+-- What a program declares, and what its names stand for.
+pub mod Tables
+pub mod Constants

@@ -1,0 +1,75 @@
+-- The declarations of a program, computed from its files once: what a rule may know of a function or class that stands
+-- elsewhere. Each has a name that no rewriting changes.
+use Rattle.std.specs.Prelude.{ℕ, Bool, true, false, ◌&&◌, nat_eq, if◌then◌else◌, List, [], ◌∷◌, ◌++◌, Option, Some, None}
+use Rattle.std.specs.Str.{bytes_eq}
+use Rattle.php_tree.specs.declared.kind.NodeKind.{NodeKind}
+use Rattle.php_tree.specs.declared.kind.NodeKind.TheVariants as kind
+use Rattle.php_tree.specs.Tree.{Forest, none, leaf, node}
+use Rattle.scope_names.specs.Slot.{Declared}
+use Rattle.scope_names.specs.Form.{Form, form}
+use Rattle.scope_names.specs.Sites.{Site, file_site, is_declaration, declared_here, within, beside}
+use Rattle.php_meaning.specs.runs.Kinds.{is_expression}
+
+-- A declaration: where it stands, its kind and form, the kinds and forms of its children that are no
+-- expressions, the class that it is a member
+-- of, and whether it is unconditional.
+pub record Declaration : Type 0 where
+  pub at : Declared
+  pub kind : NodeKind
+  pub site : Site
+  pub form : Form
+  pub kids : List (NodeKind × Form)
+  pub of : Option Declared
+  pub is_top : Bool
+
+abbrev pub Tables : Type 0
+Tables = List Declaration
+
+-- the kinds and forms of the nodes that are no expressions
+abbrev pub kid_before : Bool → NodeKind × Form → List (NodeKind × Form) → List (NodeKind × Form)
+kid_before true k ks = ks
+kid_before false k ks = k ∷ ks
+
+abbrev pub kid_forms : Forest → List (NodeKind × Form)
+kid_forms none = []
+kid_forms (leaf t f) = kid_forms f
+kid_forms (node k c f) = kid_before (is_expression k) (k, form c) (kid_forms f)
+
+-- whether what stands in a node is unconditional where the node is
+abbrev pub keeps_top : NodeKind → Bool
+keeps_top kind.Namespace = true
+keeps_top kind.Declare = true
+keeps_top k = false
+
+-- the class that a node's children are members of
+abbrev pub holder : NodeKind → Site → Option Declared
+holder kind.Class s = Some (declared_here s)
+holder kind.Interface s = Some (declared_here s)
+holder k s = None
+
+abbrev pub entry : Bool → Declaration → Tables → Tables
+entry true d ds = d ∷ ds
+entry false d ds = ds
+
+-- the declarations of a forest that begins at this site
+abbrev pub listed : Site → Option Declared → Bool → Forest → Tables
+listed s of top none = []
+listed s of top (leaf t f) = listed s of top f
+listed s of top (node k c f) =
+    entry (is_declaration k)
+    (record { at = declared_here s; kind = k; site = s; form = form c; kids = kid_forms c; of = of; is_top = top })
+    (listed (within k c s) (holder k s) (keeps_top k && top) c) ++ listed (beside k c s) of top f
+
+-- the declarations of a program's files
+abbrev pub tables_of : List (List ℕ × Forest) → Tables
+tables_of [] = []
+tables_of (f ∷ fs) = listed (file_site f.0) None true f.1 ++ tables_of fs
+
+-- ---- finding
+
+abbrev pub is_same_declared : Declared → Declared → Bool
+is_same_declared a b = nat_eq a.number b.number && bytes_eq a.file b.file
+
+abbrev pub declaration_at : Tables → Declared → Option Declaration
+declaration_at [] d = None
+declaration_at (e ∷ es) d = if is_same_declared e.at d then Some e else declaration_at es d

@@ -1,0 +1,128 @@
+-- What is done to a store: cells are made and written, variables found and bound, and the holders of a cell counted.
+use Rattle.std.specs.Prelude.{ℕ, zero, suc, Bool, true, false, ◌||◌, if◌then◌else◌, nat_eq, nat_lt, List, [], ◌∷◌, ◌++◌, codes, Option, Some, None}
+use Rattle.std.specs.Str.{bytes_eq}
+use Rattle.scope_names.specs.Slot.{Declared, Slot, FileVariable, BodyVariable}
+use Rattle.php_meaning.specs.values.Value.{Value, Null, Truth, Int, Text, Object, Arr, Cell, Entries, none, own, shared}
+use Rattle.php_meaning.specs.values.Cells.{Cells, is_same_cell, is_among}
+use Rattle.php_meaning.specs.literals.Literals.{found}
+use Rattle.php_meaning.specs.runs.World.{Bytes, Frame, Store}
+use Rattle.php_meaning.specs.runs.World as world
+
+-- ---- cells
+
+-- the store with another value in a cell
+abbrev pub with_value : Cell → Value → Store → Store
+with_value c v s = record s { held = λ d. elim (is_same_cell d c) [ true ↦ v | false ↦ s.held d ] }
+
+-- the next cell
+abbrev pub next_cell : Slot → Store → Cell
+next_cell slot s = record { number = s.made; slot = slot }
+
+-- the store with the next cell, which holds this value
+abbrev pub with_cell : Value → Store → Store
+with_cell v s = record s { made = suc s.made; held = λ d. elim (nat_eq d.number s.made) [ true ↦ v | false ↦ s.held d ] }
+
+-- ---- variables
+
+-- the slot of a variable of the code at a site
+abbrev pub variable_slot : Option Declared → Bytes → Slot
+variable_slot None name = FileVariable name
+variable_slot (Some body) name = BodyVariable body name
+
+-- whether a variable is the file's in every body
+abbrev pub is_everywhere : Bytes → Bool
+is_everywhere name = bytes_eq name (codes "_GET") || bytes_eq name (codes "_POST")
+
+-- the file's frame
+abbrev pub last_frame : Frame → List Frame → Frame
+last_frame f [] = f
+last_frame f (g ∷ gs) = last_frame g gs
+
+abbrev pub frame_of : Bytes → Store → Frame
+frame_of name s = if is_everywhere name then last_frame s.here s.waiting else s.here
+
+-- the cell of a variable
+abbrev pub variable_cell : Bytes → Store → Option Cell
+variable_cell name s = found (frame_of name s).variables name
+
+-- the value of a variable, or null where there is none
+abbrev pub held_or_null : Store → Option Cell → Value
+held_or_null s None = Null
+held_or_null s (Some c) = s.held c
+
+-- variables without one
+abbrev pub without_name : Bytes → List (Bytes × Cell) → List (Bytes × Cell)
+without_name name [] = []
+without_name name (v ∷ vs) = if bytes_eq v.0 name then vs else v ∷ without_name name vs
+
+-- the store with a variable bound to a cell, in the body that runs
+abbrev pub with_variable : Bytes → Cell → Store → Store
+with_variable name c s =
+    record s { here = record s.here { variables = (name, c) ∷ without_name name s.here.variables } }
+
+-- the store without a variable
+abbrev pub without_variable : Bytes → Store → Store
+without_variable name s = record s { here = record s.here { variables = without_name name s.here.variables } }
+
+-- ---- holders
+
+-- the cells that lie in a value, one for each place
+abbrev mutual
+  pub cells_in : Value → List Cell
+  cells_in Null = []
+  cells_in (Truth b) = []
+  cells_in (Int i) = []
+  cells_in (Text t) = []
+  cells_in (Object n) = []
+  cells_in (Arr largest next es) = cells_among es
+
+  pub cells_among : Entries → List Cell
+  cells_among none = []
+  cells_among (own k n v rest) = cells_in v ++ cells_among rest
+  cells_among (shared k n c rest) = c ∷ cells_among rest
+
+abbrev pub named_cells : {A : Type 0} → List (A × Cell) → List Cell
+named_cells [] = []
+named_cells (v ∷ vs) = v.1 ∷ named_cells vs
+
+abbrev pub frame_cells : List Frame → List Cell
+frame_cells [] = []
+frame_cells (f ∷ fs) = named_cells f.variables ++ frame_cells fs
+
+abbrev pub static_cells : List (Slot × Option Bytes × Cell) → List Cell
+static_cells [] = []
+static_cells (c ∷ cs) = c.2 ∷ static_cells cs
+
+abbrev pub object_cells : List world.Object → List Cell
+object_cells [] = []
+object_cells (o ∷ os) = named_cells o.properties ++ object_cells os
+
+-- the cells that something outside of arrays holds, one for each holder
+abbrev pub roots : Store → List Cell
+roots s = named_cells s.here.variables ++ frame_cells s.waiting ++ static_cells s.statics ++ object_cells s.objects
+
+-- these cells and those, each once
+abbrev pub added_cells : List Cell → List Cell → List Cell
+added_cells seen [] = seen
+added_cells seen (c ∷ cs) = if is_among c seen then added_cells seen cs else added_cells (c ∷ seen) cs
+
+abbrev pub cells_held : Store → List Cell → List Cell
+cells_held s [] = []
+cells_held s (c ∷ cs) = cells_in (s.held c) ++ cells_held s cs
+
+-- the cells that are reached from these in at most so many steps
+abbrev pub reached : ℕ → Store → List Cell → List Cell
+reached zero s cs = cs
+reached (suc n) s cs = reached n s (added_cells cs (cells_held s cs))
+
+abbrev pub times_among : Cell → List Cell → ℕ
+times_among c [] = zero
+times_among c (d ∷ ds) = if is_same_cell c d then suc (times_among c ds) else times_among c ds
+
+-- How many holders a cell has, of those that can be reached.
+abbrev pub holders : Store → Cell → ℕ
+holders s c = times_among c (roots s ++ cells_held s (reached s.made s (added_cells [] (roots s))))
+
+-- what the store tells of cells
+abbrev pub cells_of : Store → Cells
+cells_of s = record { value_in = s.held; has_one_holder = λ c. nat_lt (holders s c) 2; count = s.made }

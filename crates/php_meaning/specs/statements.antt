@@ -1,0 +1,2 @@
+-- Scripts of statements that run others.
+pub mod Loops
