@@ -6,6 +6,7 @@ use Rattle.php_tree.specs.Tree.{Forest, none, node}
 use Rattle.builtin_tables.specs.Builtins.{builtin_rows}
 use Rattle.builtin_tables.specs.Constants.{named_constants, word_constants}
 use Rattle.builtin_tables.specs.Named.{is_same_name}
+use Rattle.builtin_tables.specs.Newer.{newer_functions, newer_classes, newer_constants}
 use Rattle.meaning_rows.specs.Words.{t, b, file, ended, Comes}
 
 -- <?php class A { public $n = 1; function add($k) { $this->n += $k; return $this; } } echo (new A)->add(2)->add(3)->n;
@@ -29,7 +30,7 @@ methods_tree =
 methods : Comes 200 (file methods_tree) (file methods_tree) (codes "a.php")
     ((codes "6"), ended)
     ((codes "6"), ended)
-unfolding builtin_rows named_constants word_constants is_same_name
+unfolding builtin_rows named_constants word_constants is_same_name newer_functions newer_classes newer_constants
 methods = (refl, refl)
 
 -- <?php class A { function f() { return 'A' . $this->g(); } function g() { return 'a'; } } class B extends A { function g() { return 'b' . parent::g(); } } echo (new B)->f(), (new A)->f();
@@ -58,7 +59,7 @@ inheritance_tree =
 inheritance : Comes 200 (file inheritance_tree) (file inheritance_tree) (codes "a.php")
     ((codes "AbaAa"), ended)
     ((codes "AbaAa"), ended)
-unfolding builtin_rows named_constants word_constants is_same_name
+unfolding builtin_rows named_constants word_constants is_same_name newer_functions newer_classes newer_constants
 inheritance = (refl, refl)
 
 -- <?php class A { static $n = 0; const C = 'c'; static function up() { return ++self::$n . static::C; } } class B extends A { const C = 'd'; } echo A::up(), B::up(), A::$n, B::$n;
@@ -85,7 +86,7 @@ static_members_tree =
 static_members : Comes 200 (file static_members_tree) (file static_members_tree) (codes "a.php")
     ((codes "1c2d22"), ended)
     ((codes "1c2d22"), ended)
-unfolding builtin_rows named_constants word_constants is_same_name
+unfolding builtin_rows named_constants word_constants is_same_name newer_functions newer_classes newer_constants
 static_members = (refl, refl)
 
 -- <?php abstract class S { abstract function area(); function twice() { return $this->area() * 2; } } class Q extends S { function area() { return 3; } } echo (new Q)->twice();
@@ -109,7 +110,7 @@ abstract_class_tree =
 abstract_class : Comes 200 (file abstract_class_tree) (file abstract_class_tree) (codes "a.php")
     ((codes "6"), ended)
     ((codes "6"), ended)
-unfolding builtin_rows named_constants word_constants is_same_name
+unfolding builtin_rows named_constants word_constants is_same_name newer_functions newer_classes newer_constants
 abstract_class = (refl, refl)
 
 -- <?php class A { function A() { echo 1; } } new A;
@@ -134,7 +135,7 @@ old_constructor_new_tree =
 old_constructor : Comes 200 (file old_constructor_tree) (file old_constructor_new_tree) (codes "a.php")
     ((codes "1"), ended)
     ((codes "1"), ended)
-unfolding builtin_rows named_constants word_constants is_same_name
+unfolding builtin_rows named_constants word_constants is_same_name newer_functions newer_classes newer_constants
 old_constructor = (refl, refl)
 
 -- <?php class A { function A() { echo 1; } } new A; echo 2;
@@ -150,7 +151,7 @@ old_constructor_asked_tree =
 old_constructor_asked : Comes 200 (file old_constructor_asked_tree) (file old_constructor_asked_tree) (codes "a.php")
     ((codes "12"), ended)
     ((codes "2"), ended)
-unfolding builtin_rows named_constants word_constants is_same_name
+unfolding builtin_rows named_constants word_constants is_same_name newer_functions newer_classes newer_constants
 old_constructor_asked = (refl, refl)
 
 -- <?php class A { function f() { static $n = 0; $n++; echo $n; } } class B extends A {} (new A)->f(); (new B)->f();
@@ -173,7 +174,7 @@ inherited_static_tree =
 inherited_static : Comes 200 (file inherited_static_tree) (file inherited_static_tree) (codes "a.php")
     ((codes "11"), ended)
     ((codes "12"), ended)
-unfolding builtin_rows named_constants word_constants is_same_name
+unfolding builtin_rows named_constants word_constants is_same_name newer_functions newer_classes newer_constants
 inherited_static = (refl, refl)
 
 -- <?php class A { function f() { return 'f'; } } try { echo A::f(); } catch (Error $e) { echo 'E'; }
@@ -192,7 +193,7 @@ static_call_of_a_method_tree =
 static_call_of_a_method : Comes 200 (file static_call_of_a_method_tree) (file static_call_of_a_method_tree) (codes "a.php")
     ((codes "f"), ended)
     ((codes "E"), ended)
-unfolding builtin_rows named_constants word_constants is_same_name
+unfolding builtin_rows named_constants word_constants is_same_name newer_functions newer_classes newer_constants
 static_call_of_a_method = (refl, refl)
 
 -- <?php class A { public $v = 1; } function f($o) { $o->v = 2; } $a = new A; f($a); $b = $a; $b->v++; echo $a->v; $c = [$a]; $c[0]->v = 9; echo $a->v;
@@ -225,7 +226,7 @@ objects_are_shared_tree =
 objects_are_shared : Comes 200 (file objects_are_shared_tree) (file objects_are_shared_tree) (codes "a.php")
     ((codes "39"), ended)
     ((codes "39"), ended)
-unfolding builtin_rows named_constants word_constants is_same_name
+unfolding builtin_rows named_constants word_constants is_same_name newer_functions newer_classes newer_constants
 objects_are_shared = (refl, refl)
 
 -- <?php class A { function n() { return __CLASS__ . self::class . static::class; } } class B extends A {} echo (new B)->n(), B::class;
@@ -247,7 +248,7 @@ class_names_tree =
 class_names : Comes 200 (file class_names_tree) (file class_names_tree) (codes "a.php")
     ((codes "AABB"), ended)
     ((codes "AABB"), ended)
-unfolding builtin_rows named_constants word_constants is_same_name
+unfolding builtin_rows named_constants word_constants is_same_name newer_functions newer_classes newer_constants
 class_names = (refl, refl)
 
 -- <?php class A {} try { (new A)->f(); } catch (Error $e) { echo 'M'; } try { A::g(); } catch (Error $e) { echo 'S'; } try { echo A::C; } catch (Error $e) { echo 'C'; } try { echo A::$p; } catch (Error $e) { echo 'P'; } try { new Nowhere; } catch (Error $e) { echo 'N'; }
@@ -284,7 +285,7 @@ missing_members_tree =
 missing_members : Comes 200 (file missing_members_tree) (file missing_members_tree) (codes "a.php")
     ((codes "MSCPN"), ended)
     ((codes "MSCPN"), ended)
-unfolding builtin_rows named_constants word_constants is_same_name
+unfolding builtin_rows named_constants word_constants is_same_name newer_functions newer_classes newer_constants
 missing_members = (refl, refl)
 
 -- <?php $n = null; try { $n->f(); } catch (Error $e) { echo 'E'; }
@@ -301,5 +302,5 @@ method_on_no_object_tree =
 method_on_no_object : Comes 200 (file method_on_no_object_tree) (file method_on_no_object_tree) (codes "a.php")
     ((codes "E"), ended)
     ((codes "E"), ended)
-unfolding builtin_rows named_constants word_constants is_same_name
+unfolding builtin_rows named_constants word_constants is_same_name newer_functions newer_classes newer_constants
 method_on_no_object = (refl, refl)

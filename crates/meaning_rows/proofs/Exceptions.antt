@@ -6,6 +6,7 @@ use Rattle.php_tree.specs.Tree.{Forest, none, node}
 use Rattle.builtin_tables.specs.Builtins.{builtin_rows}
 use Rattle.builtin_tables.specs.Constants.{named_constants, word_constants}
 use Rattle.builtin_tables.specs.Named.{is_same_name}
+use Rattle.builtin_tables.specs.Newer.{newer_functions, newer_classes, newer_constants}
 use Rattle.php_meaning.specs.runs.World.{Threw}
 use Rattle.meaning_rows.specs.Words.{t, b, file, ended, Comes}
 
@@ -37,7 +38,7 @@ caught_tree =
 caught : Comes 200 (file caught_tree) (file caught_tree) (codes "a.php")
     ((codes "1big7"), ended)
     ((codes "1big7"), ended)
-unfolding builtin_rows named_constants word_constants is_same_name
+unfolding builtin_rows named_constants word_constants is_same_name newer_functions newer_classes newer_constants
 caught = (refl, refl)
 
 -- <?php function f() { try { return 'r'; } finally { echo 'f'; } } echo f(); try { try { throw new Exception('x'); } finally { echo 'g'; } } catch (Exception $e) { echo $e->getMessage(); }
@@ -64,7 +65,7 @@ finally_runs_tree =
 finally_runs : Comes 200 (file finally_runs_tree) (file finally_runs_tree) (codes "a.php")
     ((codes "frgx"), ended)
     ((codes "frgx"), ended)
-unfolding builtin_rows named_constants word_constants is_same_name
+unfolding builtin_rows named_constants word_constants is_same_name newer_functions newer_classes newer_constants
 finally_runs = (refl, refl)
 
 -- <?php echo 'a'; throw new RuntimeException('x'); echo 'b';
@@ -79,7 +80,7 @@ uncaught_tree =
 uncaught : Comes 200 (file uncaught_tree) (file uncaught_tree) (codes "a.php")
     ((codes "a"), Threw (codes "RuntimeException"))
     ((codes "a"), Threw (codes "RuntimeException"))
-unfolding builtin_rows named_constants word_constants is_same_name
+unfolding builtin_rows named_constants word_constants is_same_name newer_functions newer_classes newer_constants
 uncaught = (refl, refl)
 
 -- <?php class MyError extends Exception {} try { throw new MyError('m'); } catch (Exception $e) { echo $e->getMessage(), $e instanceof MyError ? 't' : 'f'; }
@@ -101,7 +102,7 @@ own_exception_tree =
 own_exception : Comes 200 (file own_exception_tree) (file own_exception_tree) (codes "a.php")
     ((codes "mt"), ended)
     ((codes "mt"), ended)
-unfolding builtin_rows named_constants word_constants is_same_name
+unfolding builtin_rows named_constants word_constants is_same_name newer_functions newer_classes newer_constants
 own_exception = (refl, refl)
 
 -- <?php foreach ([new TypeError, new ArgumentCountError, new DivisionByZeroError, new ErrorException, new Exception] as $e) { echo $e instanceof Error ? 'E' : '-', $e instanceof TypeError ? 'T' : '-', $e instanceof ArithmeticError ? 'A' : '-', $e instanceof Throwable ? 't' : '-', ' '; }
@@ -131,7 +132,7 @@ parents_of_exceptions_tree =
 parents_of_exceptions : Comes 200 (file parents_of_exceptions_tree) (file parents_of_exceptions_tree) (codes "a.php")
     ((codes "ET-t ET-t E-At ---t ---t "), ended)
     ((codes "ET-t ET-t E-At ---t ---t "), ended)
-unfolding builtin_rows named_constants word_constants is_same_name
+unfolding builtin_rows named_constants word_constants is_same_name newer_functions newer_classes newer_constants
 parents_of_exceptions = (refl, refl)
 
 -- <?php try { try { throw new Exception('one'); } catch (Exception $e) { throw new LogicException('two'); } } catch (LogicException $e) { echo $e->getMessage(); }
@@ -153,7 +154,7 @@ rethrown_tree =
 rethrown : Comes 200 (file rethrown_tree) (file rethrown_tree) (codes "a.php")
     ((codes "two"), ended)
     ((codes "two"), ended)
-unfolding builtin_rows named_constants word_constants is_same_name
+unfolding builtin_rows named_constants word_constants is_same_name newer_functions newer_classes newer_constants
 rethrown = (refl, refl)
 
 -- <?php function f() { foreach ([1, 2] as $x) { try { if ($x == 1) continue; return 'r' . $x; } finally { echo 'f', $x; } } } echo f();
@@ -178,5 +179,5 @@ nested_finally_tree =
 nested_finally : Comes 200 (file nested_finally_tree) (file nested_finally_tree) (codes "a.php")
     ((codes "f1f2r2"), ended)
     ((codes "f1f2r2"), ended)
-unfolding builtin_rows named_constants word_constants is_same_name
+unfolding builtin_rows named_constants word_constants is_same_name newer_functions newer_classes newer_constants
 nested_finally = (refl, refl)

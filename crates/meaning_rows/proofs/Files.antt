@@ -6,6 +6,7 @@ use Rattle.php_tree.specs.Tree.{Forest, none, node}
 use Rattle.builtin_tables.specs.Builtins.{builtin_rows}
 use Rattle.builtin_tables.specs.Constants.{named_constants, word_constants}
 use Rattle.builtin_tables.specs.Named.{is_same_name}
+use Rattle.builtin_tables.specs.Newer.{newer_functions, newer_classes, newer_constants}
 use Rattle.meaning_rows.specs.Words.{t, file, ended, Comes}
 
 -- lib.php:
@@ -37,7 +38,7 @@ included_tree1 =
 included : Comes 200 ((codes "lib.php", included_tree0) ∷ (codes "a.php", included_tree1) ∷ []) ((codes "lib.php", included_tree0) ∷ (codes "a.php", included_tree1) ∷ []) (codes "a.php")
     ((codes "42libht"), ended)
     ((codes "42libht"), ended)
-unfolding builtin_rows named_constants word_constants is_same_name
+unfolding builtin_rows named_constants word_constants is_same_name newer_functions newer_classes newer_constants
 included = (refl, refl)
 
 -- sub/b.php:
@@ -58,7 +59,7 @@ required_by_folder_tree1 =
 required_by_folder : Comes 200 ((codes "sub/b.php", required_by_folder_tree0) ∷ (codes "a.php", required_by_folder_tree1) ∷ []) ((codes "sub/b.php", required_by_folder_tree0) ∷ (codes "a.php", required_by_folder_tree1) ∷ []) (codes "a.php")
     ((codes "b"), ended)
     ((codes "b"), ended)
-unfolding builtin_rows named_constants word_constants is_same_name
+unfolding builtin_rows named_constants word_constants is_same_name newer_functions newer_classes newer_constants
 required_by_folder = (refl, refl)
 
 -- <?php echo $_GET['id'], isset($_GET['no']) ? 't' : 'f', count($_POST), $_GET['id'] + 1; function f() { return $_GET['id']; } echo f();
@@ -83,7 +84,7 @@ input_tree =
 input : Comes 200 (file input_tree) (file input_tree) (codes "a.php")
     ((codes "2f032"), ended)
     ((codes "2f032"), ended)
-unfolding builtin_rows named_constants word_constants is_same_name
+unfolding builtin_rows named_constants word_constants is_same_name newer_functions newer_classes newer_constants
 input = (refl, refl)
 
 -- <?php namespace A\B; use A\B\C as D; class C { const K = 'k'; function n() { return __NAMESPACE__; } } function f() { return 'f'; } echo f(), \A\B\f(), namespace\f(), D::K, (new C)->n(), C::class;
@@ -134,7 +135,7 @@ namespaces_new_tree =
 namespaces : Comes 200 (file namespaces_tree) (file namespaces_new_tree) (codes "a.php")
     ((codes "fffkA\\BA\\B\\C"), ended)
     ((codes "fffkA\\BA\\B\\C"), ended)
-unfolding builtin_rows named_constants word_constants is_same_name
+unfolding builtin_rows named_constants word_constants is_same_name newer_functions newer_classes newer_constants
 namespaces = (refl, refl)
 
 -- <?php namespace A { function f() { return 'af'; } const K = 'ak'; } namespace B { use function A\f; use const A\K; echo f(), K, \strlen('x'); }
@@ -172,5 +173,5 @@ use_of_functions_new_tree =
 use_of_functions : Comes 200 (file use_of_functions_tree) (file use_of_functions_new_tree) (codes "a.php")
     ((codes "afak1"), ended)
     ((codes "afak1"), ended)
-unfolding builtin_rows named_constants word_constants is_same_name
+unfolding builtin_rows named_constants word_constants is_same_name newer_functions newer_classes newer_constants
 use_of_functions = (refl, refl)

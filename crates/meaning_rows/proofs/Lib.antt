@@ -14,6 +14,7 @@ mod MixedData
 mod MixedCalls
 mod MixedNames
 mod MixedBodies
+mod FurtherKinds
 mod MixedOrders
 mod PageRow
 mod BuiltinRows

@@ -6,6 +6,7 @@ use Rattle.php_tree.specs.Tree.{Forest, none, node}
 use Rattle.builtin_tables.specs.Builtins.{builtin_rows}
 use Rattle.builtin_tables.specs.Constants.{named_constants, word_constants}
 use Rattle.builtin_tables.specs.Named.{is_same_name}
+use Rattle.builtin_tables.specs.Newer.{newer_functions, newer_classes, newer_constants}
 use Rattle.php_meaning.specs.runs.World.{Ended}
 use Rattle.meaning_rows.specs.Words.{t, b, file, ended, Comes}
 
@@ -26,7 +27,7 @@ for_with_commas_tree =
 for_with_commas : Comes 200 (file for_with_commas_tree) (file for_with_commas_tree) (codes "a.php")
     ((codes "01.2.."), ended)
     ((codes "01.2.."), ended)
-unfolding builtin_rows named_constants word_constants is_same_name
+unfolding builtin_rows named_constants word_constants is_same_name newer_functions newer_classes newer_constants
 for_with_commas = (refl, refl)
 
 -- <?php $i = 0; while ($i < 3) $i++; do { $i--; } while ($i > 0); echo $i; do echo 'once'; while (false);
@@ -49,7 +50,7 @@ while_and_do_tree =
 while_and_do : Comes 200 (file while_and_do_tree) (file while_and_do_tree) (codes "a.php")
     ((codes "0once"), ended)
     ((codes "0once"), ended)
-unfolding builtin_rows named_constants word_constants is_same_name
+unfolding builtin_rows named_constants word_constants is_same_name newer_functions newer_classes newer_constants
 while_and_do = (refl, refl)
 
 -- <?php foreach ([1, 2, 3] as $x) { foreach ([1, 2, 3] as $y) { if ($y == 2) continue 2; if ($x == 3) break 2; echo $x, $y, ' '; } }
@@ -76,7 +77,7 @@ breaks_tree =
 breaks : Comes 200 (file breaks_tree) (file breaks_tree) (codes "a.php")
     ((codes "11 21 "), ended)
     ((codes "11 21 "), ended)
-unfolding builtin_rows named_constants word_constants is_same_name
+unfolding builtin_rows named_constants word_constants is_same_name newer_functions newer_classes newer_constants
 breaks = (refl, refl)
 
 -- <?php function s($v) { switch ($v) { case 1: return 'one'; case 'a': echo 'fall'; case 2: return 'two'; default: return 'none'; } } echo s(1), s('a'), s(2), s(9);
@@ -104,7 +105,7 @@ switches_tree =
 switches : Comes 200 (file switches_tree) (file switches_tree) (codes "a.php")
     ((codes "onefalltwotwonone"), ended)
     ((codes "onefalltwotwonone"), ended)
-unfolding builtin_rows named_constants word_constants is_same_name
+unfolding builtin_rows named_constants word_constants is_same_name newer_functions newer_classes newer_constants
 switches = (refl, refl)
 
 -- <?php switch ('abc') { case 0: echo 'zero'; break; default: echo 'other'; }
@@ -120,7 +121,7 @@ switch_of_word_tree =
 switch_of_word : Comes 200 (file switch_of_word_tree) (file switch_of_word_tree) (codes "a.php")
     ((codes "zero"), ended)
     ((codes "other"), ended)
-unfolding builtin_rows named_constants word_constants is_same_name
+unfolding builtin_rows named_constants word_constants is_same_name newer_functions newer_classes newer_constants
 switch_of_word = (refl, refl)
 
 -- <?php echo 'a'; exit(5); echo 'b';
@@ -134,7 +135,7 @@ exits_with_status_tree =
 exits_with_status : Comes 200 (file exits_with_status_tree) (file exits_with_status_tree) (codes "a.php")
     ((codes "a"), Ended (pos 5))
     ((codes "a"), Ended (pos 5))
-unfolding builtin_rows named_constants word_constants is_same_name
+unfolding builtin_rows named_constants word_constants is_same_name newer_functions newer_classes newer_constants
 exits_with_status = (refl, refl)
 
 -- <?php die('bye'); echo 'b';
@@ -147,5 +148,5 @@ exits_with_text_tree =
 exits_with_text : Comes 200 (file exits_with_text_tree) (file exits_with_text_tree) (codes "a.php")
     ((codes "bye"), ended)
     ((codes "bye"), ended)
-unfolding builtin_rows named_constants word_constants is_same_name
+unfolding builtin_rows named_constants word_constants is_same_name newer_functions newer_classes newer_constants
 exits_with_text = (refl, refl)

@@ -6,6 +6,7 @@ use Rattle.php_tree.specs.Tree.{Forest, none, node}
 use Rattle.builtin_tables.specs.Builtins.{builtin_rows}
 use Rattle.builtin_tables.specs.Constants.{named_constants, word_constants}
 use Rattle.builtin_tables.specs.Named.{is_same_name}
+use Rattle.builtin_tables.specs.Newer.{newer_functions, newer_classes, newer_constants}
 use Rattle.php_meaning.specs.runs.World.{Threw}
 use Rattle.meaning_rows.specs.Words.{t, b, file, ended, Comes}
 
@@ -57,7 +58,7 @@ mixed_functions_tree =
 mixed_functions : Comes 200 (file mixed_functions_tree) (file mixed_functions_tree) (codes "a.php")
     ((codes "321e12za5z3"), ended)
     ((codes "321e12za5z3"), ended)
-unfolding builtin_rows named_constants word_constants is_same_name
+unfolding builtin_rows named_constants word_constants is_same_name newer_functions newer_classes newer_constants
 mixed_functions = (refl, refl)
 
 -- <?php if (true) { function late() { return "l"; } } echo late(); function outer() { function inner() { return "i"; } return "o"; } echo outer(), inner();
@@ -81,7 +82,7 @@ mixed_conditional_tree =
 mixed_conditional : Comes 200 (file mixed_conditional_tree) (file mixed_conditional_tree) (codes "a.php")
     ((codes "loi"), ended)
     ((codes "loi"), ended)
-unfolding builtin_rows named_constants word_constants is_same_name
+unfolding builtin_rows named_constants word_constants is_same_name newer_functions newer_classes newer_constants
 mixed_conditional = (refl, refl)
 
 -- <?php function h() { try { return "t"; } finally { echo "F"; } } echo h(); function h2() { foreach ([1, 2] as $x) { try { continue; } finally { echo "c", $x; } } return "r"; } echo h2(); function h3() { try { return "t"; } finally { return "f"; } } echo h3();
@@ -117,7 +118,7 @@ mixed_jumps_tree =
 mixed_jumps : Comes 200 (file mixed_jumps_tree) (file mixed_jumps_tree) (codes "a.php")
     ((codes "Ftc1c2rf"), ended)
     ((codes "Ftc1c2rf"), ended)
-unfolding builtin_rows named_constants word_constants is_same_name
+unfolding builtin_rows named_constants word_constants is_same_name newer_functions newer_classes newer_constants
 mixed_jumps = (refl, refl)
 
 -- <?php function thrower($n) { if ($n == 0) throw new RuntimeException("deep", 4); thrower($n - 1); echo "never"; } try { try { thrower(2); } catch (LogicException $e) { echo "no"; } finally { echo "fin"; } } catch (LogicException | RuntimeException $e) { echo $e->getMessage(), $e->getCode(); } try { echo 1 % 0; } catch (Error $e) { echo "div"; } function two($a, $b) {} try { two(1); } catch (ArgumentCountError $e) { echo "args"; } throw new Exception("x");
@@ -167,7 +168,7 @@ mixed_exceptions_tree =
 mixed_exceptions : Comes 200 (file mixed_exceptions_tree) (file mixed_exceptions_tree) (codes "a.php")
     ((codes "findeep4divargs"), Threw (codes "Exception"))
     ((codes "findeep4divargs"), Threw (codes "Exception"))
-unfolding builtin_rows named_constants word_constants is_same_name
+unfolding builtin_rows named_constants word_constants is_same_name newer_functions newer_classes newer_constants
 mixed_exceptions = (refl, refl)
 
 -- <?php class A { public $p = 1; private $s = "sec"; protected $q = [1, 2]; function __construct($p) { $this->p = $p; } function get() { return $this->s . count($this->q); } private function hid() { return "h"; } function call() { return $this->hid(); } static function make($x) { return new self($x); } } class B extends A { private $s = "b"; function get() { return "B" . parent::get() . $this->s; } } $a = new A(5); $b = new B(6); echo $a->p, $a->get(), $b->get(), $b->call(); try { $a->hid(); } catch (Error $e) { echo "E"; } try { echo $a->s; } catch (Error $e) { echo "P"; } $c = A::make(8); $c->d = 3; $c->d++; $e = $c; $e->d++; echo $c->d, $c->p; $c->l["x"][] = 4; echo count($c->l["x"]);
@@ -256,5 +257,5 @@ mixed_classes_tree =
 mixed_classes : Comes 200 (file mixed_classes_tree) (file mixed_classes_tree) (codes "a.php")
     ((codes "5sec2Bsec2bhEP581"), ended)
     ((codes "5sec2Bsec2bhEP581"), ended)
-unfolding builtin_rows named_constants word_constants is_same_name
+unfolding builtin_rows named_constants word_constants is_same_name newer_functions newer_classes newer_constants
 mixed_classes = (refl, refl)

@@ -6,6 +6,7 @@ use Rattle.php_tree.specs.Tree.{Forest, none, node}
 use Rattle.builtin_tables.specs.Builtins.{builtin_rows}
 use Rattle.builtin_tables.specs.Constants.{named_constants, word_constants}
 use Rattle.builtin_tables.specs.Named.{is_same_name}
+use Rattle.builtin_tables.specs.Newer.{newer_functions, newer_classes, newer_constants}
 use Rattle.meaning_rows.specs.Words.{t, b, file, ended, Comes}
 
 -- <?php class A { private $x = 1; public $y = 2; function a() { return $this->x; } } class B extends A { public $x = 5; function b() { return $this->x; } } $b = new B; echo $b->a(), $b->b(), $b->x; $b->x = 7; echo $b->a(), $b->x; function f($o) { $o->y = 9; } f($b); echo $b->y;
@@ -48,7 +49,7 @@ mixed_private_shadow_tree =
 mixed_private_shadow : Comes 200 (file mixed_private_shadow_tree) (file mixed_private_shadow_tree) (codes "a.php")
     ((codes "155179"), ended)
     ((codes "155179"), ended)
-unfolding builtin_rows named_constants word_constants is_same_name
+unfolding builtin_rows named_constants word_constants is_same_name newer_functions newer_classes newer_constants
 mixed_private_shadow = (refl, refl)
 
 -- <?php for ($i = 0; $i < 3; $i++) { switch ($i) { case 0: continue 2; case 1: echo "a"; break; default: echo "d"; } echo $i; }
@@ -72,7 +73,7 @@ mixed_switch_loop_tree =
 mixed_switch_loop : Comes 200 (file mixed_switch_loop_tree) (file mixed_switch_loop_tree) (codes "a.php")
     ((codes "a1d2"), ended)
     ((codes "a1d2"), ended)
-unfolding builtin_rows named_constants word_constants is_same_name
+unfolding builtin_rows named_constants word_constants is_same_name newer_functions newer_classes newer_constants
 mixed_switch_loop = (refl, refl)
 
 -- <?php function g() { try { throw new Exception("x"); } finally { return "g"; } } echo g(); function h() { try { try { throw new Exception("one"); } finally { throw new LogicException("two"); } } catch (Exception $e) { return $e->getMessage(); } } echo h();
@@ -104,7 +105,7 @@ mixed_finally_jumps_tree =
 mixed_finally_jumps : Comes 200 (file mixed_finally_jumps_tree) (file mixed_finally_jumps_tree) (codes "a.php")
     ((codes "gtwo"), ended)
     ((codes "gtwo"), ended)
-unfolding builtin_rows named_constants word_constants is_same_name
+unfolding builtin_rows named_constants word_constants is_same_name newer_functions newer_classes newer_constants
 mixed_finally_jumps = (refl, refl)
 
 -- <?php function add(&$a, $v) { $a[] = $v; } $x = []; add($x, 1); add($x["sub"], 2); echo count($x), count($x["sub"]); function swap(&$a, &$b) { $t = $a; $a = $b; $b = $t; } $p = 1; $q = 2; swap($p, $q); echo $p, $q; $arr = [1, 2]; foreach ($arr as $k => &$r) { $r *= 10; } unset($r); echo $arr[0], $arr[1];
@@ -159,7 +160,7 @@ mixed_references_in_calls_tree =
 mixed_references_in_calls : Comes 200 (file mixed_references_in_calls_tree) (file mixed_references_in_calls_tree) (codes "a.php")
     ((codes "21211020"), ended)
     ((codes "21211020"), ended)
-unfolding builtin_rows named_constants word_constants is_same_name
+unfolding builtin_rows named_constants word_constants is_same_name newer_functions newer_classes newer_constants
 mixed_references_in_calls = (refl, refl)
 
 -- <?php $t = "abc"; echo $t[0], $t[-1], $t["1"], isset($t[5]) ? 1 : 0, isset($t["x"]["y"]) ? 1 : 0, $t[7] ?? "d";
@@ -187,7 +188,7 @@ mixed_text_offsets_tree =
 mixed_text_offsets : Comes 200 (file mixed_text_offsets_tree) (file mixed_text_offsets_tree) (codes "a.php")
     ((codes "acb00d"), ended)
     ((codes "acb00d"), ended)
-unfolding builtin_rows named_constants word_constants is_same_name
+unfolding builtin_rows named_constants word_constants is_same_name newer_functions newer_classes newer_constants
 mixed_text_offsets = (refl, refl)
 
 -- <?php function c() { static $n = 10; return ++$n; } c(); c(); echo c(); class K { static function s() { static $n = 0; return ++$n; } } K::s(); echo K::s();
@@ -215,7 +216,7 @@ mixed_statics_of_functions_tree =
 mixed_statics_of_functions : Comes 200 (file mixed_statics_of_functions_tree) (file mixed_statics_of_functions_tree) (codes "a.php")
     ((codes "132"), ended)
     ((codes "132"), ended)
-unfolding builtin_rows named_constants word_constants is_same_name
+unfolding builtin_rows named_constants word_constants is_same_name newer_functions newer_classes newer_constants
 mixed_statics_of_functions = (refl, refl)
 
 -- <?php $g = 1; function f() { global $g, $h; $g++; $h = "new"; return $g; } echo f(), $g, $h; function u() { global $g; unset($g); return isset($g) ? 1 : 0; } echo u(), $g; function r() { global $g; $g = &$other; $other = 5; return $g; } echo r(), $g;
@@ -256,7 +257,7 @@ mixed_globals_in_bodies_tree =
 mixed_globals_in_bodies : Comes 200 (file mixed_globals_in_bodies_tree) (file mixed_globals_in_bodies_tree) (codes "a.php")
     ((codes "22new0252"), ended)
     ((codes "22new0252"), ended)
-unfolding builtin_rows named_constants word_constants is_same_name
+unfolding builtin_rows named_constants word_constants is_same_name newer_functions newer_classes newer_constants
 mixed_globals_in_bodies = (refl, refl)
 
 -- <?php echo 1 <=> 2, "a" == 0 ? "t" : "f", "1" == "01" ? "t" : "f", null == false ? "t" : "f", [] == false ? "t" : "f", "abc" == "ABC" ? "t" : "f", 5 <= 5 ? "t" : "f", "1 " == 1 ? "t" : "f", 1 === 1 ? "t" : "f", [1] === ["0" => 1] ? "t" : "f";
@@ -295,7 +296,7 @@ mixed_comparisons_tree =
 mixed_comparisons : Comes 200 (file mixed_comparisons_tree) (file mixed_comparisons_tree) (codes "a.php")
     ((codes "-1ttttftttt"), ended)
     ((codes "-1ftttftttt"), ended)
-unfolding builtin_rows named_constants word_constants is_same_name
+unfolding builtin_rows named_constants word_constants is_same_name newer_functions newer_classes newer_constants
 mixed_comparisons = (refl, refl)
 
 -- <?php $x = 5; if ($x < 3) echo "a"; elseif ($x < 6) echo "b"; else echo "c"; if ($x > 9) { echo "d"; } else if ($x == 5) { echo "e"; }
@@ -321,7 +322,7 @@ mixed_elseif_chain_tree =
 mixed_elseif_chain : Comes 200 (file mixed_elseif_chain_tree) (file mixed_elseif_chain_tree) (codes "a.php")
     ((codes "be"), ended)
     ((codes "be"), ended)
-unfolding builtin_rows named_constants word_constants is_same_name
+unfolding builtin_rows named_constants word_constants is_same_name newer_functions newer_classes newer_constants
 mixed_elseif_chain = (refl, refl)
 
 -- <?php $i = 1; $i += $i++; echo $i; function kk($n) { echo "k", $n; return $n; } $arr = []; $arr[kk(1)][kk(2)] = kk(3); class E {} function arg() { echo "arg"; return 1; } new E(arg()); $u = []; unset($u["m"]["n"]); echo count($u); unset($nope["a"]); echo isset($nope) ? 1 : 0, isset($zz->p) ? 1 : 0, isset($zz->p["q"]) ? 1 : 0;
@@ -375,7 +376,7 @@ mixed_orders_tree =
 mixed_orders : Comes 200 (file mixed_orders_tree) (file mixed_orders_tree) (codes "a.php")
     ((codes "3k1k2k3arg0000"), ended)
     ((codes "3k1k2k3arg0000"), ended)
-unfolding builtin_rows named_constants word_constants is_same_name
+unfolding builtin_rows named_constants word_constants is_same_name newer_functions newer_classes newer_constants
 mixed_orders = (refl, refl)
 
 -- <?php class C1 { const X = C2::Y; public $d = self::X; } class C2 { const Y = 4; } echo C1::X, (new C1)->d; function rv() { $v = 1; try { return $v; } finally { $v = 2; } } echo rv(); $q = [1, 2, 3]; foreach ($q as $kq => &$vq) { if ($kq == 0) unset($q[1]); echo $vq; } unset($vq); $w = [3 => "a"]; foreach ($w as $z) { $w[] = "b"; } foreach ($w as $kw => $z) echo $kw; echo 7 % -3, -7 % 3;
@@ -433,5 +434,5 @@ mixed_late_constants_tree =
 mixed_late_constants : Comes 200 (file mixed_late_constants_tree) (file mixed_late_constants_tree) (codes "a.php")
     ((codes "44113341-1"), ended)
     ((codes "44113341-1"), ended)
-unfolding builtin_rows named_constants word_constants is_same_name
+unfolding builtin_rows named_constants word_constants is_same_name newer_functions newer_classes newer_constants
 mixed_late_constants = (refl, refl)

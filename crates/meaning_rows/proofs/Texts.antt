@@ -6,6 +6,7 @@ use Rattle.php_tree.specs.Tree.{Forest, none, node}
 use Rattle.builtin_tables.specs.Builtins.{builtin_rows}
 use Rattle.builtin_tables.specs.Constants.{named_constants, word_constants}
 use Rattle.builtin_tables.specs.Named.{is_same_name}
+use Rattle.builtin_tables.specs.Newer.{newer_functions, newer_classes, newer_constants}
 use Rattle.php_meaning.specs.Cause.{Offset}
 use Rattle.meaning_rows.specs.Words.{t, b, file, ended, outside, Comes}
 
@@ -21,7 +22,7 @@ offset_past_the_end_tree =
 offset_past_the_end : Comes 200 (file offset_past_the_end_tree) (file offset_past_the_end_tree) (codes "a.php")
     ((codes "x"), outside Offset)
     ((codes "x"), outside Offset)
-unfolding builtin_rows named_constants word_constants is_same_name
+unfolding builtin_rows named_constants word_constants is_same_name newer_functions newer_classes newer_constants
 offset_past_the_end = (refl, refl)
 
 -- <?php $s = "abc"; echo $s{0}, "$s{0}";
@@ -47,7 +48,7 @@ brace_offsets_new_tree =
 brace_offsets : Comes 200 (file brace_offsets_tree) (file brace_offsets_new_tree) (codes "a.php")
     ((codes "aabc{0}"), ended)
     ((codes "aabc{0}"), ended)
-unfolding builtin_rows named_constants word_constants is_same_name
+unfolding builtin_rows named_constants word_constants is_same_name newer_functions newer_classes newer_constants
 brace_offsets = (refl, refl)
 
 -- <?php $x = 1; $y = [2]; echo "${x} ${y[0]}";
@@ -78,7 +79,7 @@ dollar_braces_new_tree =
 dollar_braces : Comes 200 (file dollar_braces_tree) (file dollar_braces_new_tree) (codes "a.php")
     ((codes "1 2"), ended)
     ((codes "1 2"), ended)
-unfolding builtin_rows named_constants word_constants is_same_name
+unfolding builtin_rows named_constants word_constants is_same_name newer_functions newer_classes newer_constants
 dollar_braces = (refl, refl)
 
 -- <?php $x = 'v'; echo <<<A
@@ -100,7 +101,7 @@ heredocs_tree =
 heredocs : Comes 200 (file heredocs_tree) (file heredocs_tree) (codes "a.php")
     ((codes "one v\n  two v|raw $x"), ended)
     ((codes "one v\n  two v|raw $x"), ended)
-unfolding builtin_rows named_constants word_constants is_same_name
+unfolding builtin_rows named_constants word_constants is_same_name newer_functions newer_classes newer_constants
 heredocs = (refl, refl)
 
 -- <?php $s = 'a'; $s .= 'b'; $s .= 1; echo $s . 2 . 'c' . true . null . false;
@@ -121,5 +122,5 @@ concatenations_tree =
 concatenations : Comes 200 (file concatenations_tree) (file concatenations_tree) (codes "a.php")
     ((codes "ab12c1"), ended)
     ((codes "ab12c1"), ended)
-unfolding builtin_rows named_constants word_constants is_same_name
+unfolding builtin_rows named_constants word_constants is_same_name newer_functions newer_classes newer_constants
 concatenations = (refl, refl)

@@ -9,7 +9,7 @@ use Rattle.std.proofs.lemmas.Bool.{true≢false}
 use Rattle.php_tree.specs.declared.version.Version.TheVariants.{V74, V83}
 use Rattle.php_tree.specs.Tree.{Forest, none, leaf, node}
 use Rattle.php_meaning.specs.runs.World.{Bytes}
-use Rattle.php_meaning.specs.runs.Script.{Mode, Read, Quiet, Write, Later}
+use Rattle.php_meaning.specs.runs.Script.{Mode, Read, Quiet, Write, Later, Top}
 use Rattle.scope_names.specs.Slot.{Declared}
 use Rattle.scope_names.specs.Form.{Form, Part, word, child, part_of, part_before, parts, bits, form, kids, joins, is_name_part, is_namespace, first_is, is_backslash}
 use Rattle.scope_names.specs.Sites.{Site, file_site, is_declaration, declarations, one_if, declared_here, within, within_form, beside, names_beside}
@@ -18,7 +18,7 @@ use Rattle.php_meaning.specs.names.Tables.{Tables, tables_of, listed, entry, hol
 use Rattle.php_meaning.specs.statements.Loops.{switch}
 use Rattle.php_meaning.specs.calls.Bodies.{global_all}
 use Rattle.php_meaning.specs.expressions.Expressions.{array_literal, isset, unset_all}
-use Rattle.php_meaning.specs.Rules.{rule, reading, reading_quietly, locating, running, run_all, return, choices, exit, echo_all, ternary}
+use Rattle.php_meaning.specs.Rules.{rule, reading, reading_quietly, locating, running, run_all, return, choices, exit, echo_all, ternary, at_top}
 use Rattle.php_meaning.specs.runs.Run.{Program, is_newer, run}
 use Rattle.php_meaning.specs.laws.Laws.{IsInside, SameRun, ParensChangeNoRun, ParensKeepMeaning, MarksOnlyStop, Parenthesized, ends, token, inner, parens, AreParenthesized, no_files, file}
 use Rattle.php_meaning.specs.laws.SameScripts.{HasScriptsOf, nothing, token_before, token_behind, same, wrapped, HaveScriptsOf, no_more, one_more, DeclareAlike, SameScriptsKeepMeaning, NamesAsOneToken, counts_children, OtherTokensCountNothing}
@@ -303,6 +303,7 @@ quietly_counts t s kind.Variable f g e h = absurd (true≢false (sym h))
 quietly_counts t s kind.Offset f g e h = absurd (true≢false (sym h))
 quietly_counts t s kind.BraceOffset f g e h = absurd (true≢false (sym h))
 quietly_counts t s kind.Prop f g e h = absurd (true≢false (sym h))
+quietly_counts t s kind.StaticProp f g e h = absurd (true≢false (sym h))
 quietly_counts t s k f g e h = reading_counts t s k f g e h
 
 locating_counts : (t : Tables) (s : Site) (k : NodeKind) (f g : Form) → IsTrue (counts_children k) → locating t s k g ≡ locating t s k f
@@ -315,6 +316,8 @@ locating_counts t s k f g h = refl
 
 running_counts : (t : Tables) (s : Site) (k : NodeKind) (m : Mode) (f g : Form) → IsTrue (counts_children k) → running t s k m g ≡ running t s k m f
 running_counts t s kind.Variable m f g h = absurd (true≢false (sym h))
+running_counts t s kind.Constant m f g h = absurd (true≢false (sym h))
+running_counts t s kind.Prop m f g h = absurd (true≢false (sym h))
 running_counts t s kind.Offset m f g h = absurd (true≢false (sym h))
 running_counts t s kind.BraceOffset m f g h = absurd (true≢false (sym h))
 running_counts t s kind.While m f g h = absurd (true≢false (sym h))
@@ -332,9 +335,17 @@ running_counts t s kind.ClassConst m f g h = absurd (true≢false (sym h))
 running_counts t s kind.DoWhile Later f g h = refl
 running_counts t s k m f g h = refl
 
+top_counts : (t : Tables) (s : Site) (k : NodeKind) (f g : Form) → kids g ≡ kids f → IsTrue (counts_children k) → at_top t s k g ≡ at_top t s k f
+top_counts t s kind.Const f g e h = absurd (true≢false (sym h))
+top_counts t s kind.Namespace f g e h = absurd (true≢false (sym h))
+top_counts t s kind.Use f g e h = absurd (true≢false (sym h))
+top_counts t s kind.Declare f g e h = absurd (true≢false (sym h))
+top_counts t s k f g e h = reading_counts t s k f g e h
+
 pub other_tokens_count_nothing : OtherTokensCountNothing
 other_tokens_count_nothing t s kind.Paren m f g h e = refl
 other_tokens_count_nothing t s k Read f g h e = reading_counts t s k f g e h
+other_tokens_count_nothing t s k Top f g h e = top_counts t s k f g e h
 other_tokens_count_nothing t s k Quiet f g h e = quietly_counts t s k f g e h
 other_tokens_count_nothing t s k Write f g h e = locating_counts t s k f g h
 other_tokens_count_nothing t s k m f g h e = running_counts t s k m f g h

@@ -15,12 +15,12 @@ use Rattle.php_meaning.specs.Cause.{NoRule, Outcome, Gives, Outside, Came, Retur
 use Rattle.php_meaning.specs.values.Convert.{to_text, to_truth}
 use Rattle.php_meaning.specs.runs.World as End
 use Rattle.php_meaning.specs.runs.World.{Store, Asked, Bytes, Place, Before, World}
-use Rattle.php_meaning.specs.runs.Script.{Return, Throw, Break, Continue, Out, Val, Fresh, At, Jump, Mode, Read, Quiet, Write, Target, Kid, Again, There, File, Script, Give, Stop, Finish, Look, Put, Echo, Turn, Ask, Run, value_then, given, comes}
+use Rattle.php_meaning.specs.runs.Script.{Return, Throw, Break, Continue, Out, Val, Fresh, At, Jump, Mode, Read, Quiet, Write, Target, Kid, Again, There, File, Script, Give, Stop, Finish, Look, Put, Echo, Turn, Ask, Run, value_then, given, comes, Top, Name}
 use Rattle.php_meaning.specs.values.Arithmetic.{joined}
 use Rattle.php_meaning.specs.expressions.Operators.{of_values, binary}
 use Rattle.php_meaning.specs.literals.Literals.{constant_named, name_of}
 use Rattle.php_meaning.specs.literals.TextLiterals.{text_literal}
-use Rattle.php_meaning.specs.Rules.{first_text, run_all, declare_early, is_early, is_there, file_script, echo_all, choices, constant, ternary, short_ternary, reading, reading_quietly, locating, running, rule}
+use Rattle.php_meaning.specs.Rules.{first_text, run_all, declare_early, is_early, file_script, echo_all, choices, constant, ternary, short_ternary, reading, reading_quietly, locating, running, rule, at_top, run_top, is_unfit}
 use Rattle.php_meaning.specs.runs.Kinds.{is_statement}
 use Rattle.php_meaning.specs.runs.Run.{begun, Program, Mark, file_at, is_stopped, is_refused, Result, Done, Over, then_do, with_turn, play, Entry, FileStart, DeclarationStart, place_in, place_of_file, told, left, starting, unless_stopped, going, passes, at_node, step, run_file, declared_in, run_declared, unless_refused, enter, first_world, and_start, start_all, is_newer}
 use Rattle.php_meaning.specs.laws.Asking.{may_ask, asks_nothing, AsksNowhere, InsideIsCovered}
@@ -62,15 +62,19 @@ run_all_never : (i n : ℕ) → NeverAsks (run_all i n)
 run_all_never i zero = tt
 run_all_never i (suc n) = value_then_never _ (λ v. run_all_never (suc i) n)
 
+run_top_never : (i n : ℕ) → NeverAsks (run_top i n)
+run_top_never i zero = tt
+run_top_never i (suc n) = value_then_never _ (λ v. run_top_never (suc i) n)
+
 declare_early_never : (t : Tables) (path : Bytes) (ds : Tables) (k : Script) → NeverAsks k → NeverAsks (declare_early t path ds k)
 declare_early_never t path [] k h = h
 declare_early_never t path (d ∷ ds) k h =
     cond_never (is_early d && bytes_eq d.at.file path) _ _
-    (λ s. cond_never (is_there t s.declared d) _ _ tt (λ u. declare_early_never t path ds k h))
+    (λ s. cond_never (is_unfit t s.declared d) _ _ tt (λ u. declare_early_never t path ds k h))
     (declare_early_never t path ds k h)
 
 file_script_never : (t : Tables) (path : Bytes) (n : ℕ) → NeverAsks (file_script t path n)
-file_script_never t path n = declare_early_never t path t (run_all 0 n) (run_all_never 0 n)
+file_script_never t path n = declare_early_never t path t (run_top 0 n) (run_top_never 0 n)
 
 echo_all_never : (i n : ℕ) → NeverAsks (echo_all i n)
 echo_all_never i zero = tt
@@ -125,6 +129,7 @@ quietly_never t s kind.Variable f h = cc
 quietly_never t s kind.Offset f h = cc
 quietly_never t s kind.BraceOffset f h = cc
 quietly_never t s kind.Prop f h = cc
+quietly_never t s kind.StaticProp f h = cc
 quietly_never t s k f h = reading_never t s k f h
 
 locating_never : (t : Tables) (s : Site) (k : NodeKind) (f : Form) → IsTrue (not (may_ask k (texts f))) → NeverAsks (locating t s k f)
@@ -137,6 +142,8 @@ locating_never t s k f h = tt
 
 running_never : (t : Tables) (s : Site) (k : NodeKind) (m : Mode) (f : Form) → IsTrue (not (may_ask k (texts f))) → NeverAsks (running t s k m f)
 running_never t s kind.Variable m f h = cc
+running_never t s kind.Constant Name f h = tt
+running_never t s kind.Prop m f h = cc
 running_never t s kind.Offset m f h = cc
 running_never t s kind.BraceOffset m f h = cc
 running_never t s kind.While m f h = cc
@@ -154,9 +161,17 @@ running_never t s kind.Property m f h = cc
 running_never t s kind.ClassConst m f h = cc
 running_never t s k m f h = tt
 
+top_never : (t : Tables) (s : Site) (k : NodeKind) (f : Form) → IsTrue (not (may_ask k (texts f))) → NeverAsks (at_top t s k f)
+top_never t s kind.Const f h = cc
+top_never t s kind.Namespace f h = cc
+top_never t s kind.Use f h = cc
+top_never t s kind.Declare f h = cc
+top_never t s k f h = reading_never t s k f h
+
 rule_never : (t : Tables) (s : Site) (k : NodeKind) (m : Mode) (f : Form) → IsTrue (not (may_ask k (texts f))) → NeverAsks (rule t s k m f)
 rule_never t s kind.Paren m f h = λ o. tt
 rule_never t s k Read f h = reading_never t s k f h
+rule_never t s k Top f h = top_never t s k f h
 rule_never t s k Quiet f h = quietly_never t s k f h
 rule_never t s k Write f h = locating_never t s k f h
 rule_never t s k m f h = running_never t s k m f h

@@ -17,22 +17,27 @@ use Rattle.php_meaning.specs.literals.TextLiterals.{text_literal}
 use Rattle.php_meaning.specs.values.Offsets.{Strict}
 use Rattle.php_meaning.specs.values.Offsets as offsets
 use Rattle.php_meaning.specs.runs.World.{Bytes, Store}
-use Rattle.scope_names.specs.Form.{Form, texts, kids}
-use Rattle.scope_names.specs.Words.{has_word, has_keyword, is_end, before_word}
+use Rattle.scope_names.specs.Form.{Form, texts, kids, Word, Child}
+use Rattle.scope_names.specs.Words.{has_word, has_keyword, is_end, before_word, is_keyword}
 use Rattle.scope_names.specs.Sites.{Site, candidates}
 use Rattle.scope_names.specs.Imports.{OfFunction}
 use Rattle.php_meaning.specs.names.Tables.{Tables}
 use Rattle.php_meaning.specs.names.Tables as table
 use Rattle.php_meaning.specs.runs.Stores.{cells_of}
-use Rattle.php_meaning.specs.runs.Script.{Return, Throw, Break, Continue, Out, At, Jump, Mode, Read, Quiet, Write, Unset, Name, Later, Left, Behind, Against, Into, Given, Handed, Entered, Item, InProperty, InCell, File, Script, Give, Stop, Finish, Look, Put, Echo, Run, Kid, give, child_value, given, asking, comes, value_then, throws}
+use Rattle.php_meaning.specs.runs.Script.{Return, Throw, Break, Continue, Out, At, Jump, Mode, Read, Quiet, Write, Unset, Name, Later, Left, Behind, Against, Into, Given, Handed, Entered, Item, InProperty, InCell, File, Script, Give, Stop, Finish, Look, Put, Echo, Run, Kid, give, child_value, given, asking, comes, value_then, throws, Top}
 use Rattle.php_meaning.specs.expressions.Operators.{operation, binary, of_values, signs, prefix}
 use Rattle.php_meaning.specs.expressions.Assigning.{numbered, Properties, kept_then, unset}
-use Rattle.php_meaning.specs.expressions.Expressions.{plain_name, in_variable, variable_value, read_offset, offset_location, with_array, item, array_literal, variable_quietly, assign, assign_reference, operator_of, compound, stepped, isset, empty_test, coalesce, both, either, unset_all}
+use Rattle.php_meaning.specs.expressions.Expressions.{plain_name, in_variable, variable_value, read_offset, offset_location, with_array, item, array_literal, variable_quietly, assign, assign_reference, operator_of, stepped, isset, empty_test, coalesce, both, either, unset_all, one_alone, compound_by}
 use Rattle.php_meaning.specs.literals.Nowdocs.{is_blank}
 use Rattle.php_meaning.specs.expressions.QuotedTexts.{quoted_text}
 use Rattle.php_meaning.specs.statements.Loops.{while_pass, do_pass, for_first, for_later, foreach, foreach_pass, foreach_behind, switch, case_against, case_statements}
 use Rattle.php_meaning.specs.calls.Bodies.{function_named, declared_function, function_name, is_function, reach_function, call, arguments, body_script, parameter, global_all, statics, declare}
-use Rattle.php_meaning.specs.classes.Objects.{property_then, property_value, property_quietly, member_word, reach_class, new_object, method_call, static_call, throw_value, try_script, class_constant, static_property, instance_of, is_a, class_by, object_at, is_class, class_name, declared_class}
+use Rattle.php_meaning.specs.classes.Lines.{is_early_class}
+use Rattle.php_meaning.specs.classes.Declaring.{is_class_fit, reach_class}
+use Rattle.php_meaning.specs.classes.Types.{type_against}
+use Rattle.php_meaning.specs.names.Reserved.{is_function_taken}
+use Rattle.php_meaning.specs.values.Bits.{complement}
+use Rattle.php_meaning.specs.classes.Objects.{property_value, property_quietly, member_word, new_object, method_call, static_call, throw_value, try_script, class_constant, instance_of, properties_at, unset_property, static_value, static_quietly, static_location}
 use Rattle.php_meaning.specs.names.Constants.{constant_value, define_all}
 use Rattle.php_meaning.specs.builtins.Calls.{handed, builtin_named, call_builtin}
 
@@ -48,6 +53,11 @@ abbrev pub run_all : ℕ → ℕ → Script
 run_all i zero = give Null
 run_all i (suc n) = Run (Kid i Read) (value_then (λ v. run_all (suc i) n))
 
+-- the same of the statements of a file or of a namespace itself, where alone constants, uses and namespaces stand
+abbrev pub run_top : ℕ → ℕ → Script
+run_top i zero = give Null
+run_top i (suc n) = Run (Kid i Top) (value_then (λ v. run_top (suc i) n))
+
 -- the children one after another, each echoed (PHP manual, "echo")
 abbrev pub echo_all : ℕ → ℕ → Script
 echo_all i zero = give Null
@@ -62,6 +72,40 @@ abbrev pub choices : ℕ → ℕ → Script
 choices i zero = give Null
 choices i (suc zero) = Run (Kid i Read) Give
 choices i (suc (suc n)) = child_value i (λ v. cond (to_truth v) (Run (Kid (suc i) Read) Give) (choices (suc (suc i)) n))
+
+-- the statements up to the next word, one after another
+abbrev pub statements : ℕ → Form → Script
+statements i (Child ∷ f) = Run (Kid i Read) (value_then (λ v. statements (suc i) f))
+statements i f = give Null
+
+-- the statements behind a colon
+abbrev pub behind_colon : ℕ → Form → Script
+behind_colon i (Word k w ∷ f) = if bytes_eq w (codes ":") then statements i f else behind_colon i f
+behind_colon i f = Stop NoRule
+
+-- An `if` with colons, where the next child is a condition, or a statement that isn't chosen: the statements behind the first
+-- condition that is true, or else behind `else`. (PHP manual, "Alternative syntax for control structures".)
+abbrev pub alternatives : Bool → ℕ → Form → Script
+alternatives is_condition i [] = give Null
+alternatives true i (Child ∷ f) =
+    child_value i (λ v. cond (to_truth v) (behind_colon (suc i) f) (alternatives false (suc i) f))
+alternatives false i (Child ∷ f) = alternatives false (suc i) f
+alternatives is_condition i (Word k w ∷ f) =
+    if is_keyword (codes "else") w then behind_colon i f
+    else alternatives (is_condition || is_keyword (codes "elseif") w) i f
+
+-- whether directives are those that say how strict types are, and nothing else: what this meaning lets pass is of exactly
+-- the type that is asked for (PHP manual, "declare"; others are outside)
+abbrev pub are_strictness : List Bytes → Bool
+are_strictness [] = true
+are_strictness (w ∷ ws) =
+    (is_keyword (codes "declare") w || is_keyword (codes "strict_types") w || bytes_eq w (codes "(") || bytes_eq w (codes "=")
+    || bytes_eq w (codes ")")) && are_strictness ws
+
+-- a `declare` with one directive and the statement behind it
+abbrev pub declared : List Bytes → ℕ → ℕ → Script
+declared ws i (suc (suc zero)) = cond (are_strictness ws) (Run (Kid 1 Read) Give) (Stop NoRule)
+declared ws i n = Stop NoRule
 
 abbrev pub number_of : ℤ → ℕ
 number_of (pos k) = k
@@ -111,10 +155,11 @@ ternary n = Stop NoRule
 abbrev pub short_ternary : Script
 short_ternary = child_value 0 (λ v. cond (to_truth v) (give v) (Run (Kid 1 Read) Give))
 
--- the operators that may leave their right operand out
+-- the operators on truths, and `??`
 abbrev pub choosing : List (Bytes × Script)
 choosing =
-    (codes "&&", both) ∷ (codes "and", both) ∷ (codes "||", either) ∷ (codes "or", either) ∷ (codes "??", coalesce) ∷ []
+    (codes "&&", both) ∷ (codes "and", both) ∷ (codes "||", either) ∷ (codes "or", either) ∷ (codes "xor", one_alone)
+    ∷ (codes "??", coalesce) ∷ []
 
 abbrev pub other_binary : Bytes → Option Script → Script
 other_binary op (Some s) = s
@@ -130,9 +175,10 @@ abbrev pub one_operand : Properties → Site → Bytes → Script
 one_operand properties s op =
     if bytes_eq op (codes "!") then negated
     else (if bytes_eq op (codes "@") then child_value 0 give
+    else (if bytes_eq op (codes "~") then child_value 0 (λ v. given (complement v) give)
     else (if bytes_eq op (codes "++") then stepped properties s true incremented
     else (if bytes_eq op (codes "--") then stepped properties s true decremented
-    else prefix (found signs op))))
+    else prefix (found signs op)))))
 
 abbrev pub behind_operand : Properties → Site → Bytes → Script
 behind_operand properties s op =
@@ -189,26 +235,6 @@ function_call t s f = elim (before_word (codes "(") (texts f)) [
   | w ∷ ws ↦ call_named t s (candidates s OfFunction (name_of (w ∷ ws)))
 ]
 
--- ---- types
-
--- whether a value is of a type: of exactly that kind, or null where the type is nullable
-abbrev pub is_of : Tables → Store → Site → Bytes → Value → Bool
-is_of t st s w (Int i) = bytes_eq (str_to_ascii_lowercase w) (codes "int")
-is_of t st s w (Truth b) = bytes_eq (str_to_ascii_lowercase w) (codes "bool")
-is_of t st s w (Text x) = bytes_eq (str_to_ascii_lowercase w) (codes "string")
-is_of t st s w (Arr largest next es) = bytes_eq (str_to_ascii_lowercase w) (codes "array")
-is_of t st s w Null = bytes_eq (str_to_ascii_lowercase w) (codes "void")
-is_of t st s w (Object n) = is_a t st (object_at st.objects n).class (class_by s st w)
-
-abbrev pub is_null : Value → Bool
-is_null Null = true
-is_null v = false
-
-abbrev pub type_against : Tables → Site → List Bytes → Value → Script
-type_against t s [] v = Stop NoRule
-type_against t s (w ∷ ws) v = Look (λ st.
-    give (Truth (if bytes_eq w (codes "?") then is_null v || is_of t st s (name_of ws) v else is_of t st s (name_of (w ∷ ws)) v)))
-
 -- ---- includes
 
 -- the folder of a path, with the slash at its end
@@ -247,24 +273,24 @@ include s w = child_value 0 (λ v. given (to_text v) (λ t. include_path s w (fo
 -- whether a declaration takes place when its file starts: an unconditional function, or a class without a parent and
 -- without interfaces
 abbrev pub is_early : table.Declaration → Bool
-is_early d =
-    d.is_top && (is_function d.kind || (is_class d.kind && not (has_keyword (codes "extends") (texts d.form)) && not (has_keyword (codes "implements") (texts d.form))))
+is_early d = (d.is_top && is_function d.kind) || is_early_class d
 
-abbrev pub is_there : Tables → List Declared → table.Declaration → Bool
-is_there t ds d =
-    if is_function d.kind then is_some (declared_function t ds (function_name d))
-    else is_some (declared_class t ds (class_name d))
+-- whether it can't take place: it is there already, or PHP refuses it
+abbrev pub is_unfit : Tables → List Declared → table.Declaration → Bool
+is_unfit t ds d =
+    if is_function d.kind then is_some (declared_function t ds (function_name d)) || is_function_taken (function_name d)
+    else not (is_class_fit t ds d)
 
 -- the declarations of a file that take place when it starts, and then its statements
 abbrev pub declare_early : Tables → Bytes → Tables → Script → Script
 declare_early t path [] k = k
 declare_early t path (d ∷ ds) k =
     if is_early d && bytes_eq d.at.file path
-    then Look (λ s. if is_there t s.declared d then Stop Declaration else declare d.at (declare_early t path ds k))
+    then Look (λ s. if is_unfit t s.declared d then Stop Declaration else declare d.at (declare_early t path ds k))
     else declare_early t path ds k
 
 abbrev pub file_script : Tables → Bytes → ℕ → Script
-file_script t path n = declare_early t path t (run_all 0 n)
+file_script t path n = declare_early t path t (run_top 0 n)
 
 -- ---- rules
 
@@ -277,10 +303,11 @@ reading t s kind.ExprStmt f = drop_value
 reading t s kind.Echo f = echo_all 0 (kids f)
 reading t s kind.Return f = return (kids f)
 reading t s kind.If f = choices 0 (kids f)
+reading t s kind.IfAlt f = alternatives true 0 f
 reading t s kind.While f = while_pass f
 reading t s kind.DoWhile f = do_pass
 reading t s kind.For f = for_first f
-reading t s kind.Foreach f = foreach (property_then t s) s f
+reading t s kind.Foreach f = foreach (properties_at t s) s f
 reading t s kind.Switch f = switch (kids f)
 reading t s kind.Case f = case_statements f
 reading t s kind.Break f = Give (Jump (Break (levels (texts f))))
@@ -293,21 +320,18 @@ reading t s kind.Try f = try_script t s f
 reading t s kind.Function f = reach_function t s
 reading t s kind.Class f = reach_class t s
 reading t s kind.Interface f = reach_class t s
-reading t s kind.Namespace f = run_all 0 (kids f)
-reading t s kind.Use f = give Null
-reading t s kind.Const f = define_all s 0 (texts f)
 reading t s kind.Variable f = cond (nat_eq (kids f) 0) (variable_value (plain_name (first_text (texts f)))) (Stop NoRule)
 reading t s kind.Number f = give (Int (int_literal (first_text (texts f))))
 reading t s kind.Text f = given (text_literal (first_text (texts f))) (λ bytes. give (Text bytes))
 reading t s kind.Quoted f = quoted_text f
 reading t s kind.Constant f = constant s (name_of (texts f)) (constant_named (texts f))
 reading t s kind.ClassConstant f = class_constant t s f
-reading t s kind.StaticProp f = static_property t s f (λ c. Look (λ st. give (st.held c)))
-reading t s kind.InstanceOf f = cond (nat_eq (kids f) 1) (instance_of t s f) (Stop NoRule)
+reading t s kind.StaticProp f = static_value t s f
+reading t s kind.InstanceOf f = instance_of t s f
 reading t s kind.Array f = array_literal (kids f)
 reading t s kind.Offset f = read_offset Read Strict f
 reading t s kind.BraceOffset f = read_offset Read Strict f
-reading t s kind.Prop f = child_value 0 (λ v. property_value t s v (member_word f))
+reading t s kind.Prop f = child_value 0 (λ v. property_value t s v (member_word 1 f))
 reading t s kind.Call f = function_call t s f
 reading t s kind.MethodCall f = method_call t s f
 reading t s kind.StaticCall f = static_call t s f
@@ -317,14 +341,14 @@ reading t s kind.EmptyTest f = empty_test
 reading t s kind.Exit f = exit (kids f)
 reading t s kind.Include f = include s (first_text (texts f))
 reading t s kind.Binary f = operate (first_text (texts f))
-reading t s kind.Prefix f = one_operand (property_then t s) s (first_text (texts f))
-reading t s kind.Postfix f = behind_operand (property_then t s) s (first_text (texts f))
+reading t s kind.Prefix f = one_operand (properties_at t s) s (first_text (texts f))
+reading t s kind.Postfix f = behind_operand (properties_at t s) s (first_text (texts f))
 reading t s kind.Cast f = cast (found casts (cast_word (first_text (texts f))))
 reading t s kind.Ternary f = ternary (kids f)
 reading t s kind.ShortTernary f = short_ternary
-reading t s kind.Assign f = assign (property_then t s) s
-reading t s kind.AssignRef f = assign_reference (property_then t s) s
-reading t s kind.CompoundAssign f = Look (λ st. compound (property_then t s) s (operation (cells_of st) st.serials (operator_of (first_text (texts f)))))
+reading t s kind.Assign f = assign (properties_at t s) s
+reading t s kind.AssignRef f = assign_reference (properties_at t s) s
+reading t s kind.CompoundAssign f = compound_by (properties_at t s) s (operator_of (first_text (texts f)))
 reading t s kind.Print f = child_value 0 (λ v. given (to_text v) (λ bytes. Echo bytes (give (Int (pos 1)))))
 reading t s k f = Stop NoRule
 
@@ -334,7 +358,8 @@ reading_quietly t s kind.Variable f =
     cond (nat_eq (kids f) 0) (variable_quietly (plain_name (first_text (texts f)))) (Stop NoRule)
 reading_quietly t s kind.Offset f = read_offset Quiet offsets.Quiet f
 reading_quietly t s kind.BraceOffset f = read_offset Quiet offsets.Quiet f
-reading_quietly t s kind.Prop f = Run (Kid 0 Quiet) (value_then (λ v. property_quietly t s v (member_word f)))
+reading_quietly t s kind.Prop f = Run (Kid 0 Quiet) (value_then (λ v. property_quietly t s v (member_word 1 f) give))
+reading_quietly t s kind.StaticProp f = static_quietly t s f
 reading_quietly t s k f = reading t s k f
 
 -- as a location
@@ -343,37 +368,48 @@ locating t s kind.Variable f =
     cond (nat_eq (kids f) 0 && not (bytes_eq (first_text (texts f)) (codes "$this"))) (Give (At (in_variable (plain_name (first_text (texts f)))))) (Stop NoRule)
 locating t s kind.Offset f = offset_location f (λ l. Give (At l))
 locating t s kind.BraceOffset f = offset_location f (λ l. Give (At l))
-locating t s kind.Prop f = child_value 0 (λ v. Give (At (record { root = InProperty v (member_word f); offsets = [] })))
-locating t s kind.StaticProp f = static_property t s f (λ c. Give (At (record { root = InCell c; offsets = [] })))
+locating t s kind.Prop f = child_value 0 (λ v. Give (At (record { root = InProperty v (member_word 1 f); offsets = [] })))
+locating t s kind.StaticProp f = static_location t s f
 locating t s k f = Stop NoRule
 
 -- in all the other modes
 abbrev pub running : Tables → Site → NodeKind → Mode → Form → Script
 running t s kind.Variable Name f = cond (nat_eq (kids f) 0) (give (Text (plain_name (first_text (texts f))))) (Stop NoRule)
-running t s kind.Variable Unset f = unset (property_then t s) s (in_variable (plain_name (first_text (texts f)))) (give Null)
-running t s kind.Offset Unset f = offset_location f (λ l. unset (property_then t s) s l (give Null))
-running t s kind.BraceOffset Unset f = offset_location f (λ l. unset (property_then t s) s l (give Null))
+running t s kind.Variable Unset f = unset (properties_at t s) s (in_variable (plain_name (first_text (texts f)))) (give Null)
+running t s kind.Constant Name f = give (Text (name_of (texts f)))
+running t s kind.Prop Unset f = child_value 0 (λ v. unset_property t s v (member_word 1 f))
+running t s kind.Offset Unset f = offset_location f (λ l. unset (properties_at t s) s l (give Null))
+running t s kind.BraceOffset Unset f = offset_location f (λ l. unset (properties_at t s) s l (give Null))
 running t s kind.While Later f = while_pass f
 running t s kind.DoWhile Later f = do_pass
 running t s kind.For Later f = for_later f
-running t s kind.Foreach (Left es) f = foreach_pass (property_then t s) s f es
-running t s kind.Foreach (Behind c met) f = Look (λ st. foreach_behind (property_then t s) s f c met (st.held c))
+running t s kind.Foreach (Left es) f = foreach_pass (properties_at t s) s f es
+running t s kind.Foreach (Behind c met) f = Look (λ st. foreach_behind (properties_at t s) s f c met (st.held c))
 running t s kind.Case (Against v) f = case_against f v
 running t s kind.TypeName (Against v) f = type_against t s (texts f) v
-running t s kind.Item (Into a) f = with_array a (item (property_then t s) s f)
-running t s kind.Args (Given marks) f = cond (has_word (codes "...") (texts f)) (Stop NoRule) (arguments (property_then t s) s 0 (kids f) marks entries.none)
+running t s kind.Item (Into a) f = with_array a (item (properties_at t s) s f)
+running t s kind.Args (Given marks) f = cond (has_word (codes "...") (texts f)) (Stop NoRule) (arguments (properties_at t s) s 0 (kids f) marks entries.none)
 running t s kind.Args Handed f = cond (has_word (codes "...") (texts f)) (Stop NoRule) (handed 0 (kids f) entries.none)
 running t s kind.Function Entered f = body_script f
 running t s kind.Method Entered f = body_script f
-running t s kind.Param Entered f = Look (λ st. parameter s f st st.here.arguments)
+running t s kind.Param Entered f = Look (λ st. parameter t s f st st.here.arguments)
 running t s kind.Property (Item i) f = Run (Kid i Read) Give
 running t s kind.ClassConst (Item i) f = Run (Kid i Read) Give
 running t s k m f = Stop NoRule
+
+-- a statement of a file or of a namespace itself
+abbrev pub at_top : Tables → Site → NodeKind → Form → Script
+at_top t s kind.Const f = define_all s 0 (texts f)
+at_top t s kind.Namespace f = run_top 0 (kids f)
+at_top t s kind.Use f = give Null
+at_top t s kind.Declare f = declared (texts f) 0 (kids f)
+at_top t s k f = reading t s k f
 
 -- Parentheses are what stands in them, however they are evaluated.
 abbrev pub rule : Tables → Site → NodeKind → Mode → Form → Script
 rule t s kind.Paren m f = Run (Kid 0 m) Give
 rule t s k Read f = reading t s k f
+rule t s k Top f = at_top t s k f
 rule t s k Quiet f = reading_quietly t s k f
 rule t s k Write f = locating t s k f
 rule t s k m f = running t s k m f

@@ -1,3 +1,4 @@
 -- What a program declares, and what its names stand for.
 pub mod Tables
+pub mod Reserved
 pub mod Constants

@@ -16,7 +16,7 @@ use Rattle.scope_names.specs.Form.{Form, Word, Child, form}
 use Rattle.scope_names.specs.Sites.{Site, is_declaration, declarations, one_if, within, beside}
 use Rattle.php_meaning.specs.runs.Kinds.{is_expression, is_statement}
 use Rattle.php_meaning.specs.names.Tables.{Tables}
-use Rattle.php_meaning.specs.runs.Script.{Out, Val, Mode, Read, Quiet, Write, Unset, Name, Later, Left, Behind, Against, Into, Given, Entered, Item, Target, Kid, Script, Give, Stop, Run, give, given, value_then, child_value}
+use Rattle.php_meaning.specs.runs.Script.{Out, Val, Mode, Read, Quiet, Write, Unset, Name, Later, Left, Behind, Against, Into, Given, Entered, Item, Target, Kid, Script, Give, Stop, Run, give, given, value_then, child_value, Top}
 use Rattle.php_meaning.specs.values.Offsets.{Strict}
 use Rattle.php_meaning.specs.expressions.Expressions.{plain_name, offset_of}
 use Rattle.php_meaning.specs.expressions.QuotedTexts.{variable_read, Style, InQuotes, InHeredoc, piece, ends_line, InText, InCode, BeforeBrace, InBrackets, BeforeBracket, text_then, text_at, quoted, quoted_by, quoted_text, closing_word, ends_here, begins_dollar}
@@ -60,6 +60,7 @@ float_script : (t : Tables) (s : Site) (a b : TokenKind) (w v : Bytes) → cast_
     → rule t s kind.Cast m (Word b v ∷ Child ∷ []) ≡ rule t s kind.Cast m (Word a w ∷ Child ∷ [])
 float_script t s a b w v e d Read = ap (λ x. cast (found casts (cast_word x))) d ∙ sym (ap (λ x. cast (found casts x)) e)
 float_script t s a b w v e d Quiet = ap (λ x. cast (found casts (cast_word x))) d ∙ sym (ap (λ x. cast (found casts x)) e)
+float_script t s a b w v e d Top = ap (λ x. cast (found casts (cast_word x))) d ∙ sym (ap (λ x. cast (found casts x)) e)
 float_script t s a b w v e d m = refl
 
 -- ---- opening tokens
@@ -115,6 +116,7 @@ module _ (claim : Claim) (t : Tables) where
       by_mode : (m : Mode) → Plays claim (place_in s id) (place_in s jd) (going lower kid again) (going low lid anew) (rule t s kind.Quoted m (form (leaf x f))) (rule t s kind.Quoted m (form (leaf y g)))
       by_mode Read = opened
       by_mode Quiet = opened
+      by_mode Top = opened
       by_mode m = stops_alike claim (place_in s id) (place_in s jd) (going lower kid again) (going low lid anew) NoRule (Stop NoRule)
 
   quoted_at : {f g : Forest} (x y : Token) → y.kind ≡ x.kind → Curled f g → PartsAcross f g → (s : Site) (marks : List Mark) (lower low : Entry → World → Result)

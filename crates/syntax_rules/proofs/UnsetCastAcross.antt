@@ -13,7 +13,7 @@ use Rattle.php_meaning.specs.names.Tables.{Tables}
 use Rattle.php_meaning.specs.literals.Literals.{found}
 use Rattle.php_meaning.specs.runs.Stores.{held_or_null, variable_cell}
 use Rattle.php_meaning.specs.runs.World.{Bytes, Store, Place, Outside, Before, After, World}
-use Rattle.php_meaning.specs.runs.Script.{Val, Mode, Read, Quiet, Target, Stop, Look, give, value_then, child_value}
+use Rattle.php_meaning.specs.runs.Script.{Val, Mode, Read, Quiet, Target, Stop, Look, give, value_then, child_value, Top}
 use Rattle.php_meaning.specs.expressions.QuotedTexts.{object_then, variable_read}
 use Rattle.php_meaning.specs.expressions.Expressions.{plain_name}
 use Rattle.php_meaning.specs.Rules.{rule, cast, casts, cast_word}
@@ -137,6 +137,7 @@ module _ (claim : Claim) (t t' : Tables) (s : Site) (u x o n p : Token) (is_unse
       → Across claim (step false t marks lower s (node kind.Cast (cast_of u x) none) id 0 m) (step true t' [] low s (node kind.Paren (null_of o n p) none) jd 0 m)
   unset_modes marks lower low h id jd Read = reads_across marks lower low id jd Read refl refl
   unset_modes marks lower low h id jd Quiet = reads_across marks lower low id jd Quiet refl refl
+  unset_modes marks lower low h id jd Top = reads_across marks lower low id jd Top refl refl
   unset_modes marks lower low h id jd m = stops_across marks lower low h id jd m (λ w. refl)
 
   -- the law of the rule, at its node

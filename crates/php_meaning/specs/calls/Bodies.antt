@@ -1,6 +1,6 @@
 -- Scripts of functions: declaring, calling, parameters; and of the variables that a body shares. (PHP manual,
 -- "Functions", "Variable scope".)
-use Rattle.std.specs.Prelude.{ℕ, zero, suc, ◌-◌, Bool, true, false, ◌&&◌, ◌||◌, cond, if◌then◌else◌, List, [], ◌∷◌, ◌++◌, codes, pos, is_some, Option, Some, None}
+use Rattle.std.specs.Prelude.{ℕ, zero, suc, ◌-◌, Bool, true, false, not, ◌&&◌, ◌||◌, cond, if◌then◌else◌, List, [], ◌∷◌, ◌++◌, codes, pos, is_some, Option, Some, None}
 use Rattle.std.specs.Str.{bytes_eq, str_to_ascii_lowercase}
 use Rattle.php_tree.specs.declared.kind.NodeKind.{NodeKind}
 use Rattle.php_tree.specs.declared.kind.NodeKind.TheVariants as kind
@@ -15,8 +15,9 @@ use Rattle.scope_names.specs.Words.{has_word, is_keyword, is_end, first_word, be
 use Rattle.scope_names.specs.Sites.{Site, in_space, declared_here}
 use Rattle.php_meaning.specs.names.Tables.{Tables, declaration_at, is_same_declared}
 use Rattle.php_meaning.specs.names.Tables as table
-use Rattle.php_meaning.specs.runs.Stores.{next_cell, with_cell, variable_slot, with_variable, last_frame}
-use Rattle.php_meaning.specs.literals.Literals.{found}
+use Rattle.php_meaning.specs.names.Reserved.{is_function_taken}
+use Rattle.php_meaning.specs.runs.Stores.{same_name, next_cell, with_cell, variable_slot, with_variable, last_frame}
+use Rattle.php_meaning.specs.literals.Literals.{found, behind_backslash}
 use Rattle.php_meaning.specs.expressions.Expressions.{plain_name}
 use Rattle.php_meaning.specs.expressions.Assigning.{Properties, kept_then, cell_then}
 use Rattle.php_meaning.specs.runs.Script.{Return, Throw, Out, Fresh, Jump, Mode, Read, Name, Against, Given, Entered, Kid, There, Script, Give, Stop, Look, Put, Run, give, value_then, child_location, asking, throws}
@@ -37,9 +38,6 @@ function_name d = in_space d.site.space (function_word d.form)
 abbrev pub is_function : NodeKind → Bool
 is_function kind.Function = true
 is_function k = false
-
-abbrev pub same_name : Bytes → Bytes → Bool
-same_name a b = bytes_eq (str_to_ascii_lowercase a) (str_to_ascii_lowercase b)
 
 -- the declared function with one of these names, the first name first
 abbrev pub declared_function : Tables → List Declared → Bytes → Option table.Declaration
@@ -68,10 +66,9 @@ reach_function t s = elim (declaration_at t (declared_here s)) [
   | None ↦ Stop Declaration
   | Some d ↦
       if d.is_top then give Null
-      else Look (λ st. elim (declared_function t st.declared (function_name d)) [
-        | None ↦ declare d.at (give Null)
-        | Some e ↦ Stop Declaration
-      ])
+      else Look (λ st.
+      if is_some (declared_function t st.declared (function_name d)) || is_function_taken (function_name d)
+      then Stop Declaration else declare d.at (give Null))
 ]
 
 -- ---- calling
@@ -128,11 +125,23 @@ abbrev pub all_words : List (NodeKind × Form) → List Bytes
 all_words [] = []
 all_words (k ∷ ks) = texts k.1 ++ all_words ks
 
+-- whether it ends with a body: a method without one is abstract
+abbrev pub has_body : Form → Bool
+has_body [] = false
+has_body (Child ∷ []) = true
+has_body (Word k w ∷ []) = false
+has_body (b ∷ c ∷ f) = has_body (c ∷ f)
+
+-- whether calls of a function or method have a meaning: it has a body, returns no reference, and takes no list of arguments
+abbrev pub may_be_called : table.Declaration → Bool
+may_be_called d =
+    has_body d.form && not (has_word (codes "&") (texts d.form)) && not (has_word (codes "...") (all_words d.kids))
+
 -- The arguments of the child `i` are evaluated, and then a function or method is called. No call starts in a value that a
--- declaration writes down, and a variadic parameter is outside.
+-- declaration writes down.
 abbrev pub call : ℕ → table.Declaration → Option ℕ → Option Bytes → (Out → Script) → Script
 call i d this class k =
-    Look (λ s. if is_some s.here.item || has_word (codes "...") (all_words d.kids) then Stop Call else
+    Look (λ s. if is_some s.here.item || not (may_be_called d) then Stop Call else
     Run (Kid i (Given (reference_marks d.kids))) (entries_then (call_with d this class k)))
 
 -- ---- bodies
@@ -185,18 +194,53 @@ with_arguments es s = record s { here = record s.here { arguments = es } }
 abbrev pub is_typed : Form → Bool
 is_typed f = elim f [ Child ∷ g ↦ true | _ ↦ false ]
 
-abbrev pub passed : Site → Form → Value → Script → Script
-passed s f v k = if is_typed f then checked 0 v k else k
+-- whether a name is that of the constant `null`
+abbrev pub names_null : Value → Bool
+names_null (Text t) = bytes_eq (str_to_ascii_lowercase (behind_backslash t)) (codes "null")
+names_null v = false
 
-abbrev pub parameter : Site → Form → Store → Entries → Script
-parameter s f st (own k n v rest) =
-    passed s f v (Put (with_local s (variable_word (texts f)) v (with_arguments rest st)) (give Null))
-parameter s f st (shared k n c rest) =
-    passed s f (st.held c) (Put (with_variable (variable_word (texts f)) c (with_arguments rest st)) (give Null))
-parameter s f st none =
-    if has_default f
-    then Run (Kid (kids f - 1) Read) (kept_then (λ v. Look (λ u. Put (with_local s (variable_word (texts f)) v u) (give Null))))
-    else throws ArgumentCountError
+-- null, which the type doesn't let pass: where the default is the constant `null` itself
+abbrev pub if_null_default : Form → Script → Value → Script
+if_null_default f k Null =
+    if has_default f then Run (Kid (kids f - 1) Name) (value_then (λ n. cond (names_null n) k (Stop Conversion)))
+    else Stop Conversion
+if_null_default f k v = Stop Conversion
+
+abbrev pub passed : Form → Value → Script → Script
+passed f v k =
+    if is_typed f then Run (Kid 0 (Against v)) (value_then (elim [ Truth true ↦ k | _ ↦ if_null_default f k v ])) else k
+
+-- Whether a parameter that must be passed stands behind the one with this name. Such a default is none in 8.x. (UPGRADING
+-- 8.0.)
+abbrev pub is_before_required : Bool → Bytes → List (NodeKind × Form) → Bool
+is_before_required is_behind name [] = false
+is_before_required is_behind name ((kind.Param, f) ∷ ks) =
+    (is_behind && not (has_default f) && not (has_word (codes "...") (texts f)))
+    || is_before_required (is_behind || bytes_eq (variable_word (texts f)) name) name ks
+is_before_required is_behind name (k ∷ ks) = is_before_required is_behind name ks
+
+abbrev pub parameters_at : Tables → Option Declared → List (NodeKind × Form)
+parameters_at t None = []
+parameters_at t (Some d) = elim (declaration_at t d) [ None ↦ [] | Some e ↦ e.kids ]
+
+-- the body's frame, in a value that a declaration writes down or not
+abbrev pub with_item : Option ℕ → Store → Store
+with_item i s = record s { here = record s.here { item = i } }
+
+-- the default of a parameter, in which no call starts
+abbrev pub default_then : Form → (Out → Script) → Script
+default_then f k =
+    Look (λ s. Put (with_item (Some 0) s) (Run (Kid (kids f - 1) Read) (λ o. Look (λ u. Put (with_item None u) (k o)))))
+
+abbrev pub parameter : Tables → Site → Form → Store → Entries → Script
+parameter t s f st (own k n v rest) =
+    passed f v (Put (with_local s (variable_word (texts f)) v (with_arguments rest st)) (give Null))
+parameter t s f st (shared k n c rest) =
+    passed f (st.held c) (Put (with_variable (variable_word (texts f)) c (with_arguments rest st)) (give Null))
+parameter t s f st none =
+    if not (has_default f) then throws ArgumentCountError
+    else (if is_before_required false (variable_word (texts f)) (parameters_at t s.body) then Stop Call
+    else default_then f (kept_then (λ v. passed f v (Look (λ u. Put (with_local s (variable_word (texts f)) v u) (give Null))))))
 
 -- ---- shared variables
 

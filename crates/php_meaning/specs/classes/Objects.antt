@@ -1,272 +1,146 @@
--- Scripts of classes and objects: declaring, `new`, properties, methods, exceptions. (PHP manual, "Classes and Objects",
+-- Scripts of classes and objects: `new`, properties, methods, constants, exceptions. (PHP manual, "Classes and Objects",
 -- "Exceptions".)
 use Rattle.std.specs.Prelude.{ℕ, zero, suc, ◌+◌, ◌-◌, Bool, true, false, not, ◌&&◌, ◌||◌, cond, if◌then◌else◌, nat_eq, List, [], ◌∷◌, ◌++◌, reverse, length, codes, pos, is_some, Option, Some, None}
 use Rattle.std.specs.Str.{bytes_eq, str_to_ascii_lowercase}
 use Rattle.php_tree.specs.declared.version.Version.TheVariants.{V83}
-use Rattle.php_tree.specs.declared.kind.NodeKind.{NodeKind}
-use Rattle.php_tree.specs.declared.kind.NodeKind.TheVariants as kind
 use Rattle.scope_names.specs.Slot.{Slot, Declared}
 use Rattle.scope_names.specs.Slot as slot
 use Rattle.php_meaning.specs.values.Value.{Value, Null, Truth, Int, Text, Object, Cell, Entries, none, own, shared}
 use Rattle.php_meaning.specs.Cause.{NoRule, Reference, Declaration, Call, Error}
 use Rattle.php_meaning.specs.Differences.{ByVersion, Alike, Differs, OldConstructor, StaticCall, in_version}
 use Rattle.php_meaning.specs.runs.World.{Bytes, Member, Frame, Store, with_object}
-use Rattle.php_meaning.specs.runs.World as world
 use Rattle.scope_names.specs.Form.{Form, Bit, Word, Child, kids, texts}
-use Rattle.scope_names.specs.Words.{has_keyword, is_keyword, is_end, first_word, behind_word, before_word}
-use Rattle.scope_names.specs.Sites.{Site, class_named, declared_here, within_form, or_else}
-use Rattle.php_meaning.specs.names.Tables.{Tables, declaration_at, is_same_declared}
+use Rattle.scope_names.specs.Words.{has_keyword, is_keyword, first_word, behind_word, before_word, last_part}
+use Rattle.scope_names.specs.Sites.{Site, class_named}
+use Rattle.php_meaning.specs.names.Tables.{Tables, is_same_declared}
 use Rattle.php_meaning.specs.names.Tables as table
-use Rattle.php_meaning.specs.literals.Literals.{found}
-use Rattle.php_meaning.specs.runs.Stores.{next_cell, with_cell, held_or_null}
+use Rattle.php_meaning.specs.literals.Literals.{found, behind_backslash}
+use Rattle.php_meaning.specs.runs.Stores.{same_name, next_cell, with_cell, with_static, static_property_cell, object_at, cell_of, with_property, without_property, with_made}
 use Rattle.php_meaning.specs.expressions.Assigning.{Properties, kept, write}
 use Rattle.php_meaning.specs.expressions.Expressions.{plain_name, in_variable}
-use Rattle.php_meaning.specs.calls.Bodies.{same_name, function_word, is_declared, declare, call, call_with, entries_then, in_frame}
-use Rattle.php_meaning.specs.runs.Script.{Continue, Break, Throw, Out, Jump, Read, Given, Item, Kid, Script, Give, Stop, Look, Put, Run, give, value_then, child_value, asking, throws}
-
--- ---- classes by name
-
-abbrev pub is_class : NodeKind → Bool
-is_class kind.Class = true
-is_class kind.Interface = true
-is_class k = false
-
-abbrev pub class_name : table.Declaration → Bytes
-class_name d = or_else (within_form d.kind d.form d.site).class []
-
-abbrev pub class_parent : table.Declaration → Option Bytes
-class_parent d = (within_form d.kind d.form d.site).parent
-
--- the declared class of a name
-abbrev pub declared_class : Tables → List Declared → Bytes → Option table.Declaration
-declared_class t [] name = None
-declared_class t (d ∷ ds) name = elim (declaration_at t d) [
-  | None ↦ declared_class t ds name
-  | Some e ↦ if is_class e.kind && same_name (class_name e) name then Some e else declared_class t ds name
-]
-
--- the classes of exceptions that are there from the start, in lower case, with what each extends
-abbrev pub exceptions : List (Bytes × Bytes × Option Bytes)
-exceptions =
-    (codes "throwable", codes "Throwable", None)
-    ∷ (codes "exception", codes "Exception", Some (codes "Throwable"))
-    ∷ (codes "error", codes "Error", Some (codes "Throwable"))
-    ∷ (codes "typeerror", codes "TypeError", Some (codes "Error"))
-    ∷ (codes "argumentcounterror", codes "ArgumentCountError", Some (codes "TypeError"))
-    ∷ (codes "arithmeticerror", codes "ArithmeticError", Some (codes "Error"))
-    ∷ (codes "divisionbyzeroerror", codes "DivisionByZeroError", Some (codes "ArithmeticError"))
-    ∷ (codes "errorexception", codes "ErrorException", Some (codes "Exception"))
-    ∷ (codes "logicexception", codes "LogicException", Some (codes "Exception"))
-    ∷ (codes "runtimeexception", codes "RuntimeException", Some (codes "Exception"))
-    ∷ []
-
-abbrev pub exception_row : List (Bytes × Bytes × Option Bytes) → Bytes → Option (Bytes × Option Bytes)
-exception_row [] name = None
-exception_row (r ∷ rs) name = if bytes_eq r.0 (str_to_ascii_lowercase name) then Some (r.1, r.2) else exception_row rs name
-
-abbrev pub parent_named : Tables → List Declared → Bytes → Option Bytes
-parent_named t ds name = elim (declared_class t ds name) [
-  | Some d ↦ class_parent d
-  | None ↦ (elim (exception_row exceptions name) [ Some r ↦ r.1 | None ↦ None ])
-]
-
--- A class and its ancestors, the class first: their names. No more classes than these can be in line.
-abbrev pub line_within : ℕ → Tables → List Declared → Option Bytes → List Bytes
-line_within zero t ds o = []
-line_within (suc n) t ds None = []
-line_within (suc n) t ds (Some name) = name ∷ line_within n t ds (parent_named t ds name)
-
-abbrev pub line : Tables → Store → Bytes → List Bytes
-line t s name = line_within (suc (10 + length s.declared)) t s.declared (Some name)
-
-abbrev pub is_in : List Bytes → Bytes → Bool
-is_in [] name = false
-is_in (n ∷ ns) name = same_name n name || is_in ns name
-
-abbrev pub is_a : Tables → Store → Bytes → Bytes → Bool
-is_a t s class name = is_in (line t s class) name
-
--- the name of a class for code at a site: `self` and `parent`, and `static` for the class that was called
-abbrev pub class_by : Site → Store → Bytes → Bytes
-class_by site s name =
-    if same_name name (codes "self") then or_else site.class []
-    else (if same_name name (codes "parent") then or_else site.parent []
-    else (if same_name name (codes "static") then or_else s.here.class [] else class_named site name))
-
--- ---- declaring
-
-abbrev pub reach_class : Tables → Site → Script
-reach_class t s = elim (declaration_at t (declared_here s)) [
-  | None ↦ Stop Declaration
-  | Some d ↦ Look (λ st.
-      if is_declared st.declared d.at then give Null
-      else (if is_some (declared_class t st.declared (class_name d)) then Stop Declaration
-      else (elim (class_parent d) [
-        | None ↦ declare d.at (give Null)
-        | Some p ↦ cond (is_some (declared_class t st.declared p) || is_some (exception_row exceptions p)) (declare d.at (give Null)) (Stop Declaration)
-      ])))
-]
-
--- ---- members
-
-abbrev pub is_method : NodeKind → Bool
-is_method kind.Method = true
-is_method k = false
-
-abbrev pub is_property : NodeKind → Bool
-is_property kind.Property = true
-is_property k = false
-
-abbrev pub belongs : table.Declaration → Option Declared → Bool
-belongs d None = false
-belongs d (Some c) = is_same_declared c d.at
-
--- the method of a class of its own with a name
-abbrev pub own_method : Tables → table.Declaration → Bytes → Option table.Declaration
-own_method [] d name = None
-own_method (e ∷ es) d name =
-    if is_method e.kind && belongs d e.of && same_name (function_word e.form) name then Some e else own_method es d name
-
--- the classes of a line that the program declares
-abbrev pub declared_line : Tables → List Declared → List Bytes → Tables
-declared_line t ds [] = []
-declared_line t ds (n ∷ ns) = elim (declared_class t ds n) [ Some d ↦ d ∷ declared_line t ds ns | None ↦ declared_line t ds ns ]
-
--- the first method with a name along a line, and its class
-abbrev pub method_in : Tables → Tables → Bytes → Option (table.Declaration × Bytes)
-method_in t [] name = None
-method_in t (d ∷ ds) name = elim (own_method t d name) [ Some m ↦ Some (m, class_name d) | None ↦ method_in t ds name ]
-
-abbrev pub is_dollar : Bytes → Bool
-is_dollar [] = false
-is_dollar (b ∷ bs) = nat_eq b 36
-
--- the words before a name that a member is declared by
-abbrev pub modifiers : List Bytes → List Bytes
-modifiers [] = []
-modifiers (w ∷ ws) =
-    if is_keyword (codes "function") w || is_keyword (codes "const") w || is_dollar w then [] else w ∷ modifiers ws
-
-abbrev pub has_modifier : List ℕ → Form → Bool
-has_modifier w f = has_keyword w (modifiers (texts f))
-
--- whether code at a site may use a member that is declared in a class
-abbrev pub is_seen : Tables → Store → Site → Form → Bytes → Bool
-is_seen t s site f class = elim site.class [
-  | None ↦ not (has_modifier (codes "private") f) && not (has_modifier (codes "protected") f)
-  | Some c ↦
-      if has_modifier (codes "private") f then same_name c class
-      else (not (has_modifier (codes "protected") f) || is_a t s c class || is_a t s class c)
-]
+use Rattle.php_meaning.specs.calls.Bodies.{call, call_with, may_be_called, entries_then, in_frame}
+use Rattle.php_meaning.specs.classes.Lines.{is_interface, class_name, declared_class, builtin_class, line, kin, is_in, is_a, no_class, class_then}
+use Rattle.php_meaning.specs.classes.Members.{is_property, belongs, own_method, declared_line, method_in, is_dollar, has_modifier, is_seen, listed, own_property, Listed, own_constant, own_static, first_listed}
+use Rattle.php_meaning.specs.classes.Declaring.{is_listed, is_abstract_class, final_methods, exception_properties}
+use Rattle.php_meaning.specs.classes.Types.{type_form, typing_of, of_form, of_type}
+use Rattle.php_meaning.specs.runs.Script.{Typing, Untyped, Typed, Unwritten, InCell, InStatic, Continue, Break, Throw, Out, At, Jump, Read, Given, Item, Kid, Script, Give, Stop, Look, Put, Run, give, value_then, child_value, asking, throws}
 
 -- ---- properties
 
--- the properties that a declaration lists, each with the index of its value
-abbrev pub listed : ℕ → List Bit → List (Bytes × Option ℕ)
-listed i [] = []
-listed i (Word _ w ∷ Word _ e ∷ Child ∷ f) = if bytes_eq e (codes "=") then (plain_name w, Some i) ∷ listed (suc i) f else listed (suc i) f
-listed i (Word _ w ∷ f) = if is_end w || not (is_dollar w) then listed i f else (plain_name w, None) ∷ listed i f
-listed i (Child ∷ f) = listed (suc i) f
+abbrev pub is_nothing : Bytes → Bool
+is_nothing [] = true
+is_nothing (b ∷ bs) = false
 
-abbrev pub lists_name : List (Bytes × Option ℕ) → Bytes → Bool
-lists_name [] name = false
-lists_name (v ∷ vs) name = bytes_eq v.0 name || lists_name vs name
+-- a property as code at a site means it: whose it is where it is private, and its type
+pub record Found : Type 0 where
+  pub member : Member
+  pub typing : Typing
 
--- the declaration of a class that lists an instance property
-abbrev pub own_property : Tables → table.Declaration → Bytes → Option table.Declaration
-own_property [] d name = None
-own_property (e ∷ es) d name =
-    if is_property e.kind && belongs d e.of && not (has_modifier (codes "static") e.form) && lists_name (listed 0 e.form) name
-    then Some e else own_property es d name
+abbrev pub owned_by : Bytes → Bytes → table.Declaration → Found
+owned_by name class e = record { member = record { name = name; owner = Some class }; typing = typing_of e }
 
--- the property of a name as code at a site means it: none where it may not use it
-abbrev pub member_from : Tables → Store → Site → Tables → Bytes → Bool → Option Member
-member_from t s site [] name is_first = Some (record { name = name; owner = None })
-member_from t s site (d ∷ ds) name is_first = elim (own_property t d name) [
-  | None ↦ member_from t s site ds name false
+abbrev pub shared_by : Bytes → table.Declaration → Found
+shared_by name e = record { member = record { name = name; owner = None }; typing = typing_of e }
+
+-- none where the code may not use it; one that no class of the line declares has no type
+abbrev pub found_from : Tables → Store → Site → Tables → Bytes → Bool → Option Found
+found_from t s site [] name is_first = Some (record { member = record { name = name; owner = None }; typing = Untyped })
+found_from t s site (d ∷ ds) name is_first = elim (own_property t d name) [
+  | None ↦ found_from t s site ds name false
   | Some e ↦
       if has_modifier (codes "private") e.form
-      then (if is_seen t s site e.form (class_name d) then Some (record { name = name; owner = Some (class_name d) })
-      else (if is_first then None else member_from t s site ds name false))
-      else (if is_seen t s site e.form (class_name d) then Some (record { name = name; owner = None }) else None)
+      then (if is_seen t s site e.form (class_name d) then Some (owned_by name (class_name d) e)
+      else (if is_first then None else found_from t s site ds name false))
+      else (if is_seen t s site e.form (class_name d) then Some (shared_by name e) else None)
 ]
 
 -- the private property of the class that code stands in, where the object is of that class
-abbrev pub own_member : Tables → Store → Site → Bytes → Bytes → Option Member
-own_member t s site class name = elim site.class [
+abbrev pub own_found : Tables → Store → Site → Bytes → Bytes → Option Found
+own_found t s site class name = elim site.class [
   | None ↦ None
   | Some c ↦ (elim (declared_class t s.declared c) [
     | None ↦ None
     | Some d ↦ (elim (own_property t d name) [
       | None ↦ None
-      | Some e ↦ if has_modifier (codes "private") e.form && is_a t s class c then Some (record { name = name; owner = Some (class_name d) }) else None
+      | Some e ↦ if has_modifier (codes "private") e.form && is_a t s class c then Some (owned_by name (class_name d) e) else None
     ])
   ])
 ]
 
-abbrev pub member : Tables → Store → Site → Bytes → Bytes → Option Member
-member t s site class name = elim (own_member t s site class name) [
-  | Some m ↦ Some m
-  | None ↦ member_from t s site (declared_line t s.declared (line t s class)) name true
+abbrev pub property_found : Tables → Store → Site → Bytes → Bytes → Option Found
+property_found t s site class name = elim (own_found t s site class name) [
+  | Some f ↦ Some f
+  | None ↦ found_from t s site (declared_line t s.declared (line t s class)) name true
 ]
 
-abbrev pub same_owner : Option Bytes → Option Bytes → Bool
-same_owner None None = true
-same_owner (Some a) (Some b) = same_name a b
-same_owner a b = false
+-- The property of an object as code at a site means it, or what comes where it may not be used. A property without a name of
+-- its own here, and one that an exception has from the start, are outside.
+abbrev pub found_then : Tables → Site → ℕ → Bytes → Script → (Found → Script) → Script
+found_then t site n name unseen k = Look (λ s.
+    if is_nothing name || (is_listed name exception_properties && is_a t s (object_at s.objects n).class (codes "Throwable"))
+    then Stop NoRule
+    else (elim (property_found t s site (object_at s.objects n).class name) [ None ↦ unseen | Some f ↦ k f ]))
 
-abbrev pub property_cell : List (Member × Cell) → Member → Option Cell
-property_cell [] m = None
-property_cell (p ∷ ps) m = if bytes_eq p.0.name m.name && same_owner p.0.owner m.owner then Some p.1 else property_cell ps m
+-- ---- the cell of a property, and its value
 
--- an object by its number
-abbrev pub object_at : List world.Object → ℕ → world.Object
-object_at [] n = record { class = []; properties = [] }
-object_at (o ∷ os) zero = o
-object_at (o ∷ os) (suc n) = object_at os n
+-- one that was never written, where it has a type
+abbrev pub unwritten : Typing → Typing
+unwritten Untyped = Untyped
+unwritten (Typed d) = Unwritten d
+unwritten (Unwritten d) = Unwritten d
 
-abbrev pub changed_object : List world.Object → ℕ → (world.Object → world.Object) → List world.Object
-changed_object [] n f = []
-changed_object (o ∷ os) zero f = f o ∷ os
-changed_object (o ∷ os) (suc n) f = o ∷ changed_object os n f
-
--- an object with a new property
-abbrev pub with_property : ℕ → Member → Cell → Store → Store
-with_property n m c s =
-    record s { objects = changed_object s.objects n (λ o. record o { properties = o.properties ++ (m, c) ∷ [] }) }
+abbrev pub cell_or_made : ℕ → Found → Bytes → (Cell → Typing → Script) → Store → Script
+cell_or_made n f name k s = elim (cell_of n f.member s) [
+  | Some c ↦ k c f.typing
+  | None ↦
+      let c = next_cell (slot.Property name) s in
+      Put (with_property n f.member c (with_cell Null s)) (k c (unwritten f.typing))
+]
 
 -- the cell of a property, made where there is none
-abbrev pub property_then : Tables → Site → Properties
-property_then t site (Object n) name k = Look (λ s. elim (member t s site (object_at s.objects n).class name) [
-  | None ↦ throws Error
-  | Some m ↦ (elim (property_cell (object_at s.objects n).properties m) [
-    | Some c ↦ k c
-    | None ↦
-        let c = next_cell (slot.Property name) s in
-        Put (with_property n m c (with_cell Null s)) (k c)
-  ])
-])
-property_then t site v name k = Stop Reference
+abbrev pub property_cell_then : Tables → Site → Value → Bytes → (Cell → Typing → Script) → Script
+property_cell_then t site (Object n) name k =
+    found_then t site n name (throws Error) (λ f. Look (cell_or_made n f name k))
+property_cell_then t site v name k = Stop Reference
+
+-- what reading a property gives that has no cell: null, and outside where it has a type
+abbrev pub read_missing : Typing → (Value → Script) → Script
+read_missing Untyped k = k Null
+read_missing typing k = Stop Reference
+
+abbrev pub value_or : Option Cell → Store → Script → (Value → Script) → Script
+value_or (Some c) s missing k = k (s.held c)
+value_or None s missing k = missing
 
 -- the value of a property
 abbrev pub property_value : Tables → Site → Value → Bytes → Script
-property_value t site (Object n) name = Look (λ s. elim (member t s site (object_at s.objects n).class name) [
-  | None ↦ throws Error
-  | Some m ↦ give (held_or_null s (property_cell (object_at s.objects n).properties m))
-])
-property_value t site v name = give Null
+property_value t site (Object n) name =
+    found_then t site n name (throws Error) (λ f. Look (λ s. value_or (cell_of n f.member s) s (read_missing f.typing give) give))
+property_value t site v name = cond (is_nothing name) (Stop NoRule) (give Null)
 
 -- the same where nothing is said of what isn't there: a property that may not be seen counts as missing
-abbrev pub property_quietly : Tables → Site → Value → Bytes → Script
-property_quietly t site (Object n) name = Look (λ s. elim (member t s site (object_at s.objects n).class name) [
-  | None ↦ give Null
-  | Some m ↦ give (held_or_null s (property_cell (object_at s.objects n).properties m))
-])
-property_quietly t site v name = give Null
+abbrev pub property_quietly : Tables → Site → Value → Bytes → (Value → Script) → Script
+property_quietly t site (Object n) name k =
+    found_then t site n name (k Null) (λ f. Look (λ s. value_or (cell_of n f.member s) s (k Null) k))
+property_quietly t site v name k = cond (is_nothing name) (Stop NoRule) (k Null)
 
--- the name of the member behind `->`
-abbrev pub member_word : Form → Bytes
-member_word f = first_word (behind_word (codes "->") (texts f))
+-- a property is taken away
+abbrev pub unset_property : Tables → Site → Value → Bytes → Script
+unset_property t site (Object n) name =
+    found_then t site n name (throws Error) (λ f. Look (λ s. Put (without_property n f.member s) (give Null)))
+unset_property t site v name = Stop Reference
+
+abbrev pub properties_at : Tables → Site → Properties
+properties_at t site = record {
+  cell = property_cell_then t site;
+  quietly = property_quietly t site;
+  typed = of_type t;
+}
+
+-- The name of the member behind `->`, with so many children: the object and what the name is called with. One that an
+-- expression names has no name here.
+abbrev pub member_word : ℕ → Form → Bytes
+member_word n f = if nat_eq (kids f) n then first_word (behind_word (codes "->") (texts f)) else []
 
 -- ---- new
 
@@ -279,46 +153,48 @@ item_value d class i k =
 abbrev pub property_owner : table.Declaration → Bytes → Option Bytes
 property_owner d class = if has_modifier (codes "private") d.form then Some class else None
 
+-- A property of an object gets its first value: none, where it has a type and no value is written down. It takes the place
+-- of one that the class overrides.
+abbrev pub make_empty : ℕ → Member → Bytes → Typing → Script → Script
+make_empty n m name Untyped k = Look (λ s. Put (with_made n m (slot.Property name) Null s) k)
+make_empty n m name typing k = Look (λ s. Put (without_property n m s) k)
+
 -- the properties that one declaration lists, as those of an object
-abbrev pub make_listed : ℕ → table.Declaration → Bytes → List (Bytes × Option ℕ) → Script → Script
-make_listed n d class [] k = k
-make_listed n d class ((name, None) ∷ vs) k =
-    Look (λ s. Put (with_property n (record { name = name; owner = property_owner d class }) (next_cell (slot.Property name) s) (with_cell Null s))
-    (make_listed n d class vs k))
-make_listed n d class ((name, Some i) ∷ vs) k =
-    item_value d class i (λ v.
-    Look (λ s. Put (with_property n (record { name = name; owner = property_owner d class }) (next_cell (slot.Property name) s) (with_cell v s))
-    (make_listed n d class vs k)))
+abbrev pub make_listed : Tables → ℕ → table.Declaration → Bytes → List (Bytes × Option ℕ) → Script → Script
+make_listed t n d class [] k = k
+make_listed t n d class ((name, None) ∷ vs) k =
+    make_empty n (record { name = name; owner = property_owner d class }) name (typing_of d) (make_listed t n d class vs k)
+make_listed t n d class ((name, Some i) ∷ vs) k =
+    item_value d class i (λ v. of_form t d.site (type_form d.kids) v
+    (Look (λ s. Put (with_made n (record { name = name; owner = property_owner d class }) (slot.Property name) v s)
+    (make_listed t n d class vs k))))
 
 -- the properties of one class
-abbrev pub make_own : ℕ → table.Declaration → Tables → Script → Script
-make_own n c [] k = k
-make_own n c (d ∷ ds) k =
+abbrev pub make_own : Tables → ℕ → table.Declaration → Tables → Script → Script
+make_own t n c [] k = k
+make_own t n c (d ∷ ds) k =
     if is_property d.kind && belongs c d.of && not (has_modifier (codes "static") d.form)
-    then make_listed n d (class_name c) (listed 0 d.form) (make_own n c ds k)
-    else make_own n c ds k
+    then make_listed t n d (class_name c) (listed 0 d.form) (make_own t n c ds k)
+    else make_own t n c ds k
 
 -- the properties of some classes
 abbrev pub make_all : Tables → ℕ → Tables → Script → Script
 make_all t n [] k = k
-make_all t n (c ∷ cs) k = make_own n c t (make_all t n cs k)
-
-abbrev pub is_nothing : Bytes → Bool
-is_nothing [] = true
-is_nothing (b ∷ bs) = false
+make_all t n (c ∷ cs) k = make_own t n c t (make_all t n cs k)
 
 -- The constructor of a class. In 7.4 a method that is named like its class is one, where the class stands in no
 -- namespace and declares no `__construct` itself. (PHP manual, "Constructors and Destructors": "Old-style constructors".)
 abbrev pub old_constructor : Tables → table.Declaration → Option table.Declaration
 old_constructor t d = if is_nothing d.site.space then own_method t d (class_name d) else None
 
-abbrev pub constructor : Tables → Tables → ByVersion (Option table.Declaration)
+-- the constructor along a line, and its class
+abbrev pub constructor : Tables → Tables → ByVersion (Option (table.Declaration × Bytes))
 constructor t [] = Alike None
 constructor t (d ∷ ds) = elim (own_method t d (codes "__construct")) [
-  | Some m ↦ Alike (Some m)
+  | Some m ↦ Alike (Some (m, class_name d))
   | None ↦ (elim (old_constructor t d) [
     | None ↦ constructor t ds
-    | Some m ↦ Differs OldConstructor (Some m) (in_version V83 (constructor t ds))
+    | Some m ↦ Differs OldConstructor (Some (m, class_name d)) (in_version V83 (constructor t ds))
   ])
 ]
 
@@ -326,7 +202,8 @@ constructor t (d ∷ ds) = elim (own_method t d (codes "__construct")) [
 abbrev pub construct : ℕ → ℕ → Bytes → Option table.Declaration → Script
 construct zero n class None = give (Object n)
 construct (suc i) n class None = Run (Kid i (Given [])) (entries_then (λ es. give (Object n)))
-construct zero n class (Some d) = call_with d (Some n) (Some class) (value_then (λ v. give (Object n))) none
+construct zero n class (Some d) =
+    if may_be_called d then call_with d (Some n) (Some class) (value_then (λ v. give (Object n))) none else Stop Call
 construct (suc i) n class (Some d) = call i d (Some n) (Some class) (value_then (λ v. give (Object n)))
 
 -- the text and the code of an exception, as its hidden properties
@@ -334,70 +211,123 @@ abbrev pub hidden : Bytes → Member
 hidden name = record { name = name; owner = Some (codes "Throwable") }
 
 abbrev pub with_hidden : ℕ → Bytes → Value → Store → Store
-with_hidden n name v s = with_property n (hidden name) (next_cell slot.Unnamed s) (with_cell v s)
+with_hidden n name v s = with_made n (hidden name) slot.Unnamed v s
 
-abbrev pub first_or : Value → Entries → Value
-first_or v none = v
-first_or v (own k n w rest) = w
-first_or v (shared k n c rest) = v
+-- the text and the code of an exception: those of its constructor, or none and 0
+abbrev pub with_exception : ℕ → Value → Value → Store → Store
+with_exception n message code s = with_hidden n (codes "code") code (with_hidden n (codes "message") message s)
 
-abbrev pub rest_of : Entries → Entries
-rest_of none = none
-rest_of (own k n w rest) = rest
-rest_of (shared k n c rest) = rest
+-- The constructor of an exception takes a text and an int. With anything else it is outside: 8.x throws where 7.4 converts.
+abbrev pub construct_exception : ℕ → Script → List Value → Script
+construct_exception n k [] = Look (λ s. Put (with_exception n (Text []) (Int (pos 0)) s) k)
+construct_exception n k (Text t ∷ []) = Look (λ s. Put (with_exception n (Text t) (Int (pos 0)) s) k)
+construct_exception n k (Text t ∷ Int i ∷ []) = Look (λ s. Put (with_exception n (Text t) (Int i) s) k)
+construct_exception n k vs = Stop Call
 
-abbrev pub construct_exception : ℕ → ℕ → Entries → Script
-construct_exception kid n es =
-    Look (λ s. Put (with_hidden n (codes "code") (first_or (Int (pos 0)) (rest_of es)) (with_hidden n (codes "message") (first_or (Text []) es) s)) (give (Object n)))
+abbrev pub values_of : Entries → List Value
+values_of none = []
+values_of (own k n w rest) = w ∷ values_of rest
+values_of (shared k n c rest) = values_of rest
 
-abbrev pub exception_arguments : ℕ → ℕ → Script
-exception_arguments zero n = construct_exception 0 n none
-exception_arguments (suc i) n = Run (Kid i (Given [])) (entries_then (construct_exception i n))
+abbrev pub exception_arguments : ℕ → ℕ → Script → Script
+exception_arguments zero n k = construct_exception n k []
+exception_arguments (suc i) n k = Run (Kid i (Given [])) (entries_then (λ es. construct_exception n k (values_of es)))
 
--- a new object of the classes of a line, with its properties from the farthest ancestor on
-abbrev pub make : Tables → ℕ → ℕ → Bytes → Tables → Bool → Script
-make t count n class cs is_exception =
-    make_all t n (reverse cs) (asking (constructor t cs) (λ m. elim m [
-      | Some d ↦ construct count n class (Some d)
-      | None ↦ cond is_exception (exception_arguments count n) (construct count n class None)
-    ]))
+abbrev pub as_exception : Bool → ℕ → Script → Script
+as_exception true n k = Look (λ s. Put (with_exception n (Text []) (Int (pos 0)) s) k)
+as_exception false n k = k
+
+-- A new object of the classes of a line, with its properties from the farthest ancestor on. A constructor that code at a
+-- site may not use throws before its arguments are evaluated.
+abbrev pub make : Tables → Site → ℕ → ℕ → Bytes → Tables → Bool → Script
+make t site count n class cs is_exception =
+    make_all t n (reverse cs) (as_exception is_exception n (asking (constructor t cs) (λ m. elim m [
+      | Some d ↦ Look (λ s. if is_seen t s site d.0.form d.1 then construct count n class (Some d.0) else throws Error)
+      | None ↦ cond is_exception (exception_arguments count n (give (Object n))) (construct count n class None)
+    ])))
 
 -- the full name of a class that there is, as it is declared
 abbrev pub known_class : Tables → Store → Bytes → Option Bytes
 known_class t s name = elim (declared_class t s.declared name) [
   | Some d ↦ Some (class_name d)
-  | None ↦ (elim (exception_row exceptions name) [ Some r ↦ Some r.0 | None ↦ None ])
+  | None ↦ (elim (builtin_class name) [ Some r ↦ Some r.0 | None ↦ None ])
 ]
+
+-- whether objects of a class are made: it is no interface and not abstract
+abbrev pub is_made : Tables → Store → Bytes → Bool
+is_made t s class = elim (declared_class t s.declared class) [
+  | Some d ↦ not (is_interface d.kind) && not (is_abstract_class d)
+  | None ↦ not (same_name class (codes "Throwable"))
+]
+
+-- the class that is named behind `new`; an anonymous one has no name
+abbrev pub new_word : Form → Bytes
+new_word f =
+    let w = first_word (behind_word (codes "new") (before_word (codes "(") (texts f))) in
+    if is_keyword (codes "class") w then [] else w
 
 abbrev pub new_object : Tables → Site → Form → Script
 new_object t site f = Look (λ s.
     if is_some s.here.item then Stop Call
-    else (elim (known_class t s (class_by site s (first_word (behind_word (codes "new") (before_word (codes "(") (texts f)))))) [
-      | None ↦ throws Error
-      | Some class ↦ Put (with_object class s)
-          (make t (kids f) (length s.objects) class (declared_line t s.declared (line t s class)) (is_in (line t s class) (codes "Throwable")))
+    else class_then site (new_word f) (λ name. elim (known_class t s name) [
+      | None ↦ no_class t name
+      | Some class ↦
+          if is_made t s class
+          then Put (with_object class s)
+          (make t site (kids f) (length s.objects) class (declared_line t s.declared (line t s class)) (is_in (line t s class) (codes "Throwable")))
+          else throws Error
     ]))
 
 -- ---- calls of methods
 
 -- the text or the code of an exception
 abbrev pub exception_answer : Store → ℕ → Bytes → Script
-exception_answer s n name = elim (property_cell (object_at s.objects n).properties (hidden name)) [ Some c ↦ give (s.held c) | None ↦ Stop NoRule ]
+exception_answer s n name = elim (cell_of n (hidden name) s) [ Some c ↦ give (s.held c) | None ↦ Stop NoRule ]
 
-abbrev pub call_method : Tables → Site → Form → Store → ℕ → Bytes → Script
-call_method t site f s n class = elim (method_in t (declared_line t s.declared (line t s class)) (member_word f)) [
-  | Some m ↦ (if is_seen t s site m.0.form m.1
-      then call 1 m.0 (if has_modifier (codes "static") m.0.form then None else Some n) (Some class) Give else throws Error)
-  | None ↦ (if is_in (line t s class) (codes "Throwable") && same_name (member_word f) (codes "getMessage") then exception_answer s n (codes "message")
-      else (if is_in (line t s class) (codes "Throwable") && same_name (member_word f) (codes "getCode") then exception_answer s n (codes "code")
-      else throws Error))
+-- the private method of the class that code stands in, where the object is of that class
+abbrev pub own_private : Tables → Store → Site → Bytes → Bytes → Option (table.Declaration × Bytes)
+own_private t s site class name = elim site.class [
+  | None ↦ None
+  | Some c ↦ (elim (declared_class t s.declared c) [
+    | None ↦ None
+    | Some d ↦ (elim (own_method t d name) [
+      | None ↦ None
+      | Some m ↦ if has_modifier (codes "private") m.form && is_a t s class c then Some (m, class_name d) else None
+    ])
+  ])
 ]
 
+-- the method of an object as code at a site means it
+abbrev pub method_of : Tables → Store → Site → Bytes → Bytes → Option (table.Declaration × Bytes)
+method_of t s site class name = elim (own_private t s site class name) [
+  | Some m ↦ Some m
+  | None ↦ method_in t (declared_line t s.declared (line t s class)) name
+]
+
+-- a method that no class of the program declares: two of exceptions have a meaning
+abbrev pub builtin_method : Store → ℕ → Bytes → Bool → Script
+builtin_method s n name is_exception =
+    if is_exception && same_name name (codes "getMessage") then exception_answer s n (codes "message")
+    else (if is_exception && same_name name (codes "getCode") then exception_answer s n (codes "code")
+    else (if is_exception && is_listed (str_to_ascii_lowercase name) (codes "__tostring" ∷ codes "__wakeup" ∷ final_methods) then Stop NoRule
+    else throws Error))
+
+abbrev pub call_method : Tables → Site → Bytes → Store → ℕ → Bytes → Script
+call_method t site name s n class = elim (method_of t s site class name) [
+  | Some m ↦ (if is_seen t s site m.0.form m.1
+      then call 1 m.0 (if has_modifier (codes "static") m.0.form then None else Some n) (Some class) Give else throws Error)
+  | None ↦ builtin_method s n name (is_in (line t s class) (codes "Throwable"))
+]
+
+-- No call starts in a value that a declaration writes down; one whose name an expression gives, and one of `__construct`, are
+-- outside.
 abbrev pub method_call : Tables → Site → Form → Script
-method_call t site f = child_value 0 (elim [
-  | Object n ↦ Look (λ s. if same_name (member_word f) (codes "__construct") then Stop Call else call_method t site f s n (object_at s.objects n).class)
-  | _ ↦ throws Error
-])
+method_call t site f = Look (λ st.
+    if is_some st.here.item || is_nothing (member_word 2 f) || same_name (member_word 2 f) (codes "__construct") then Stop Call
+    else child_value 0 (elim [
+      | Object n ↦ Look (λ s. call_method t site (member_word 2 f) s n (object_at s.objects n).class)
+      | _ ↦ throws Error
+    ]))
 
 -- The object that a static call of a method that isn't static runs in: that of the caller, where its class is fit. Without
 -- one, 7.4 calls it all the same, and 8.3 throws. (RFC "Reclassify engine warnings", UPGRADING 8.0.)
@@ -405,66 +335,61 @@ abbrev pub fit_object : Tables → Store → Bytes → Option ℕ → Option ℕ
 fit_object t s class None = None
 fit_object t s class (Some n) = if is_a t s (object_at s.objects n).class class then Some n else None
 
-abbrev pub call_static : Tables → Form → Store → table.Declaration × Bytes → Bytes → Script
-call_static t f s m class =
-    if has_modifier (codes "static") m.0.form then call 0 m.0 None (Some class) Give
-    else (elim (fit_object t s m.1 s.here.this) [
-      | Some n ↦ call 0 m.0 (Some n) (Some (object_at s.objects n).class) Give
-      | None ↦ asking (Differs StaticCall true false) (λ b. cond b (call 0 m.0 None (Some class) Give) (throws Error))
+abbrev pub call_static : Tables → Store → table.Declaration → Bytes → Script
+call_static t s m class =
+    if has_modifier (codes "static") m.form then call 0 m None (Some class) Give
+    else (elim (fit_object t s class s.here.this) [
+      | Some n ↦ call 0 m (Some n) (Some (object_at s.objects n).class) Give
+      | None ↦ asking (Differs StaticCall true false) (λ b. cond b (call 0 m None (Some class) Give) (throws Error))
     ])
+
+-- A constructor that is called as a static method: that of the class, which for an exception is its own.
+abbrev pub construct_again : Tables → Store → Bytes → Script
+construct_again t s class =
+    if is_in (line t s class) (codes "Throwable")
+    then (elim (fit_object t s class s.here.this) [ Some n ↦ exception_arguments 1 n (give Null) | None ↦ Stop Call ])
+    else throws Error
+
+abbrev pub static_constructor : Tables → Site → Store → Bytes → Script
+static_constructor t site s class =
+    asking (constructor t (declared_line t s.declared (line t s class))) (λ m. elim m [
+      | Some d ↦
+          if has_modifier (codes "private") d.0.form then Stop Call
+          else (if is_seen t s site d.0.form d.1 then call_static t s d.0 class else throws Error)
+      | None ↦ construct_again t s class
+    ])
+
+-- the last part of a class's name is a method's
+abbrev pub is_named_like : Bytes → Bytes → Bool
+is_named_like class name = same_name (last_part class) name
+
+-- A static call of a method that isn't there is outside where it is named like its class: 7.4 may mean a constructor.
+abbrev pub static_method : Tables → Site → Store → Bytes → Bytes → Script
+static_method t site s class name = elim (method_in t (declared_line t s.declared (line t s class)) name) [
+  | None ↦
+      if is_named_like class name || (is_in (line t s class) (codes "Throwable") && is_listed (str_to_ascii_lowercase name) final_methods)
+      then Stop Call else throws Error
+  | Some m ↦ if is_seen t s site m.0.form m.1 then call_static t s m.0 class else throws Error
+]
+
+-- the words before and behind `::`, with so many children; none where an expression stands for one of them
+abbrev pub class_word : ℕ → Form → Bytes
+class_word n f = if nat_eq (kids f) n then first_word (before_word (codes "::") (texts f)) else []
+
+abbrev pub word_of_class : Form → Bytes
+word_of_class f = first_word (behind_word (codes "::") (texts f))
 
 abbrev pub static_call : Tables → Site → Form → Script
 static_call t site f = Look (λ s.
-    let class = class_by site s (first_word (before_word (codes "::") (texts f))) in
-    let name : Bytes = first_word (behind_word (codes "::") (texts f)) in
-    elim (known_class t s class) [
-      | None ↦ throws Error
-      | Some c ↦ (elim (method_in t (declared_line t s.declared (line t s c)) name) [
-        | None ↦ throws Error
-        | Some m ↦ (if is_seen t s site m.0.form m.1 then call_static t f s m c else throws Error)
-      ])
-    ])
+    if is_some s.here.item then Stop Call
+    else class_then site (class_word 1 f) (λ name. elim (known_class t s name) [
+      | None ↦ no_class t name
+      | Some c ↦
+          if same_name (word_of_class f) (codes "__construct") then static_constructor t site s c
+          else static_method t site s c (word_of_class f)
+    ]))
 
 -- ---- class constants and static properties, found when they are first used
-
--- the constants that a declaration lists, each with the index of its value
-abbrev pub listed_constants : ℕ → List Bit → List (Bytes × Option ℕ)
-listed_constants i (Word _ w ∷ Word _ e ∷ Child ∷ f) =
-    if bytes_eq e (codes "=") then (w, Some i) ∷ listed_constants (suc i) f else listed_constants (suc i) f
-listed_constants i (Word _ w ∷ f) = listed_constants i f
-listed_constants i (Child ∷ f) = listed_constants (suc i) f
-listed_constants i [] = []
-
-abbrev pub index_of : List (Bytes × Option ℕ) → Bytes → Option (Option ℕ)
-index_of [] name = None
-index_of (v ∷ vs) name = if bytes_eq v.0 name then Some v.1 else index_of vs name
-
-abbrev pub is_constant : NodeKind → Bool
-is_constant kind.ClassConst = true
-is_constant k = false
-
--- an item of a class's own declarations: the declaration, and the index of its value
-abbrev pub Listed : Type 0
-Listed = table.Declaration × Option ℕ
-
-abbrev pub own_constant : Tables → table.Declaration → Bytes → Option Listed
-own_constant [] d name = None
-own_constant (e ∷ es) d name = elim (index_of (listed_constants 0 e.form) name) [
-  | None ↦ own_constant es d name
-  | Some i ↦ if is_constant e.kind && belongs d e.of then Some (e, i) else own_constant es d name
-]
-
-abbrev pub own_static : Tables → table.Declaration → Bytes → Option Listed
-own_static [] d name = None
-own_static (e ∷ es) d name = elim (index_of (listed 0 e.form) name) [
-  | None ↦ own_static es d name
-  | Some i ↦ if is_property e.kind && belongs d e.of && has_modifier (codes "static") e.form then Some (e, i) else own_static es d name
-]
-
--- the first such item along a line, and its class
-abbrev pub first_listed : (table.Declaration → Bytes → Option Listed) → Tables → Bytes → Option (Listed × Bytes)
-first_listed finds [] name = None
-first_listed finds (d ∷ ds) name = elim (finds d name) [ Some l ↦ Some (l, class_name d) | None ↦ first_listed finds ds name ]
 
 abbrev pub same_item : Option ℕ → ℕ → Bool
 same_item None i = false
@@ -478,10 +403,6 @@ belongs_to (Some e) d = is_same_declared e d
 abbrev pub is_found_in : List Frame → Declared → ℕ → Bool
 is_found_in [] d i = false
 is_found_in (f ∷ fs) d i = (same_item f.item i && belongs_to f.body d) || is_found_in fs d i
-
-abbrev pub member_of_class : Site → Store → Form → Bytes × Bytes
-member_of_class site s f =
-    (class_by site s (first_word (before_word (codes "::") (texts f))), first_word (behind_word (codes "::") (texts f)))
 
 abbrev pub constant_key : Bytes → Bytes → Bytes
 constant_key class name = str_to_ascii_lowercase class ++ codes "::" ++ name
@@ -497,43 +418,85 @@ find_constant l class name = Look (λ s. elim (found s.constants (constant_key c
   | None ↦ value_of_item l class (λ v. Look (λ u. Put (record u { constants = (constant_key class name, v) ∷ u.constants }) (give v)))
 ])
 
+-- a member that a class, which may not be there, doesn't have
+abbrev pub no_member : Tables → Store → Bytes → Script
+no_member t s class = if is_some (known_class t s class) then throws Error else no_class t class
+
+-- the classes and interfaces that the program declares, of all that a class is of
+abbrev pub declared_kin : Tables → Store → Bytes → Tables
+declared_kin t s class = declared_line t s.declared (kin t s class)
+
 abbrev pub class_constant : Tables → Site → Form → Script
-class_constant t site f = Look (λ s.
-    let m : Bytes × Bytes = member_of_class site s f in
-    if same_name m.1 (codes "class") then give (Text m.0)
-    else (elim (first_listed (own_constant t) (declared_line t s.declared (line t s m.0)) m.1) [
-      | None ↦ throws Error
-      | Some l ↦ if is_seen t s site l.0.0.form l.1 then find_constant l.0 l.1 m.1 else throws Error
+class_constant t site f = class_then site (class_word 0 f) (λ class. Look (λ s.
+    if same_name (word_of_class f) (codes "class") then give (Text class)
+    else (elim (first_listed (own_constant t) (declared_kin t s class) (word_of_class f)) [
+      | None ↦ no_member t s class
+      | Some l ↦ if is_seen t s site l.0.0.form l.1 then find_constant l.0 l.1 (word_of_class f) else throws Error
+    ])))
+
+-- the value that a static property begins with, of its type
+abbrev pub first_value : Tables → Listed → Bytes → (Value → Script) → Script
+first_value t l class k = value_of_item l class (λ v. of_form t l.0.site (type_form l.0.kids) v (k v))
+
+abbrev pub make_static : Bytes → Bytes → Value → (Cell → Script) → Script
+make_static class name v k =
+    Look (λ s. Put (with_static class name v s) (k (next_cell (slot.StaticProperty name) s)))
+
+-- The cell of a static property, made when it is first used; none, where it has a type and no value is written down.
+abbrev pub find_static : Tables → Listed → Bytes → Bytes → Script → (Cell → Typing → Script) → Script
+find_static t l class name unmade k = Look (λ s. elim (static_property_cell s.statics class name) [
+  | Some c ↦ k c (typing_of l.0)
+  | None ↦ (elim l.1 [
+    | Some i ↦ first_value t l class (λ v. make_static class name v (λ c. k c (typing_of l.0)))
+    | None ↦ (elim (type_form l.0.kids) [ None ↦ make_static class name Null (λ c. k c Untyped) | Some g ↦ unmade ])
+  ])
+])
+
+-- a static property as code at a site means it: what comes where it isn't there or may not be used, and where it has no
+-- value yet
+abbrev pub static_property : Tables → Site → Form → (Script → Script) → (Listed → Bytes → Bytes → Script) → (Cell → Typing → Script) → Script
+static_property t site f missing unmade k = class_then site (class_word 0 f) (λ class. Look (λ s.
+    let name : Bytes = plain_name (word_of_class f) in
+    elim (first_listed (own_static t) (declared_line t s.declared (line t s class)) name) [
+      | None ↦ if is_some (known_class t s class) then missing (throws Error) else no_class t class
+      | Some l ↦
+          if is_seen t s site l.0.0.form l.1 then find_static t l.0 l.1 name (unmade l.0 l.1 name) k
+          else missing (throws Error)
     ]))
 
--- the cell of a static property
-abbrev pub static_property_cell : List (Slot × Option Bytes × Cell) → Bytes → Bytes → Option Cell
-static_property_cell [] class name = None
-static_property_cell ((slot.StaticProperty n, Some c, cell) ∷ cs) class name =
-    if bytes_eq n name && same_name c class then Some cell else static_property_cell cs class name
-static_property_cell (c ∷ cs) class name = static_property_cell cs class name
+-- read, read where nothing is said of what isn't there, and as a location
+abbrev pub static_value : Tables → Site → Form → Script
+static_value t site f =
+    static_property t site f (λ refused. refused) (λ l class name. Stop Reference) (λ c typing. Look (λ s. give (s.held c)))
 
-abbrev pub find_static : Listed → Bytes → Bytes → (Cell → Script) → Script
-find_static l class name k = Look (λ s. elim (static_property_cell s.statics class name) [
-  | Some c ↦ k c
-  | None ↦ value_of_item l class (λ v. Look (λ u.
-      let c : Cell = next_cell (slot.StaticProperty name) u in
-      Put (record (with_cell v u) { statics = (slot.StaticProperty name, Some class, c) ∷ u.statics }) (k c)))
-])
+abbrev pub static_quietly : Tables → Site → Form → Script
+static_quietly t site f =
+    static_property t site f (λ refused. give Null) (λ l class name. give Null) (λ c typing. Look (λ s. give (s.held c)))
 
-abbrev pub static_property : Tables → Site → Form → (Cell → Script) → Script
-static_property t site f k = Look (λ s.
-    let m : Bytes × Bytes = member_of_class site s f in
-    elim (first_listed (own_static t) (declared_line t s.declared (line t s m.0)) (plain_name m.1)) [
-      | None ↦ throws Error
-      | Some l ↦ if is_seen t s site l.0.0.form l.1 then find_static l.0 l.1 (plain_name m.1) k else throws Error
-    ])
+abbrev pub static_location : Tables → Site → Form → Script
+static_location t site f =
+    static_property t site f (λ refused. refused)
+    (λ l class name. Give (At (record { root = InStatic class name l.0.at; offsets = [] })))
+    (λ c typing. Give (At (record { root = InCell c typing; offsets = [] })))
+
+-- ---- instanceof
+
+abbrev pub is_object_of : Tables → Store → Value → Bytes → Bool
+is_object_of t s (Object n) class = is_a t s (object_at s.objects n).class class
+is_object_of t s v class = false
+
+-- by the value of an expression: a class by its full name, or that of an object; anything else throws
+abbrev pub instance_of_value : Tables → Value → Value → Script
+instance_of_value t v (Object n) = Look (λ s. give (Truth (is_object_of t s v (object_at s.objects n).class)))
+instance_of_value t v (Text name) = Look (λ s. give (Truth (is_object_of t s v (behind_backslash name))))
+instance_of_value t v w = throws Error
 
 abbrev pub instance_of : Tables → Site → Form → Script
-instance_of t site f = child_value 0 (elim [
-  | Object n ↦ Look (λ s. give (Truth (is_a t s (object_at s.objects n).class (class_by site s (first_word (behind_word (codes "instanceof") (texts f)))))))
-  | _ ↦ give (Truth false)
-])
+instance_of t site f =
+    if nat_eq (kids f) 1
+    then child_value 0 (λ v. class_then site (first_word (behind_word (codes "instanceof") (texts f))) (λ class. Look (λ s.
+    give (Truth (is_object_of t s v class)))))
+    else child_value 0 (λ v. child_value 1 (instance_of_value t v))
 
 -- ---- exceptions
 
@@ -582,7 +545,7 @@ finished (Some j) o = Run (Kid j Read) (finished_with o)
 abbrev pub after_try : Tables → Site → List Handler → Option ℕ → Out → Script
 after_try t site hs last (Jump (Throw n)) = Look (λ s. elim (handler_of t s (object_at s.objects n).class hs) [
   | None ↦ finished last (Jump (Throw n))
-  | Some h ↦ write (property_then t site) site (in_variable h.variable) (Object n) (Run (Kid h.block Read) (finished last))
+  | Some h ↦ write (properties_at t site) site (in_variable h.variable) (Object n) (Run (Kid h.block Read) (finished last))
 ])
 after_try t site hs last o = finished last o
 

@@ -9,14 +9,14 @@ use Rattle.php_meaning.specs.values.Keys.{to_key}
 use Rattle.php_meaning.specs.values.Arrays.{Own, Shared, Array, array, empty_array, with_element, appended}
 use Rattle.php_meaning.specs.values.Offsets.{Reading, at_offset}
 use Rattle.php_meaning.specs.expressions.QuotedTexts.{variable_read}
-use Rattle.php_meaning.specs.expressions.Operators.{Operation}
+use Rattle.php_meaning.specs.expressions.Operators.{Operation, operation}
 use Rattle.php_meaning.specs.runs.World.{Bytes}
 use Rattle.scope_names.specs.Form.{Form, Word, Child, texts}
 use Rattle.scope_names.specs.Words.{has_word}
 use Rattle.scope_names.specs.Sites.{Site}
 use Rattle.php_meaning.specs.runs.Stores.{cells_of, held_or_null, variable_cell}
-use Rattle.php_meaning.specs.expressions.Assigning.{Properties, numbered, kept_then, write, read, bind, cell_then}
-use Rattle.php_meaning.specs.runs.Script.{InVariable, Location, Out, Val, Fresh, At, Jump, Mode, Read, Quiet, Unset, Into, Kid, Script, Give, Stop, Look, Put, Run, give, value_then, child_value, child_location, given, asking, came_then, comes}
+use Rattle.php_meaning.specs.expressions.Assigning.{Properties, numbered, kept_then, write, read, bind, cell_then, read_quietly}
+use Rattle.php_meaning.specs.runs.Script.{InVariable, Location, Out, Val, Fresh, At, Jump, Mode, Read, Quiet, Unset, Into, Kid, Script, Give, Stop, Look, Put, Run, give, value_then, child_value, child_location, given, asking, came_then, comes, Write}
 
 -- ---- variables
 
@@ -141,6 +141,24 @@ compound properties s (Some o) =
     child_location 0 (λ l. child_value 1 (λ b. read properties s l (λ a.
     given (o.left a) (λ left. asking (o.answer left b) (λ r. given r (came_then (λ v. write properties s l v (give v))))))))
 
+-- `??=`: the target is read first, and where it is null the right side is written. What PHP throws while it finds the target
+-- comes after the right side, so that is outside.
+abbrev pub found_quietly : (Location → Script) → Out → Script
+found_quietly k (At l) = k l
+found_quietly k (Jump w) = Stop NoRule
+found_quietly k o = Stop NoRule
+
+abbrev pub assign_if_null : Properties → Site → Script
+assign_if_null properties s = Run (Kid 0 Write) (found_quietly (λ l. read_quietly properties l (elim [
+  | Null ↦ Run (Kid 1 Read) (kept_then (λ v. write properties s l v (give v)))
+  | w ↦ give w
+])))
+
+abbrev pub compound_by : Properties → Site → Bytes → Script
+compound_by properties s op =
+    if bytes_eq op (codes "??") then assign_if_null properties s
+    else Look (λ st. compound properties s (operation (cells_of st) st.serials op))
+
 -- `++` and `--`: the value after it, or before it
 abbrev pub stepped : Properties → Site → Bool → (Value → Outcome Value) → Script
 stepped properties s is_before step =
@@ -164,6 +182,10 @@ both = child_value 0 (λ a. cond (to_truth a) (child_value 1 (λ b. give (Truth 
 
 abbrev pub either : Script
 either = child_value 0 (λ a. cond (to_truth a) (give (Truth true)) (child_value 1 (λ b. give (Truth (to_truth b)))))
+
+-- `xor`: both operands are evaluated
+abbrev pub one_alone : Script
+one_alone = child_value 0 (λ a. child_value 1 (λ b. give (Truth (cond (to_truth a) (not (to_truth b)) (to_truth b)))))
 
 -- ---- unset
 

@@ -13,7 +13,8 @@ use Rattle.php_meaning.specs.literals.Literals.{found, behind_backslash}
 use Rattle.php_meaning.specs.runs.World.{Bytes, Store}
 use Rattle.scope_names.specs.Sites.{Site, candidates, in_space}
 use Rattle.scope_names.specs.Imports.{OfConstant}
-use Rattle.scope_names.specs.Words.{is_keyword, is_end, last_part, split}
+use Rattle.scope_names.specs.Words.{is_keyword, is_end, split}
+use Rattle.php_meaning.specs.names.Reserved.{is_constant_taken}
 use Rattle.php_meaning.specs.runs.Script.{Script, Stop, Look, Put, give, child_value, asking, throws}
 
 -- ---- the constants that are there from the start
@@ -26,11 +27,6 @@ known_value known.LineEnd = Text (10 ∷ [])
 
 abbrev pub known_constant : Bytes → Option Value
 known_constant name = elim (table.constant_named name) [ Some v ↦ Some (known_value v) | None ↦ None ]
-
--- whether a name's last part is that of a constant that is there from the start: no program declares it, in any
--- namespace (this project's own)
-abbrev pub is_known : Bytes → Bool
-is_known name = is_some (table.constant_named (last_part name))
 
 -- ---- names
 
@@ -103,7 +99,7 @@ define_all s i [] = give Null
 define_all s i (w ∷ ws) =
     if is_end w || bytes_eq w (codes "=") || is_keyword (codes "const") w then define_all s i ws
     else child_value i (λ v. Look (λ st.
-    if is_known w || is_some (found st.constants (constant_key (in_space s.space w))) then Stop Declaration
+    if is_constant_taken (in_space s.space w) || is_some (found st.constants (constant_key (in_space s.space w))) then Stop Declaration
     else Put (with_constant (constant_key (in_space s.space w)) v st) (define_all s (suc i) ws)))
 
 -- whether `::` stands in a name
@@ -126,7 +122,7 @@ define_without_case s name v = define_at s (str_to_ascii_lowercase name) (with_a
 -- `define`. With true as third argument, 7.4 defines without case, and 8.3 with case. (UPGRADING 8.0, "Core".)
 abbrev pub define : Store → Bytes → Value → Bool → Script
 define s name v any_case =
-    if has_colons name || is_known name then Stop Declaration
+    if has_colons name || is_constant_taken name then Stop Declaration
     else (if any_case
     then asking (Differs difference.Builtin true false) (λ b. cond b (define_without_case s name v) (define_with_case s name v))
     else define_with_case s name v)

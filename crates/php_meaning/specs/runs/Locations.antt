@@ -8,7 +8,7 @@ use Rattle.php_meaning.specs.Differences.{ByVersion, Alike, by_version_map, by_v
 use Rattle.php_meaning.specs.values.Keys.{to_key}
 use Rattle.php_meaning.specs.values.Cells.{Cells}
 use Rattle.php_meaning.specs.values.Arrays.{Element, Own, Shared, Array, array, element_at, with_element, appended}
-use Rattle.php_meaning.specs.values.Offsets.{Strict, at_offset, array_to_write, without_offset}
+use Rattle.php_meaning.specs.values.Offsets.{Reading, Strict, Quiet, at_offset, array_to_write, without_offset}
 use Rattle.php_meaning.specs.runs.World.{Store}
 use Rattle.php_meaning.specs.runs.Stores.{next_cell, with_cell, with_value}
 
@@ -18,11 +18,16 @@ abbrev pub goes_on : (Value → Outcome Came) → Came → Outcome Came
 goes_on k (Returns v) = k v
 goes_on k (Throws c) = Gives (Throws c)
 
--- the value at offsets of a value; without a key nothing is there
-abbrev pub value_at : Cells → Value → List (Option Value) → Outcome Came
-value_at cells v [] = Gives (Returns v)
-value_at cells v (None ∷ ks) = value_at cells Null ks
-value_at cells v (Some k ∷ ks) = and_then (at_offset cells Strict v k) (goes_on (λ w. value_at cells w ks))
+-- what is read without a key: nothing is there, and where it may be missing PHP refuses it
+abbrev pub value_behind : Reading → Outcome Value
+value_behind Strict = Gives Null
+value_behind Quiet = Outside Offset
+
+-- the value at offsets of a value
+abbrev pub value_at : Cells → Reading → Value → List (Option Value) → Outcome Came
+value_at cells reading v [] = Gives (Returns v)
+value_at cells reading v (None ∷ ks) = and_then (value_behind reading) (λ w. value_at cells reading w ks)
+value_at cells reading v (Some k ∷ ks) = and_then (at_offset cells reading v k) (goes_on (λ w. value_at cells reading w ks))
 
 -- ---- changes
 

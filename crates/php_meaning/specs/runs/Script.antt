@@ -16,11 +16,19 @@ pub data Way : Type 0 where
   Break : ℕ → Way
   Continue : ℕ → Way
 
--- where a location begins: in the variable with this name, in a cell, or in the property with this name of a value
+-- Whether a property has a type: none; the one of its declaration; or that one, and the property was never written.
+pub data Typing : Type 0 where
+  Untyped : Typing
+  Typed : Declared → Typing
+  Unwritten : Declared → Typing
+
+-- where a location begins: in the variable with this name, in a cell, in the property with this name of a value, or in the
+-- static property of a class that has a type, by its declaration, and no value of its own yet
 pub data Root : Type 0 where
   InVariable : Bytes → Root
-  InCell : Cell → Root
+  InCell : Cell → Typing → Root
   InProperty : Value → Bytes → Root
+  InStatic : Bytes → Bytes → Declared → Root
 
 -- What can be written: where it begins, and the offsets from there on, each at a value or without a key.
 pub record Location : Type 0 where
@@ -42,6 +50,8 @@ pub data Mode : Type 0 where
   Write : Mode
   Unset : Mode
   Name : Mode
+  -- as a statement of a file or of a namespace itself
+  Top : Mode
   -- a loop's next pass; of `foreach` over a copy with the entries that are left, or by reference over the array in a
   -- cell behind the entry with this serial number
   Later : Mode

@@ -1,11 +1,11 @@
 -- What is done to a store: cells are made and written, variables found and bound, and the holders of a cell counted.
-use Rattle.std.specs.Prelude.{ℕ, zero, suc, Bool, true, false, ◌||◌, if◌then◌else◌, nat_eq, nat_lt, List, [], ◌∷◌, ◌++◌, codes, Option, Some, None}
-use Rattle.std.specs.Str.{bytes_eq}
-use Rattle.scope_names.specs.Slot.{Declared, Slot, FileVariable, BodyVariable}
+use Rattle.std.specs.Prelude.{ℕ, zero, suc, Bool, true, false, ◌&&◌, ◌||◌, if◌then◌else◌, nat_eq, nat_lt, List, [], ◌∷◌, ◌++◌, codes, Option, Some, None}
+use Rattle.std.specs.Str.{bytes_eq, str_to_ascii_lowercase}
+use Rattle.scope_names.specs.Slot.{Declared, Slot, FileVariable, BodyVariable, StaticProperty}
 use Rattle.php_meaning.specs.values.Value.{Value, Null, Truth, Int, Text, Object, Arr, Cell, Entries, none, own, shared}
 use Rattle.php_meaning.specs.values.Cells.{Cells, is_same_cell, is_among}
 use Rattle.php_meaning.specs.literals.Literals.{found}
-use Rattle.php_meaning.specs.runs.World.{Bytes, Frame, Store}
+use Rattle.php_meaning.specs.runs.World.{Bytes, Member, Frame, Store}
 use Rattle.php_meaning.specs.runs.World as world
 
 -- ---- cells
@@ -63,6 +63,72 @@ with_variable name c s =
 -- the store without a variable
 abbrev pub without_variable : Bytes → Store → Store
 without_variable name s = record s { here = record s.here { variables = without_name name s.here.variables } }
+
+-- ---- static properties
+
+-- whether two names are one without case
+abbrev pub same_name : Bytes → Bytes → Bool
+same_name a b = bytes_eq (str_to_ascii_lowercase a) (str_to_ascii_lowercase b)
+
+-- the cell of a static property
+abbrev pub static_property_cell : List (Slot × Option Bytes × Cell) → Bytes → Bytes → Option Cell
+static_property_cell [] class name = None
+static_property_cell ((StaticProperty n, Some c, cell) ∷ cs) class name =
+    if bytes_eq n name && same_name c class then Some cell else static_property_cell cs class name
+static_property_cell (c ∷ cs) class name = static_property_cell cs class name
+
+-- the store with a new static property of a class
+abbrev pub with_static : Bytes → Bytes → Value → Store → Store
+with_static class name v s =
+    record (with_cell v s) { statics = (StaticProperty name, Some class, next_cell (StaticProperty name) s) ∷ s.statics }
+
+-- ---- objects and their properties
+
+abbrev pub same_owner : Option Bytes → Option Bytes → Bool
+same_owner None None = true
+same_owner (Some a) (Some b) = same_name a b
+same_owner a b = false
+
+abbrev pub property_cell : List (Member × Cell) → Member → Option Cell
+property_cell [] m = None
+property_cell (p ∷ ps) m = if bytes_eq p.0.name m.name && same_owner p.0.owner m.owner then Some p.1 else property_cell ps m
+
+-- an object by its number
+abbrev pub object_at : List world.Object → ℕ → world.Object
+object_at [] n = record { class = []; properties = [] }
+object_at (o ∷ os) zero = o
+object_at (o ∷ os) (suc n) = object_at os n
+
+abbrev pub changed_object : List world.Object → ℕ → (world.Object → world.Object) → List world.Object
+changed_object [] n f = []
+changed_object (o ∷ os) zero f = f o ∷ os
+changed_object (o ∷ os) (suc n) f = o ∷ changed_object os n f
+
+-- an object with a new property
+abbrev pub with_property : ℕ → Member → Cell → Store → Store
+with_property n m c s =
+    record s { objects = changed_object s.objects n (λ o. record o { properties = o.properties ++ (m, c) ∷ [] }) }
+
+-- properties without one
+abbrev pub without_member : Member → List (Member × Cell) → List (Member × Cell)
+without_member m [] = []
+without_member m (p ∷ ps) =
+    if bytes_eq p.0.name m.name && same_owner p.0.owner m.owner then ps else p ∷ without_member m ps
+
+abbrev pub without_property : ℕ → Member → Store → Store
+without_property n m s =
+    record s { objects = changed_object s.objects n (λ o. record o { properties = without_member m o.properties }) }
+
+-- the property of an object
+abbrev pub cell_of : ℕ → Member → Store → Option Cell
+cell_of n m s = property_cell (object_at s.objects n).properties m
+
+-- an object with a value in a property, which is made where there is none
+abbrev pub with_made : ℕ → Member → Slot → Value → Store → Store
+with_made n m slot v s = elim (cell_of n m s) [
+  | Some c ↦ with_value c v s
+  | None ↦ with_property n m (next_cell slot s) (with_cell v s)
+]
 
 -- ---- holders
 

@@ -12,7 +12,7 @@ use Rattle.scope_names.specs.Words.{has_word, has_keyword}
 use Rattle.scope_names.specs.Sites.{Site}
 use Rattle.php_meaning.specs.runs.Locations.{shared_element}
 use Rattle.php_meaning.specs.expressions.Assigning.{Properties, kept_then, after_change, write, bind, cell_then}
-use Rattle.php_meaning.specs.runs.Script.{Way, Break, Continue, Out, Val, Fresh, At, Jump, Read, Later, Left, Behind, Against, Kid, Again, Script, Give, Stop, Look, Turn, Run, give, value_then, child_value, child_location, given, asking}
+use Rattle.php_meaning.specs.runs.Script.{Untyped, Way, Break, Continue, Out, Val, Fresh, At, Jump, Read, Later, Left, Behind, Against, Kid, Again, Script, Give, Stop, Look, Turn, Run, give, value_then, child_value, child_location, given, asking}
 
 -- ---- statements in order
 
@@ -126,7 +126,7 @@ foreach_over v = give Null
 abbrev pub meet : Properties → Site → Form → Cell → arrays.Array → Option Entry → Script
 meet properties s f c a None = give Null
 meet properties s f c a (Some e) =
-    Look (λ st. asking (shared_element a e.key (Some e.element) st) (λ o. given o (after_change c (λ d.
+    Look (λ st. asking (shared_element a e.key (Some e.element) st) (λ o. given o (after_change properties c Untyped (λ d.
     child_location (value_index f) (λ l. bind properties s l d (with_key properties s f e.key (Run (Again (Behind c (Some e.serial))) Give)))))))
 
 abbrev pub foreach_behind : Properties → Site → Form → Cell → Option ℕ → Value → Script
