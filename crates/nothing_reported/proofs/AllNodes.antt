@@ -16,7 +16,8 @@ use Rattle.syntax_rules.specs.UnsetCast.{is_undecided}
 use Rattle.syntax_upgrade.specs.Found.{Report, undecided}
 use Rattle.rule_tables.specs.declared.cause.Cause.TheVariants.{Shape}
 use Rattle.rule_tables.specs.declared.rule.RuleId.TheVariants as rule
-use Rattle.syntax_upgrade.specs.Reports.{at_node, reports_in, text_start}
+use Rattle.syntax_upgrade.specs.Found.{text_start}
+use Rattle.syntax_upgrade.specs.Reports.{at_node, reports_in}
 use Rattle.syntax_upgrade.specs.NameHeads.{head_at}
 use Rattle.syntax_upgrade.specs.ReservedName as own
 use Rattle.syntax_upgrade.specs.ReservedName.{Standing, at_first, class_by, of_reserved, past, past_node, refused_if, refused_tokens}

@@ -14,4 +14,4 @@ all_formed : (files : List (Bytes × File)) → All (λ f. Shape V74 f.1) files 
 all_formed files h d = λ k e below. shaped_files_are_formed _ (h k e below) (d k e below)
 
 pub shaped_files_keep_meaning : ShapedFilesKeepMeaning
-shaped_files_keep_meaning files prepend marks h d = rewriting_keeps_meaning files prepend marks (all_formed files h d)
+shaped_files_keep_meaning r files prepend marks h d = rewriting_keeps_meaning r files prepend marks (all_formed files h d)

@@ -10,7 +10,8 @@ use Rattle.php_meaning.specs.runs.World.{Bytes}
 use Rattle.php_meaning.specs.runs.Run.{Mark}
 use Rattle.php_meaning.specs.laws.Laws.{KeepsMeaning}
 use Rattle.syntax_rules.specs.NestedTernary.{program}
-use Rattle.syntax_rules.specs.Keeps.{AreFormed, all_rewritten}
+use Rattle.syntax_rules.specs.declared.rules.Rules.{Rules}
+use Rattle.syntax_rules.specs.Keeps.{AreFormed, all_rewritten_by}
 
 -- No trivia stand before the name in `${name`.
 abbrev pub NamesAreDirect : Forest → Type 0
@@ -27,10 +28,10 @@ ShapedFilesAreFormed = (f : File) → Shape V74 f → NamesAreDirect f.statement
 abbrev pub ReadNamesAreDirect : Type 0
 ReadNamesAreDirect = (bytes : List ℕ) (f : File) → Reads V74 bytes f → NamesAreDirect f.statements
 
--- Rewriting files with the shape of the grammar by all rules on syntax changes no run that stays inside the profile and
--- asks at no point where the versions differ. No trivia stand before the name in `${name`, as in no file that 7.4 reads.
+-- Rewriting files with the shape of the grammar by the rules on syntax that are on, whichever they are, changes no run that
+-- stays inside the profile and asks at no point where the versions differ. No trivia stand before the name in `${name`, as in no file that 7.4 reads.
 abbrev pub ShapedFilesKeepMeaning : Type 0
 ShapedFilesKeepMeaning =
-    (files : List (Bytes × File)) (prepend : Option Bytes) (marks : List Mark)
+    (r : Rules) (files : List (Bytes × File)) (prepend : Option Bytes) (marks : List Mark)
     → All (λ f. Shape V74 f.1) files → All (λ f. NamesAreDirect f.1.statements) files
-    → KeepsMeaning (program files prepend) marks (program (all_rewritten files) prepend)
+    → KeepsMeaning (program files prepend) marks (program (all_rewritten_by r files) prepend)

@@ -18,3 +18,4 @@ pub mod WrapsFit
 pub mod NamesKept
 pub mod ProperDrafts
 pub mod Kept
+pub mod InContext

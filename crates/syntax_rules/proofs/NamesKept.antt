@@ -22,6 +22,8 @@ use Rattle.tracked_changes.specs.Draft as draft
 use Rattle.tracked_changes.specs.Draft.{NewToken, Draft, new_leaf, new_node, rewritten, rewritten_token}
 use Rattle.tracked_changes.proofs.Joining.{before-append, after-append}
 use Rattle.syntax_rules.specs.SplitName.{split_name, is_nothing, is_label, is_name, is_keyword, is_op, begins_root, is_one, one_name, deleted, in_front, whole_names, space_before, keyword_behind, keyword_last, apart}
+use Rattle.syntax_rules.specs.declared.rules.Rules.{Rules}
+use Rattle.syntax_rules.specs.Together.{names_by}
 use Rattle.syntax_rules.specs.SplitName as names
 use Rattle.syntax_rules.proofs.Rewrites.{IsToken, SameTokens, no_token, one_token, one_node}
 
@@ -214,17 +216,17 @@ record Whole (f : Forest) (e : Draft) : Type 0 where
 proper_head : (t : NewToken) (d : Draft) → (IsTrue (is_name t.kind) → before t.text ≡ after t.text) → Head (new_leaf t d)
 proper_head t d h = λ n r. ap (first_is is_backslash) (sym (h n)) ∙ root_first (before t.text) r
 
-in_front_whole : (t : NewToken) (f : Forest) (e : Draft) → (IsTrue (is_name t.kind) → before t.text ≡ after t.text)
+in_front_whole : (n : Bool) (t : NewToken) (f : Forest) (e : Draft) → (IsTrue (is_name t.kind) → before t.text ≡ after t.text)
     → (IsTrue (is_op t.kind || (is_label t.kind || is_keyword t.kind)) → IsKept t)
-    → Whole f e → Whole (leaf (rewritten_token t) f) (in_front true t e)
-in_front_whole t f draft.no_more h g w = record { parts_are = ap (part_before (rewritten_token t)) w.parts_are; head = proper_head t draft.no_more h }
-in_front_whole t f (new_node k c d) h g w = record { parts_are = ap (part_before (rewritten_token t)) w.parts_are; head = proper_head t (new_node k c d) h }
-in_front_whole t f (new_leaf u d) h g w = chosen (is_one t u) refl
+    → Whole f e → Whole (leaf (rewritten_token t) f) (in_front n t e)
+in_front_whole n t f draft.no_more h g w = record { parts_are = ap (part_before (rewritten_token t)) w.parts_are; head = proper_head t draft.no_more h }
+in_front_whole n t f (new_node k c d) h g w = record { parts_are = ap (part_before (rewritten_token t)) w.parts_are; head = proper_head t (new_node k c d) h }
+in_front_whole n t f (new_leaf u d) h g w = chosen (is_one t u && (n || is_nothing (before u.lead))) refl
   where
-    chosen : (b : Bool) → is_one t u ≡ b → Whole (leaf (rewritten_token t) f) (cond (b && true) (new_leaf (one_name t u) d) (new_leaf t (new_leaf u d)))
+    chosen : (b : Bool) → (is_one t u && (n || is_nothing (before u.lead))) ≡ b → Whole (leaf (rewritten_token t) f) (cond b (new_leaf (one_name t u) d) (new_leaf t (new_leaf u d)))
     chosen false x = record { parts_are = ap (part_before (rewritten_token t)) w.parts_are; head = proper_head t (new_leaf u d) h }
     chosen true x =
-        let y : Why t u = why_one t u x in
+        let y : Why t u = why_one t u (first_of (is_one t u) (n || is_nothing (before u.lead)) x) in
         let same : before t.text ≡ after t.text = kept_one t u y (g (may_begin t u y)) in
         record {
           parts_are =
@@ -234,15 +236,15 @@ in_front_whole t f (new_leaf u d) h g w = chosen (is_one t u) refl
           head = λ n r. why_head t u y same w.head r;
         }
 
-whole_parts : (d : Draft) → IsProper d → Whole (rewritten d) (whole_names true d)
-whole_parts draft.no_more p = record { parts_are = refl; head = tt }
-whole_parts (new_node k c d) p = record { parts_are = ap (λ x. child ∷ x) (whole_parts d p.1).parts_are; head = tt }
-whole_parts (new_leaf t draft.no_more) p = record { parts_are = refl; head = proper_head t draft.no_more p.0 }
-whole_parts (new_leaf t (new_node k c d)) p =
-    let w = whole_parts (new_node k c d) p.2 in
-    record { parts_are = ap (part_before (rewritten_token t)) w.parts_are; head = proper_head t (whole_names true (new_node k c d)) p.0 }
-whole_parts (new_leaf t (new_leaf u d)) p =
-    in_front_whole t (rewritten (new_leaf u d)) (whole_names true (new_leaf u d)) p.0 (p.1 refl) (whole_parts (new_leaf u d) p.2)
+whole_parts : (n : Bool) (d : Draft) → IsProper d → Whole (rewritten d) (whole_names n d)
+whole_parts n draft.no_more p = record { parts_are = refl; head = tt }
+whole_parts n (new_node k c d) p = record { parts_are = ap (λ x. child ∷ x) (whole_parts n d p.1).parts_are; head = tt }
+whole_parts n (new_leaf t draft.no_more) p = record { parts_are = refl; head = proper_head t draft.no_more p.0 }
+whole_parts n (new_leaf t (new_node k c d)) p =
+    let w = whole_parts n (new_node k c d) p.2 in
+    record { parts_are = ap (part_before (rewritten_token t)) w.parts_are; head = proper_head t (whole_names n (new_node k c d)) p.0 }
+whole_parts n (new_leaf t (new_leaf u d)) p =
+    in_front_whole n t (rewritten (new_leaf u d)) (whole_names n (new_leaf u d)) p.0 (p.1 refl) (whole_parts n (new_leaf u d) p.2)
 
 -- ---- trees
 
@@ -257,17 +259,17 @@ strip : {f g : Forest} {u : Token} → Named f (leaf u g) → Named f g
 strip (token_first p) = token_first (strip p)
 strip (token_last p) = p
 
-in_front_named : (t : NewToken) {f : Forest} (e : Draft) → Named f (rewritten e) → Named (leaf (rewritten_token t) f) (rewritten (in_front true t e))
-in_front_named t draft.no_more p = token_first (token_last p)
-in_front_named t (new_node k c d) p = token_first (token_last p)
-in_front_named t {f} (new_leaf u d) p =
-    elim (is_one t u) as (λ b. Named (leaf (rewritten_token t) f) (rewritten (cond (b && true) (new_leaf (one_name t u) d) (new_leaf t (new_leaf u d)))))
+in_front_named : (n : Bool) (t : NewToken) {f : Forest} (e : Draft) → Named f (rewritten e) → Named (leaf (rewritten_token t) f) (rewritten (in_front n t e))
+in_front_named n t draft.no_more p = token_first (token_last p)
+in_front_named n t (new_node k c d) p = token_first (token_last p)
+in_front_named n t {f} (new_leaf u d) p =
+    elim (is_one t u && (n || is_nothing (before u.lead))) as (λ b. Named (leaf (rewritten_token t) f) (rewritten (cond b (new_leaf (one_name t u) d) (new_leaf t (new_leaf u d)))))
     [ true ↦ token_first (token_last (strip p)) | false ↦ token_first (token_last p) ]
 
-whole_named : (d : Draft) → IsProper d → Named (rewritten d) (rewritten (whole_names true d))
-whole_named draft.no_more p = ends
-whole_named (new_leaf t d) p = in_front_named t (whole_names true d) (whole_named d p.2)
-whole_named (new_node k c d) p = inner (whole_parts c p.0).parts_are (whole_named c p.0) (whole_named d p.1)
+whole_named : (n : Bool) (d : Draft) → IsProper d → Named (rewritten d) (rewritten (whole_names n d))
+whole_named n draft.no_more p = ends
+whole_named n (new_leaf t d) p = in_front_named n t (whole_names n d) (whole_named n d p.2)
+whole_named n (new_node k c d) p = inner (whole_parts n c p.0).parts_are (whole_named n c p.0) (whole_named n d p.1)
 
 same_parts : {f g : Forest} → SameTokens f g → parts g ≡ parts f
 same_parts no_token = refl
@@ -295,9 +297,13 @@ apart_stays behind (new_leaf t d) =
     one_token (spaced (behind && is_name t.kind && begins_root (before t.text) && is_nothing (before t.lead)) t) (apart_stays (keyword_behind behind t) d)
 apart_stays behind (new_node k c d) = one_node (apart_stays behind c) (apart_stays (keyword_last behind c) d)
 
--- names whole and apart from keywords, each token in its place
-pub split_named : (d : Draft) → IsProper d → Named (rewritten d) (placed 0 (rewritten (split_name d)))
-split_named d p = named_stays (named_stays (whole_named d p) (apart_stays false (whole_names true d))) (placed_stays 0 (rewritten (split_name d)))
+-- names whole and apart from keywords, or those whole that have no trivia inside, each token in its place
+pub split_named : (r : Rules) (d : Draft) → IsProper d → Named (rewritten d) (placed 0 (rewritten (names_by r d)))
+split_named r d p = named_stays (by_rule r.split_names) (placed_stays 0 (rewritten (names_by r d)))
+  where
+    by_rule : (b : Bool) → Named (rewritten d) (rewritten (if b then split_name d else names.whole_names false d))
+    by_rule true = named_stays (whole_named true d p) (apart_stays false (names.whole_names true d))
+    by_rule false = whole_named false d p
 
 -- ---- scripts and tables
 

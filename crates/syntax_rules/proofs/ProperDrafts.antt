@@ -13,16 +13,16 @@ use Rattle.tracked_changes.specs.Leads.{holds_none, without_lead}
 use Rattle.tracked_changes.specs.Tokens.{is_text, retexted}
 use Rattle.tracked_changes.specs.Walk.{NewTree, drafted}
 use Rattle.tracked_changes.specs.Parens.{in_wrappings}
-use Rattle.syntax_rules.specs.BraceOffset.{bracket, bracketed}
+use Rattle.syntax_rules.specs.declared.rules.Rules.{Rules}
+use Rattle.syntax_rules.specs.BraceOffset.{bracket, brace_offset}
 use Rattle.syntax_rules.specs.Casts.{bare}
 use Rattle.syntax_rules.specs.RealCast.{real_cast}
 use Rattle.syntax_rules.specs.UnsetCast.{of_variable, unset_cast}
-use Rattle.syntax_rules.specs.HashComment.{hash_comment}
-use Rattle.syntax_rules.specs.DollarBrace.{is_piece, begins_dollar_brace, ends_bare, before_last, escaped, opened, parts}
+use Rattle.syntax_rules.specs.DollarBrace.{dollar_brace, is_piece, begins_dollar_brace, ends_bare, before_last, escaped, opened, parts}
 use Rattle.syntax_rules.specs.SplitName.{is_name, is_label, is_op, is_keyword}
-use Rattle.syntax_rules.specs.Together.{rewriting, all_on, at_node}
+use Rattle.syntax_rules.specs.Together.{rewriting, node_by, token_by}
 use Rattle.syntax_rules.specs.Keeps.{token_of, opens_text, is_common, AreFormed, nothing, token_first, common, braced, a_cast, text, IsQuoted, closing, piece, simple, code, name, offset, expression}
-use Rattle.syntax_rules.proofs.Walked.{common_stays, opening_kind}
+use Rattle.syntax_rules.proofs.Walked.{braced_is, cast_by, cast_is, chosen, common_stays, opening_kind, quoted_is}
 use Rattle.syntax_rules.proofs.NamesKept.{IsKept, as_it_was, put_in_code, IsProper, leads}
 
 no : {A : Type 0} → IsTrue false → A
@@ -53,83 +53,123 @@ bracket_name t e = by_text (is_text (codes "{") t) (is_text (codes "}") t)
     by_text false true h = no h
     by_text false false h = e
 
-cast_proper : (x : Token) (y : NewTree) (real unset : Bool) → IsProper y.1
-    → IsProper (if real then real_cast (kind.Cast, new_leaf (hash_comment x) (new_node y.0 y.1 no_more))
-    else (if unset then unset_cast (kind.Cast, new_leaf (hash_comment x) (new_node y.0 y.1 no_more))
-    else (kind.Cast, new_leaf (hash_comment x) (new_node y.0 y.1 no_more)))).1
-cast_proper x y true unset p = (λ h. no h, λ l h. no l, (p, tt))
-cast_proper x y false true p = (λ h. no h, λ l h. no l, ((λ h. no h, λ l h. no l, tt), (λ h. no h, λ l h. no l, tt)))
-cast_proper x y false false p = (λ h. refl, λ l h. no l, (p, tt))
+cast_proper : (r : Rules) (x : Token) (y : NewTree) (real null : Bool) → IsProper y.1
+    → IsProper (cast_by real null (kind.Cast, new_leaf (token_by r x) (new_node y.0 y.1 no_more))).1
+cast_proper r x y true null p = (λ h. no h, λ l h. no l, (p, tt))
+cast_proper r x y false true p = (λ h. no h, λ l h. no l, ((λ h. no h, λ l h. no l, tt), (λ h. no h, λ l h. no l, tt)))
+cast_proper r x y false false p = (λ h. refl, λ l h. no l, (p, tt))
 
-piece_proper : (lead word : List ℕ) (start : ℕ) (d : Draft) (b : Bool) → IsProper d
-    → IsProper (new_leaf (if b then escaped (hash_comment (token_of token.Piece lead word start)) else hash_comment (token_of token.Piece lead word start)) d)
-piece_proper lead word start d false p = (λ h. no h, λ l h. no h, p)
-piece_proper lead word start d true p =
+either_proper : (b : Bool) (t u : NewTree) → IsProper t.1 → IsProper u.1 → IsProper (if b then t else u).1
+either_proper true t u p q = p
+either_proper false t u p q = q
+
+piece_proper : (r : Rules) (lead word : List ℕ) (start : ℕ) (d : Draft) (b : Bool) → IsProper d
+    → IsProper (new_leaf (if b then escaped (token_by r (token_of token.Piece lead word start)) else token_by r (token_of token.Piece lead word start)) d)
+piece_proper r lead word start d false p = (λ h. no h, λ l h. no h, p)
+piece_proper r lead word start d true p =
     elim (ends_bare false (word ++ []))
-    as (λ b. IsProper (new_leaf (if b then record (hash_comment (token_of token.Piece lead word start)) { text = before_last (word ++ []) } else hash_comment (token_of token.Piece lead word start)) d))
+    as (λ b. IsProper (new_leaf (if b then record (token_by r (token_of token.Piece lead word start)) { text = before_last (word ++ []) } else token_by r (token_of token.Piece lead word start)) d))
     [ true ↦ (λ h. no h, λ l h. no h, p) | false ↦ (λ h. no h, λ l h. no h, p) ]
 
-text_proper : (x : Token) (d : Draft) → IsTrue (opens_text x.kind) → IsProper (parts d) → IsProper (parts (new_leaf (hash_comment x) d))
-text_proper x d h p =
-    subst (λ b. IsProper (if b then opened (hash_comment x) (parts d) else new_leaf (if is_piece x.kind && begins_dollar_brace d then escaped (hash_comment x) else hash_comment x) (parts d)))
+text_proper : (r : Rules) (x : Token) (d : Draft) → IsTrue (opens_text x.kind) → IsProper (parts d) → IsProper (parts (new_leaf (token_by r x) d))
+text_proper r x d h p =
+    subst (λ b. IsProper (if b then opened (token_by r x) (parts d) else new_leaf (if is_piece x.kind && begins_dollar_brace d then escaped (token_by r x) else token_by r x) (parts d)))
     (sym (opening_kind x.kind h).0)
-    (subst (λ b. IsProper (new_leaf (if b && begins_dollar_brace d then escaped (hash_comment x) else hash_comment x) (parts d))) (sym (opening_kind x.kind h).1)
+    (subst (λ b. IsProper (new_leaf (if b && begins_dollar_brace d then escaped (token_by r x) else token_by r x) (parts d))) (sym (opening_kind x.kind h).1)
     (λ h. refl, λ l h. as_it_was refl, p))
 
 mutual
-  pub proper : (p : Patches) (id : ℕ) {f : Forest} → AreFormed f → IsProper (drafted (rewriting (all_on p)) id f)
-  proper p id nothing = tt
-  proper p id (token_first a) = (λ h. refl, λ l h. as_it_was refl, proper p id a)
-  proper p id (common {k} {c} {f} h a b) = (
-    wraps_proper (p id) (at_node (all_on p) (k, c) (k, drafted (rewriting (all_on p)) (suc id) c))
-        (subst (λ (t : NewTree). IsProper t.1) (sym (common_stays p k c (k, drafted (rewriting (all_on p)) (suc id) c) h)) (proper p (suc id) a)),
-    proper p (suc (id + count c)) b,
-  )
-  proper p id (braced {k} {j} {c} {d} {f} {o} {p = q} a b e) = (
-    wraps_proper (p id) (kind.Offset, bracketed (drafted (rewriting (all_on p)) (suc id) (node k c (leaf o (node j d (leaf q none)))))) (
-      (proper p (suc id) a).0,
+  pub proper : (r : Rules) (p : Patches) (id : ℕ) {f : Forest} → AreFormed f → IsProper (drafted (rewriting (chosen r p)) id f)
+  proper r p id nothing = tt
+  proper r p id (token_first a) = (λ h. refl, λ l h. as_it_was refl, proper r p id a)
+  proper r p id (common {k} {c} {f} h a b) =
+      let inside : NewTree = (k, drafted (rewriting (chosen r p)) (suc id) c) in (
+        wraps_proper (p id) (node_by r (k, c) inside)
+            (subst (λ (t : NewTree). IsProper t.1) (sym (common_stays r k c inside h)) (proper r p (suc id) a)),
+        proper r p (suc (id + count c)) b,
+      )
+  proper r p id (braced {k} {j} {c} {d} {f} {o} {p = q} a b e) =
+      let here : Forest = node k c (leaf o (node j d (leaf q none))) in
+      let inside : NewTree = (kind.BraceOffset, drafted (rewriting (chosen r p)) (suc id) here) in
+      let base = (proper r p (suc id) a).0 in
+      let offset = (proper r p (suc (suc id + count c)) b).0 in (
+        wraps_proper (p id) (node_by r (kind.BraceOffset, here) inside)
+            (subst (λ (t : NewTree). IsProper t.1) (sym (braced_is r (brace_offset inside) _ _ _ inside))
+            (either_proper r.brace_offsets (brace_offset inside) inside
+            (base, (bracket_name (token_by r o) refl, λ l h. no l, (offset, (bracket_name (token_by r q) refl, λ l h. no l, tt))))
+            (base, (λ h. refl, λ l h. no l, (offset, (λ h. refl, λ l h. no l, tt)))))),
+        proper r p (suc (id + count here)) e,
+      )
+  proper r p id (a_cast {t = x} {k} {c} {f} a b) =
+      let y : NewTree = in_wrappings (p (suc id)) (node_by r (k, c) (k, drafted (rewriting (chosen r p)) (suc (suc id)) c)) in
+      let here : Forest = leaf x (node k c none) in
+      let inside : NewTree = (kind.Cast, new_leaf (token_by r x) (new_node y.0 y.1 no_more)) in
+      let real : Bool = r.real_casts && bytes_eq (bare x.text) (codes "(real)") in
+      let null : Bool = r.unset_casts && (bytes_eq (bare x.text) (codes "(unset)") && of_variable here) in (
+        wraps_proper (p id) (node_by r (kind.Cast, here) inside)
+            (subst (λ (t : NewTree). IsProper t.1) (sym (cast_is r real null _ _ inside))
+            (cast_proper r x y real null (proper r p (suc id) a).0)),
+        proper r p (suc (id + count here)) b,
+      )
+  proper r p id (text {t = x} {c} {f} h q b) =
+      let here : Forest = leaf x c in
+      let d : Draft = drafted (rewriting (chosen r p)) (suc id) c in
+      let inside : NewTree = (kind.Quoted, new_leaf (token_by r x) d) in (
+        wraps_proper (p id) (node_by r (kind.Quoted, here) inside)
+            (subst (λ (t : NewTree). IsProper t.1) (sym (quoted_is r _ _ _ (dollar_brace inside) inside))
+            (either_proper r.dollar_braces (dollar_brace inside) inside
+            (text_proper r x d h (quoted_proper r p (suc id) q))
+            (λ h. refl, λ l h. as_it_was refl, text_as_is r p (suc id) q))),
+        proper r p (suc (id + count here)) b,
+      )
+
+  -- a quoted text where `${` stays
+  text_as_is : (r : Rules) (p : Patches) (id : ℕ) {f : Forest} → IsQuoted f → IsProper (drafted (rewriting (chosen r p)) id f)
+  text_as_is r p id closing = (λ h. refl, λ l h. as_it_was refl, tt)
+  text_as_is r p id (piece q) = (λ h. refl, λ l h. as_it_was refl, text_as_is r p id q)
+  text_as_is r p id (simple {k} {c} {f} a q) = ((proper r p id a).0, text_as_is r p (suc (id + count c)) q)
+  text_as_is r p id (code {k = k} {c = c} a q) =
+      (λ h. refl, λ l h. as_it_was refl, ((proper r p id a).0, (λ h. refl, λ l h. as_it_was refl, text_as_is r p (suc (id + count c)) q)))
+  text_as_is r p id (name q) =
+      (λ h. refl, λ l h. as_it_was refl, (λ h. refl, λ l h. as_it_was refl, (λ h. refl, λ l h. as_it_was refl, text_as_is r p id q)))
+  text_as_is r p id (offset {k = k} {c = c} e a q) = (
+    λ h. refl,
+    λ l h. as_it_was refl,
+    (
+      λ h. refl,
+      λ l h. as_it_was refl,
       (
-        bracket_name (hash_comment o) refl,
-        λ l h. no l,
-        ((proper p (suc (suc id + count c)) b).0, (bracket_name (hash_comment q) refl, λ l h. no l, tt)),
+        λ h. refl,
+        λ l h. as_it_was refl,
+        ((proper r p id a).0, (λ h. refl, λ l h. as_it_was refl, (λ h. refl, λ l h. as_it_was refl, text_as_is r p (suc (id + count c)) q))),
       ),
     ),
-    proper p (suc (id + count (node k c (leaf o (node j d (leaf q none)))))) e,
   )
-  proper p id (a_cast {t = x} {k} {c} {f} a b) =
-      let y : NewTree = in_wrappings (p (suc id)) (at_node (all_on p) (k, c) (k, drafted (rewriting (all_on p)) (suc (suc id)) c)) in (
-        wraps_proper (p id) (at_node (all_on p) (kind.Cast, leaf x (node k c none)) (kind.Cast, new_leaf (hash_comment x) (new_node y.0 y.1 no_more)))
-            (cast_proper x y (bytes_eq (bare x.text) (codes "(real)")) (bytes_eq (bare x.text) (codes "(unset)") && of_variable (leaf x (node k c none))) (proper p (suc id) a).0),
-        proper p (suc (id + count (leaf x (node k c none)))) b,
-      )
-  proper p id (text {t = x} {c} {f} h q b) = (
-    wraps_proper (p id) (kind.Quoted, parts (new_leaf (hash_comment x) (drafted (rewriting (all_on p)) (suc id) c)))
-        (text_proper x (drafted (rewriting (all_on p)) (suc id) c) h (quoted_proper p (suc id) q)),
-    proper p (suc (id + count (leaf x c))) b,
-  )
+  text_as_is r p id (expression {k = k} {c = c} e a q) =
+      (λ h. refl, λ l h. as_it_was refl, ((proper r p id a).0, (λ h. refl, λ l h. as_it_was refl, text_as_is r p (suc (id + count c)) q)))
 
-  quoted_proper : (p : Patches) (id : ℕ) {f : Forest} → IsQuoted f → IsProper (parts (drafted (rewriting (all_on p)) id f))
-  quoted_proper p id closing = (λ h. no h, λ l h. no h, tt)
-  quoted_proper p id (piece {lead} {text = word} {start} {f} q) =
-      piece_proper lead word start (parts (drafted (rewriting (all_on p)) id f)) (begins_dollar_brace (drafted (rewriting (all_on p)) id f)) (quoted_proper p id q)
-  quoted_proper p id (simple {k} {c} {f} a q) = ((proper p id a).0, quoted_proper p (suc (id + count c)) q)
-  quoted_proper p id (code {k = k} {c = c} a q) =
-      (λ h. no h, λ l h. no h, ((proper p id a).0, (λ h. no h, λ l h. as_it_was refl, quoted_proper p (suc (id + count c)) q)))
-  quoted_proper p id (name q) =
-      (λ h. no h, λ l h. no h, ((λ h. no h, λ l h. no l, tt), (λ h. no h, λ l h. as_it_was refl, quoted_proper p id q)))
-  quoted_proper p id (offset {k = k} {c = c} e a q) = (
+  quoted_proper : (r : Rules) (p : Patches) (id : ℕ) {f : Forest} → IsQuoted f → IsProper (parts (drafted (rewriting (chosen r p)) id f))
+  quoted_proper r p id closing = (λ h. no h, λ l h. no h, tt)
+  quoted_proper r p id (piece {lead} {text = word} {start} {f} q) =
+      piece_proper r lead word start (parts (drafted (rewriting (chosen r p)) id f)) (begins_dollar_brace (drafted (rewriting (chosen r p)) id f)) (quoted_proper r p id q)
+  quoted_proper r p id (simple {k} {c} {f} a q) = ((proper r p id a).0, quoted_proper r p (suc (id + count c)) q)
+  quoted_proper r p id (code {k = k} {c = c} a q) =
+      (λ h. no h, λ l h. no h, ((proper r p id a).0, (λ h. no h, λ l h. as_it_was refl, quoted_proper r p (suc (id + count c)) q)))
+  quoted_proper r p id (name q) =
+      (λ h. no h, λ l h. no h, ((λ h. no h, λ l h. no l, tt), (λ h. no h, λ l h. as_it_was refl, quoted_proper r p id q)))
+  quoted_proper r p id (offset {k = k} {c = c} e a q) = (
     λ h. no h,
     λ l h. no h,
     (
-      ((λ h. no h, λ l h. no l, tt), (λ h. no h, λ l h. no l, ((proper p id a).0, (λ h. no h, λ l h. no l, tt)))),
-      (λ h. no h, λ l h. as_it_was refl, quoted_proper p (suc (id + count c)) q),
+      ((λ h. no h, λ l h. no l, tt), (λ h. no h, λ l h. no l, ((proper r p id a).0, (λ h. no h, λ l h. no l, tt)))),
+      (λ h. no h, λ l h. as_it_was refl, quoted_proper r p (suc (id + count c)) q),
     ),
   )
-  quoted_proper p id (expression {k = k} {c = c} e a q) = (
+  quoted_proper r p id (expression {k = k} {c = c} e a q) = (
     λ h. no h,
     λ l h. no h,
     (
-      (λ h. no h, λ l h. put_in_code refl refl, (λ h. no h, λ l h. no l, ((proper p id a).0, (λ h. no h, λ l h. no l, tt)))),
-      (λ h. no h, λ l h. put_in_code refl refl, quoted_proper p (suc (id + count c)) q),
+      (λ h. no h, λ l h. put_in_code refl refl, (λ h. no h, λ l h. no l, ((proper r p id a).0, (λ h. no h, λ l h. no l, tt)))),
+      (λ h. no h, λ l h. put_in_code refl refl, quoted_proper r p (suc (id + count c)) q),
     ),
   )

@@ -50,6 +50,15 @@ spaced s (b ∷ bs) =
 abbrev pub hash_comment : Token → NewToken
 hash_comment t = record { kind = t.kind; lead = spaced outside t.lead; text = kept t.text ∷ [] }
 
+-- trivia in which none is put in, byte by byte
+abbrev pub untouched : List ℕ → List Piece
+untouched [] = []
+untouched (b ∷ bs) = kept (b ∷ []) ∷ untouched bs
+
+-- the trivia of a token, where the rule is on or off
+abbrev pub lead_by : Bool → List ℕ → List Piece
+lead_by is_on lead = if is_on then spaced outside lead else untouched lead
+
 -- comments in one lead, those of other kinds among them
 abbrev pub HashRow : Type 0
 HashRow =

@@ -11,7 +11,9 @@ use Rattle.php_meaning.specs.runs.Run.{Mark}
 use Rattle.php_meaning.specs.laws.Laws.{KeepsMeaning}
 use Rattle.php_meaning.specs.runs.Kinds.{is_expression}
 use Rattle.syntax_rules.specs.NestedTernary.{program}
-use Rattle.syntax_rules.specs.Rewritten.{rewritten}
+use Rattle.syntax_rules.specs.declared.rules.Rules.{Rules}
+use Rattle.syntax_rules.specs.Together.{every_rule}
+use Rattle.syntax_rules.specs.Rewritten.{rewritten_by}
 
 -- a token by its parts
 abbrev pub token_of : TokenKind → List ℕ → List ℕ → ℕ → Token
@@ -70,14 +72,17 @@ mutual
         AreFormed (node k c none) → IsQuoted f →
         IsQuoted (leaf (token_of token.DollarBrace lead text start) (node k c (leaf (token_of token.Op shut_lead (codes "}") shut_start) f)))
 
--- the same files, rewritten by all rules on syntax
-abbrev pub all_rewritten : List (Bytes × File) → List (Bytes × File)
-all_rewritten files = map (λ f. (f.0, rewritten f.1)) files
+-- the same files, rewritten by the rules on syntax that are on, and by all of them
+abbrev pub all_rewritten_by : Rules → List (Bytes × File) → List (Bytes × File)
+all_rewritten_by r files = map (λ f. (f.0, rewritten_by r f.1)) files
 
--- Rewriting by all rules on syntax changes no run that stays inside the profile and asks at no point where the versions
--- differ.
+abbrev pub all_rewritten : List (Bytes × File) → List (Bytes × File)
+all_rewritten files = all_rewritten_by every_rule files
+
+-- Rewriting by the rules on syntax that are on, whichever they are, changes no run that stays inside the profile and asks at
+-- no point where the versions differ.
 abbrev pub RewritingKeepsMeaning : Type 0
 RewritingKeepsMeaning =
-    (files : List (Bytes × File)) (prepend : Option Bytes) (marks : List Mark)
+    (r : Rules) (files : List (Bytes × File)) (prepend : Option Bytes) (marks : List Mark)
     → All (λ f. AreFormed f.1.statements) files
-    → KeepsMeaning (program files prepend) marks (program (all_rewritten files) prepend)
+    → KeepsMeaning (program files prepend) marks (program (all_rewritten_by r files) prepend)

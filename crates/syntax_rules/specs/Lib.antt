@@ -11,4 +11,6 @@ pub mod SplitName
 pub mod DollarBrace
 pub mod Together
 pub mod Rewritten
+pub mod InContext
+pub mod Quotable
 pub mod Keeps

@@ -5,7 +5,9 @@ use Rattle.tracked_changes.specs.Pieces.{Piece, before, kept}
 use Rattle.php_tree.specs.declared.token.Token.{Token}
 use Rattle.tracked_changes.specs.Draft.{NewToken}
 use Rattle.syntax_rules.specs.SplitName.{begins_root, is_keyword, is_name, is_nothing}
-use Rattle.syntax_rules.specs.HashComment.{hash_comment, outside, spaced}
+use Rattle.syntax_rules.specs.declared.rules.Rules.{Rules}
+use Rattle.syntax_rules.specs.HashComment.{lead_by}
+use Rattle.syntax_rules.specs.Together.{token_by}
 use Rattle.syntax_rules.specs.DollarBrace.{before_last, ends_bare, escaped}
 use Rattle.syntax_upgrade.specs.Writing.{Recorded, changed_next, kept_next, pieces_next}
 use Rattle.syntax_upgrade.specs.Written.{Written, opens_next, space_next, token_next}
@@ -81,9 +83,9 @@ abbrev made : TokenKind → List Piece → List Piece → NewToken
 made k lead text = record { kind = k; lead = lead; text = text }
 
 -- before the text of a token with these bytes
-abbrev begun_by : TokenKind → List Piece → List ℕ → Written → Written
-begun_by k lead bs w = record {
-  recorded = space_next (w.behind && is_name k && begins_root bs && is_nothing (before lead)) (opens_next w.parens (pieces_next lead w.recorded));
+abbrev begun_by : Bool → TokenKind → List Piece → List ℕ → Written → Written
+begun_by n k lead bs w = record {
+  recorded = space_next (n && w.behind && is_name k && begins_root bs && is_nothing (before lead)) (opens_next w.parens (pieces_next lead w.recorded));
   behind = if is_nothing bs then w.behind && is_nothing (before lead) else is_keyword k;
   parens = 0;
 }
@@ -92,22 +94,22 @@ begun_by k lead bs w = record {
 abbrev backslashed : List ℕ → Recorded → Recorded
 backslashed bs r = kept_next (drop (length bs - 1) bs) (changed_next (codes "\\") (kept_next (take (length bs - 1) bs) r))
 
-escaped_steps : (k : TokenKind) (lead : List Piece) (xs ys : List ℕ) (b : Bool) (w : Written) → xs ≡ ys → 0 < length xs → b ≡ true
-    → recorded_next (backslashed xs) (begun_next (record { more = 0; token = made k lead (kept xs ∷ []) }) lead w)
-    ≡ token_next (if b then made k lead (before_last ys) else made k lead (kept xs ∷ [])) w
-escaped_steps k lead [] ys b w e h t = absurd (omega (arith, h))
-escaped_steps k lead (x ∷ xs) ys b w e h t =
+escaped_steps : (n : Bool) (k : TokenKind) (lead : List Piece) (xs ys : List ℕ) (b : Bool) (w : Written) → xs ≡ ys → 0 < length xs → b ≡ true
+    → recorded_next (backslashed xs) (begun_next n (record { more = 0; token = made k lead (kept xs ∷ []) }) lead w)
+    ≡ token_next n (if b then made k lead (before_last ys) else made k lead (kept xs ∷ [])) w
+escaped_steps n k lead [] ys b w e h t = absurd (omega (arith, h))
+escaped_steps n k lead (x ∷ xs) ys b w e h t =
     let same : before (before_last (x ∷ xs)) ≡ (x ∷ xs) ++ [] = before_last_before (x ∷ xs) ∙ sym (append-nil (x ∷ xs)) in
-    let begun : Written = begun_by k lead ((x ∷ xs) ++ []) w in
+    let begun : Written = begun_by n k lead ((x ∷ xs) ++ []) w in
     ap (λ (r : Recorded). recorded_next (λ (q : Recorded). r) begun) (text_steps (x ∷ xs) begun.recorded h)
-    ∙ ap (λ (bs : List ℕ). recorded_next (pieces_next (before_last (x ∷ xs))) (begun_by k lead bs w)) (sym same)
-    ∙ ap (λ (bs : List ℕ). token_next (made k lead (before_last bs)) w) e
-    ∙ ap (λ (c : Bool). token_next (if c then made k lead (before_last ys) else made k lead (kept (x ∷ xs) ∷ [])) w) (sym t)
+    ∙ ap (λ (bs : List ℕ). recorded_next (pieces_next (before_last (x ∷ xs))) (begun_by n k lead bs w)) (sym same)
+    ∙ ap (λ (bs : List ℕ). token_next n (made k lead (before_last bs)) w) e
+    ∙ ap (λ (c : Bool). token_next n (if c then made k lead (before_last ys) else made k lead (kept (x ∷ xs) ∷ [])) w) (sym t)
 
 -- a text that ends in a bare `$`
-pub backslash_steps : (t : Token) (w : Written) → 0 < length t.text → ends_bare false t.text ≡ true
-    → recorded_next (backslashed t.text) (begun_next (record { more = 0; token = hash_comment t }) (spaced outside t.lead) w)
-    ≡ token_next (escaped (hash_comment t)) w
-backslash_steps t w h r =
-    escaped_steps t.kind (spaced outside t.lead) t.text (before (hash_comment t).text) (ends_bare false (before (hash_comment t).text)) w
-    (sym (append-nil t.text)) h (ap (ends_bare false) (append-nil t.text) ∙ r)
+pub backslash_steps : (r : Rules) (t : Token) (w : Written) → 0 < length t.text → ends_bare false t.text ≡ true
+    → recorded_next (backslashed t.text) (begun_next r.split_names (record { more = 0; token = token_by r t }) (lead_by r.hash_comments t.lead) w)
+    ≡ token_next r.split_names (escaped (token_by r t)) w
+backslash_steps r t w h e =
+    escaped_steps r.split_names t.kind (lead_by r.hash_comments t.lead) t.text (before (token_by r t).text) (ends_bare false (before (token_by r t).text)) w
+    (sym (append-nil t.text)) h (ap (ends_bare false) (append-nil t.text) ∙ e)

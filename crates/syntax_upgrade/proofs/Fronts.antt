@@ -11,6 +11,7 @@ use Rattle.php_rows.specs.Reading.{begins_with_token}
 use Rattle.tracked_changes.specs.Draft.{NewToken}
 use Rattle.tracked_changes.specs.Pieces.{before}
 use Rattle.syntax_rules.specs.SplitName.{begins_root, is_backslash, is_label, is_name, is_namespace, is_one}
+use Rattle.syntax_upgrade.specs.declared.split_name.Ahead.{Ahead}
 use Rattle.syntax_upgrade.specs.NamesWalked.{Head, head_of, begins}
 use Rattle.syntax_upgrade.specs.Heads.{alone_first, may_go_on}
 
@@ -27,9 +28,9 @@ one_of false true x y z h = absurd (false≢true (sym h))
 one_of false false x y z h = refl
 
 -- a token that goes on with nothing is alone
-pub loose_head : (t : NewToken) (o : Option Head) → may_go_on t ≡ false → head_of t o ≡ record { more = zero; token = t }
-loose_head t None h = refl
-loose_head t (Some u) h =
+pub loose_head : (n : Bool) (t : NewToken) (o : Option Head) → may_go_on t ≡ false → head_of n t o ≡ record { more = zero; token = t }
+loose_head n t None h = refl
+loose_head n t (Some u) h =
     let e : is_one t u.token ≡ false =
     one_of (is_backslash t) (is_label t.kind || is_namespace t)
     (is_label u.token.kind || (is_name u.token.kind && not (begins_root (before u.token.text))))
@@ -45,20 +46,20 @@ from_get [] (suc i) t e = absurd (none-some t e)
 from_get (u ∷ ts) zero t e = ap (λ (x : Token). x ∷ ts) (some_is u t e)
 from_get (u ∷ ts) (suc i) t e = from_get ts i t e
 
-pub loose_first : (own : Token → NewToken) (ts : List Token) (i : ℕ) (t : Token) (f : Forest) → slice_get ts i ≡ Some t
-    → may_go_on (own t) ≡ false → begins own (leafed (drop i ts) f) ≡ alone_first own (leafed (drop i ts) f)
-loose_first own ts i t f e h =
-    rw (from_get ts i t e) (ap Some (loose_head (own t) (begins own (leafed (drop (suc i) ts) f)) h))
+pub loose_first : (n : Bool) (own : Token → NewToken) (ts : List Token) (i : ℕ) (t : Token) (f : Forest) → slice_get ts i ≡ Some t
+    → may_go_on (own t) ≡ false → begins n own (leafed (drop i ts) f) ≡ alone_first own (leafed (drop i ts) f)
+loose_first n own ts i t f e h =
+    rw (from_get ts i t e) (ap Some (loose_head n (own t) (begins n own (leafed (drop (suc i) ts) f)) h))
 
 -- nothing but parts that don't begin with a token
-none_first : (own : Token → NewToken) (f : Forest) → begins_with_token f ≡ false → begins own f ≡ alone_first own f
-none_first own none h = refl
-none_first own (leaf t f) h = absurd (false≢true (sym h))
-none_first own (node k c f) h = refl
+none_first : (n : Bool) (own : Token → NewToken) (f : Forest) → begins_with_token f ≡ false → begins n own f ≡ alone_first own f
+none_first n own none h = refl
+none_first n own (leaf t f) h = absurd (false≢true (sym h))
+none_first n own (node k c f) h = refl
 
-pub past_first : (own : Token → NewToken) (ts : List Token) (i : ℕ) (f : Forest) → length ts ≤ i → begins_with_token f ≡ false
-    → begins own (leafed (drop i ts) f) ≡ alone_first own (leafed (drop i ts) f)
-past_first own ts i f l h = rw (drop_all i ts l) (none_first own f h)
+pub past_first : (n : Bool) (own : Token → NewToken) (ts : List Token) (i : ℕ) (f : Forest) → length ts ≤ i → begins_with_token f ≡ false
+    → begins n own (leafed (drop i ts) f) ≡ alone_first own (leafed (drop i ts) f)
+past_first n own ts i f l h = rw (drop_all i ts l) (none_first n own f h)
 
 no_first : (own : Token → NewToken) (f : Forest) → begins_with_token f ≡ false → alone_first own f ≡ None
 no_first own none h = refl
@@ -75,6 +76,16 @@ pub no_alone : (own : Token → NewToken) (ts : List Token) (i : ℕ) (f : Fores
 no_alone own ts i f l h = ap (λ (us : List Token). alone_first own (leafed us f)) (drop_all i ts l) ∙ no_first own f h
 
 -- one token more in front
-pub one_before : (own : Token → NewToken) (ts : List Token) (i : ℕ) (t : Token) (f : Forest) → slice_get ts i ≡ Some t
-    → begins own (leafed (drop i ts) f) ≡ Some (head_of (own t) (begins own (leafed (drop (suc i) ts) f)))
-one_before own ts i t f e = ap (λ (us : List Token). begins own (leafed us f)) (from_get ts i t e)
+pub one_before : (n : Bool) (own : Token → NewToken) (ts : List Token) (i : ℕ) (t : Token) (f : Forest) → slice_get ts i ≡ Some t
+    → begins n own (leafed (drop i ts) f) ≡ Some (head_of n (own t) (begins n own (leafed (drop (suc i) ts) f)))
+one_before n own ts i t f e = ap (λ (us : List Token). begins n own (leafed us f)) (from_get ts i t e)
+
+abbrev or_ahead : Option Ahead → Ahead → Ahead
+or_ahead None a = a
+or_ahead (Some b) a = b
+
+pub ahead_is : (a b : Ahead) → Some a ≡ Some b → a ≡ b
+ahead_is a b e = ap (λ (o : Option Ahead). or_ahead o b) e
+
+pub no_ahead : (a : Ahead) {A : Type 0} → None ≡ Some a → A
+no_ahead a e = absurd (none-some a e)

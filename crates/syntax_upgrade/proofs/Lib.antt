@@ -2,7 +2,6 @@ pub mod Recording
 pub mod NextEdit
 pub mod Tokens
 pub mod Opening
-pub mod Around
 pub mod Names
 pub mod NamesWalk
 pub mod Styles
@@ -24,3 +23,6 @@ pub mod Spaced
 pub mod Loop
 pub mod UnsetWalk
 pub mod FileSteps
+pub mod OffStarts
+pub mod EveryRule
+pub mod OffSteps

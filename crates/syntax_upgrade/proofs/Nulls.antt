@@ -11,23 +11,29 @@ use Rattle.php_tree.specs.declared.kind.NodeKind.{NodeKind}
 use Rattle.php_tree.specs.declared.kind.NodeKind.TheVariants as kind
 use Rattle.php_tree.specs.Tree.{Forest, none, leaf, node, Tree}
 use Rattle.tracked_changes.specs.Pieces.{kept, changed, also, before}
-use Rattle.tracked_changes.specs.Draft.{NewToken}
+use Rattle.tracked_changes.specs.patches.Patches.{Wrapping}
+use Rattle.tracked_changes.specs.Draft.{NewToken, no_more, new_leaf, new_node}
+use Rattle.tracked_changes.specs.Walk.{NewTree, new_alone}
+use Rattle.tracked_changes.specs.Parens.{in_wrappings}
 use Rattle.tracked_changes.specs.Tokens.{retexted}
 use Rattle.tracked_changes.proofs.Joining.{before-append}
 use Rattle.syntax_rules.specs.Around.{within}
 use Rattle.syntax_rules.specs.BraceOffset.{is_brace_offset}
 use Rattle.syntax_rules.specs.Casts.{bare, first_text, is_cast}
-use Rattle.syntax_rules.specs.HashComment.{hash_comment, outside, spaced}
+use Rattle.syntax_rules.specs.declared.rules.Rules.{Rules}
+use Rattle.syntax_rules.specs.HashComment.{lead_by}
+use Rattle.syntax_rules.specs.Together.{node_by, token_by}
+use Rattle.syntax_rules.proofs.Walked.{common_stays}
+use Rattle.syntax_rules.proofs.HashCommentKeeps.{lead_keeps}
 use Rattle.syntax_rules.specs.RealCast.{is_real_cast}
 use Rattle.syntax_rules.specs.SplitName.{begins_root, is_nothing}
 use Rattle.syntax_rules.specs.UnsetCast.{is_edited, is_unset_cast, is_variable, of_variable}
 use Rattle.syntax_upgrade.specs.declared.split_name.Ahead.{Ahead}
 use Rattle.syntax_upgrade.specs.Heads.{shown}
-use Rattle.syntax_upgrade.specs.InContext.{draft_in}
+use Rattle.syntax_rules.specs.InContext.{parts_by}
 use Rattle.syntax_upgrade.specs.Inside.{inside_next, null_for}
 use Rattle.syntax_upgrade.specs.UnsetCast.{both, null_token, tokens_in, unset_in, variable_in}
 use Rattle.syntax_upgrade.specs.Written.{Written, token_next}
-use Rattle.syntax_upgrade.proofs.Own.{before_spaced}
 use Rattle.syntax_upgrade.proofs.Tokens.{and_first, and_second}
 
 -- ---- which nodes have these tokens
@@ -74,12 +80,21 @@ by_cast : (b : Bool) (f : Forest) → (b && of_variable f) ≡ is_there (if b th
 by_cast true f = of_variable_is f
 by_cast false f = refl
 
-edited_is : (t : Tree) → is_edited t ≡ is_there (unset_in t)
-edited_is t = by_cast (is_unset_cast t) t.1
+-- a cast of a plain variable, by its two tokens
+pub edited_by : (b : Bool) (f : Forest) → (b && is_there (tokens_in f)) ≡ (b && of_variable f)
+edited_by true f = sym (of_variable_is f)
+edited_by false f = refl
+
+with_cast : (a b x : Bool) → (a && (b && x)) ≡ ((a && b) && x)
+with_cast true b x = refl
+with_cast false b x = refl
+
+edited_is : (r : Rules) (t : Tree) → (r.unset_casts && is_edited t) ≡ is_there (unset_in r t)
+edited_is r t = with_cast r.unset_casts (is_unset_cast t) (of_variable t.1) ∙ by_cast (r.unset_casts && is_unset_cast t) t.1
 
 -- none where the rule edits nothing
-pub not_edited : (t : Tree) → unset_in t ≡ None → is_edited t ≡ false
-not_edited t h = edited_is t ∙ ap is_there h
+pub not_edited : (r : Rules) (t : Tree) → unset_in r t ≡ None → (r.unset_casts && is_edited t) ≡ false
+not_edited r t h = edited_is r t ∙ ap is_there h
 
 -- ---- the parts of such a node
 
@@ -132,23 +147,44 @@ cast_and false o x v h = none_is (x, v) h
 
 -- ---- they are written by one token
 
-taken_bytes : (v : Token) → before (((spaced outside v.lead ++ kept v.text ∷ []) ++ []) ++ []) ≡ v.lead ++ v.text
-taken_bytes v =
-    let ps = spaced outside v.lead ++ kept v.text ∷ [] in
+taken_bytes : (r : Rules) (v : Token) → before (((lead_by r.hash_comments v.lead ++ kept v.text ∷ []) ++ []) ++ []) ≡ v.lead ++ v.text
+taken_bytes r v =
+    let lead = lead_by r.hash_comments v.lead in
+    let ps = lead ++ kept v.text ∷ [] in
     ap before (append-nil (ps ++ []) ∙ append-nil ps)
-    ∙ before-append (spaced outside v.lead) (kept v.text ∷ [])
-    ∙ ap (λ (bs : List ℕ). bs ++ (v.text ++ [])) (before_spaced outside v.lead)
+    ∙ before-append lead (kept v.text ∷ [])
+    ∙ ap (λ (bs : List ℕ). bs ++ (v.text ++ [])) (lead_keeps r.hash_comments v.lead)
     ∙ ap (λ (bs : List ℕ). v.lead ++ bs) (append-nil v.text)
 
-abbrev null_of : Token → List ℕ → NewToken
-null_of x out = record {
+abbrev null_of : Rules → Token → List ℕ → NewToken
+null_of r x out = record {
   kind = token.Op;
-  lead = spaced outside x.lead;
+  lead = lead_by r.hash_comments x.lead;
   text = changed out (codes "(") ∷ also (codes "null") ∷ also (codes ")") ∷ [];
 }
 
-null_is : (k : NodeKind) (c : Forest) (x v : Token) → null_for (draft_in (within k c) true (these x v)) ≡ null_token x v
-null_is k c x v = ap (λ (bs : List ℕ). null_of x (x.text ++ bs)) (taken_bytes v)
+abbrev no_wrappings : List Wrapping
+no_wrappings = []
+
+no_wrap : (a b : Bool) → (if a then no_wrappings else []) ++ (if b then no_wrappings else []) ≡ []
+no_wrap true true = refl
+no_wrap true false = refl
+no_wrap false true = refl
+no_wrap false false = refl
+
+-- a plain variable becomes itself
+variable_stays : (r : Rules) (k : NodeKind) (c : Forest) (x v : Token)
+    → parts_by r (within k c) true (these x v)
+    ≡ new_leaf (token_by r x) (new_node kind.Variable (new_leaf (token_by r v) no_more) no_more)
+variable_stays r k c x v =
+    let own : NewTree = (kind.Variable, new_leaf (token_by r v) no_more) in
+    ap (λ (ws : List Wrapping). new_leaf (token_by r x) (new_alone (in_wrappings ws (node_by r (kind.Variable, leaf v none) own))))
+    (no_wrap r.nested_ternaries r.dot_operands)
+    ∙ ap (λ (t : NewTree). new_leaf (token_by r x) (new_alone t)) (common_stays r kind.Variable (leaf v none) own refl)
+
+null_is : (r : Rules) (k : NodeKind) (c : Forest) (x v : Token) → null_for (parts_by r (within k c) true (these x v)) ≡ null_token r x v
+null_is r k c x v =
+    ap null_for (variable_stays r k c x v) ∙ ap (λ (bs : List ℕ). null_of r x (x.text ++ bs)) (taken_bytes r v)
 
 no_brace : (k : NodeKind) → is_cast k ≡ true → is_brace_offset k ≡ false
 no_brace kind.Cast h = refl
@@ -167,23 +203,35 @@ third : (a b c : Bool) (p q r s : Written) → a ≡ false → b ≡ false → c
     → (if a then p else (if b then q else (if c then r else s))) ≡ r
 third a b c p q r s h i j = rw (h, i, j) refl
 
-null_next : (t : Tree) (w : Written) → is_unset_cast t ≡ true → is_edited t ≡ true
-    → inside_next t w ≡ token_next (null_for (draft_in (within t.0 t.1) true t.1)) w
-null_next t w h e =
+off_too : (a b : Bool) → b ≡ false → (a && b) ≡ false
+off_too a b h = ap (λ (x : Bool). a && x) h ∙ and_false a
+
+null_next : (r : Rules) (t : Tree) (w : Written) → is_unset_cast t ≡ true → (r.unset_casts && is_edited t) ≡ true
+    → inside_next r t w ≡ token_next r.split_names (null_for (parts_by r (within t.0 t.1) true t.1)) w
+null_next r t w h e =
     let text = bare (first_text t.1) in
-    third (is_brace_offset t.0) (is_real_cast t) (is_edited t) _ _ _ _
-    (no_brace t.0 (and_first (is_cast t.0) (bytes_eq text (codes "(unset)")) h))
-    (no_real (is_cast t.0) text (and_second (is_cast t.0) (bytes_eq text (codes "(unset)")) h))
+    third (r.brace_offsets && is_brace_offset t.0) (r.real_casts && is_real_cast t) (r.unset_casts && is_edited t) _ _ _ _
+    (off_too r.brace_offsets (is_brace_offset t.0) (no_brace t.0 (and_first (is_cast t.0) (bytes_eq text (codes "(unset)")) h)))
+    (off_too r.real_casts (is_real_cast t)
+    (no_real (is_cast t.0) text (and_second (is_cast t.0) (bytes_eq text (codes "(unset)")) h)))
     e
 
-pub null_written : (t : Tree) (x v : Token) (w : Written) → unset_in t ≡ Some (x, v)
-    → token_next (null_token x v) w ≡ inside_next t w
-null_written t x v w h =
-    let both = cast_and (is_unset_cast t) (tokens_in t.1) x v h in
-    let e : is_edited t ≡ true = edited_is t ∙ ap is_there h in
-    sym (null_next t w both.0 e
-    ∙ ap (λ (f : Forest). token_next (null_for (draft_in (within t.0 t.1) true f)) w) (shape t.1 x v both.1)
-    ∙ ap (λ (n : NewToken). token_next n w) (null_is t.0 t.1 x v))
+-- such a node is a cast `(unset)`, and these are its tokens
+pub these_tokens : (r : Rules) (t : Tree) (x v : Token) → unset_in r t ≡ Some (x, v) → (is_unset_cast t ≡ true) × (tokens_in t.1 ≡ Some (x, v))
+these_tokens r t x v h =
+    let both = cast_and (r.unset_casts && is_unset_cast t) (tokens_in t.1) x v h in
+    (and_second r.unset_casts (is_unset_cast t) both.0, both.1)
+
+pub is_null : (r : Rules) (t : Tree) (x v : Token) → unset_in r t ≡ Some (x, v) → (r.unset_casts && is_edited t) ≡ true
+is_null r t x v h = edited_is r t ∙ ap is_there h
+
+pub null_written : (r : Rules) (t : Tree) (x v : Token) (w : Written) → unset_in r t ≡ Some (x, v)
+    → token_next r.split_names (null_token r x v) w ≡ inside_next r t w
+null_written r t x v w h =
+    let both = these_tokens r t x v h in
+    sym (null_next r t w both.0 (is_null r t x v h)
+    ∙ ap (λ (f : Forest). token_next r.split_names (null_for (parts_by r (within t.0 t.1) true f)) w) (shape t.1 x v both.1)
+    ∙ ap (λ (n : NewToken). token_next r.split_names n w) (null_is r t.0 t.1 x v))
 
 -- ---- the cast has a text
 
@@ -191,9 +239,9 @@ some_text : (bs : List ℕ) → bytes_eq (bare bs) (codes "(unset)") ≡ true �
 some_text [] h = absurd (false≢true h)
 some_text (b ∷ bs) h = omega arith
 
-pub cast_text : (t : Tree) (x v : Token) → unset_in t ≡ Some (x, v) → 0 < length x.text
-cast_text t x v h =
-    let both = cast_and (is_unset_cast t) (tokens_in t.1) x v h in
+pub cast_text : (r : Rules) (t : Tree) (x v : Token) → unset_in r t ≡ Some (x, v) → 0 < length x.text
+cast_text r t x v h =
+    let both = these_tokens r t x v h in
     let s : bytes_eq (bare (first_text t.1)) (codes "(unset)") ≡ true =
     and_second (is_cast t.0) (bytes_eq (bare (first_text t.1)) (codes "(unset)")) both.0 in
     some_text x.text (sym (ap (λ (f : Forest). bytes_eq (bare (first_text f)) (codes "(unset)")) (shape t.1 x v both.1)) ∙ s)
@@ -208,22 +256,22 @@ nothing_same : (xs ys zs : List ℕ) → 0 < length xs → is_nothing ((xs ++ []
 nothing_same [] ys zs h = absurd (omega (arith, h))
 nothing_same (x ∷ xs) ys zs h = refl
 
-abbrev ahead_of : Token → Bool → Bool → Ahead
-ahead_of x rooted empty = record {
+abbrev ahead_of : Rules → Token → Bool → Bool → Ahead
+ahead_of r x rooted empty = record {
   kind = token.Op;
   more = 0;
   rooted = rooted;
   empty = empty;
-  lead_rooted = begins_root (before (spaced outside x.lead));
-  lead_empty = is_nothing (before (spaced outside x.lead));
+  lead_rooted = begins_root (before (lead_by r.hash_comments x.lead));
+  lead_empty = is_nothing (before (lead_by r.hash_comments x.lead));
 }
 
-pub null_shown : (x v : Token) → 0 < length x.text
-    → shown (record { more = 0; token = retexted token.Op (codes "(") (hash_comment x) }) ≡ shown (record { more = 0; token = null_token x v })
-null_shown x v h =
+pub null_shown : (r : Rules) (x v : Token) → 0 < length x.text
+    → shown (record { more = 0; token = retexted token.Op (codes "(") (token_by r x) }) ≡ shown (record { more = 0; token = null_token r x v })
+null_shown r x v h =
     let out = v.lead ++ v.text in
-    ap (λ (b : Bool). ahead_of x b (is_nothing ((x.text ++ []) ++ []))) (root_same x.text out [] h)
-    ∙ ap (ahead_of x (begins_root ((x.text ++ out) ++ []))) (nothing_same x.text out [] h)
+    ap (λ (b : Bool). ahead_of r x b (is_nothing ((x.text ++ []) ++ []))) (root_same x.text out [] h)
+    ∙ ap (ahead_of r x (begins_root ((x.text ++ out) ++ []))) (nothing_same x.text out [] h)
 
 -- ---- which casts stay
 

@@ -7,7 +7,7 @@ use Rattle.php_tree.specs.Places.{behind, end_of}
 use Rattle.php_terminals.specs.declared.terminal.Terminal.TheVariants as t
 use Rattle.php_terminals.specs.Classify.{terminal}
 use Rattle.syntax_upgrade.specs.NameHeads.{head_at}
-use Rattle.syntax_upgrade.specs.Reports.{text_start}
+use Rattle.syntax_upgrade.specs.Found.{text_start}
 use Rattle.syntax_upgrade.specs.ReservedName.{class_by, next}
 use Rattle.syntax_rules.specs.Around.{operator_of}
 use Rattle.syntax_rules.specs.Casts.{first_text}
@@ -99,7 +99,7 @@ tokens_there f g r x v n a b d e h i =
 
 -- ---- where a first token stands
 
-end_behind : (at : ℕ) (f : Forest) → at ≤ end_of at f
+pub end_behind : (at : ℕ) (f : Forest) → at ≤ end_of at f
 end_behind at none = omega arith
 end_behind at (leaf t f) = let h = end_behind (behind at t) f in omega (arith, h)
 end_behind at (node k c f) = let h = end_behind at c in let i = end_behind (end_of at c) f in omega (arith, h, i)

@@ -3,7 +3,7 @@ use Rattle.std.proofs.Common.{◌≡◌, ℕ, Bool, true, false, ◌==◌, ◌&&
 use Rattle.std.specs.List.{list_any}
 use Rattle.std.proofs.lemmas.Bool.{false≢true}
 use Rattle.tracked_changes.specs.Pieces.{Piece, changed, kept}
-use Rattle.syntax_rules.specs.HashComment.{Standing, begins_hash, block, closing, line, moved, opening, outside, spaced}
+use Rattle.syntax_rules.specs.HashComment.{Standing, begins_hash, block, closing, line, moved, opening, outside, spaced, untouched}
 use Rattle.syntax_upgrade.specs.Writing.{Recorded, kept_next, pieces_next}
 use Rattle.syntax_upgrade.proofs.Bare.{kept_twice}
 
@@ -24,3 +24,8 @@ no_hash s b [] r h = let n = neither (b == 35) (list_any (λ x. x == 35) []) h i
 no_hash s b (c ∷ bs) r h =
     let n = neither (b == 35) (list_any (λ x. x == 35) (c ∷ bs)) h in
     rw (no_begin s b (c ∷ bs) n.0) (no_hash (moved s b (c ∷ bs)) c bs (kept_next (b ∷ []) r) n.1 ∙ kept_twice b (c ∷ bs) r)
+
+-- bytes that stay, one by one
+pub kept_whole : (b : ℕ) (bs : List ℕ) (r : Recorded) → kept_next (b ∷ bs) r ≡ pieces_next (untouched (b ∷ bs)) r
+kept_whole b [] r = refl
+kept_whole b (c ∷ bs) r = sym (kept_twice b (c ∷ bs) r) ∙ kept_whole c bs (kept_next (b ∷ []) r)

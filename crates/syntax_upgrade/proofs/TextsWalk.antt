@@ -10,11 +10,13 @@ use Rattle.tracked_changes.specs.Draft.{NewToken, Draft, no_more, new_leaf, new_
 use Rattle.tracked_changes.specs.Tokens.{put_also}
 use Rattle.syntax_rules.specs.Around.{Around}
 use Rattle.syntax_rules.specs.DollarBrace.{is_dollar_brace, is_piece, escaped, begins_dollar_brace, parts, ends_bare, before_last}
-use Rattle.syntax_rules.specs.HashComment.{hash_comment}
+use Rattle.syntax_rules.specs.declared.rules.Rules.{Rules}
 use Rattle.syntax_rules.specs.SplitName.{is_op, is_name, begins_root, is_label, is_keyword, is_backslash, is_namespace, is_one, in_front, whole_names}
 use Rattle.syntax_upgrade.specs.Written.{Written, token_next, draft_next}
-use Rattle.syntax_upgrade.specs.InContext.{draft_in}
-use Rattle.syntax_upgrade.specs.Texts.{is_loose, is_plain, is_bracket, anything, offset, is_quotable, other, begins_dollar, text_walked}
+use Rattle.syntax_rules.specs.InContext.{parts_by}
+use Rattle.syntax_rules.specs.Together.{token_by}
+use Rattle.syntax_rules.specs.Quotable.{is_loose, is_plain, is_bracket, anything, offset, is_quotable}
+use Rattle.syntax_upgrade.specs.Texts.{other, begins_dollar, text_walked}
 use Rattle.syntax_upgrade.proofs.Tokens.{and_first, and_second}
 
 neither : (a b : Bool) → (not a && not b) ≡ true → (a ≡ false) × (b ≡ false)
@@ -27,10 +29,10 @@ neither true b h = absurd (false≢true h)
 abbrev NoName : NewToken → Type 0
 NoName t = (u : NewToken) → is_one t u ≡ false
 
-front_loose : (t : NewToken) (d : Draft) → NoName t → in_front true t d ≡ new_leaf t d
-front_loose t no_more h = refl
-front_loose t (new_leaf u d) h = rw (h u) refl
-front_loose t (new_node k c d) h = refl
+front_loose : (n : Bool) (t : NewToken) (d : Draft) → NoName t → in_front n t d ≡ new_leaf t d
+front_loose n t no_more h = refl
+front_loose n t (new_leaf u d) h = rw (h u) refl
+front_loose n t (new_node k c d) h = refl
 
 none_of : (a b x y z : Bool) → (a ≡ false) × (b ≡ false) → ((a && x) || (b && y && z)) ≡ false
 none_of a b x y z h = rw (h.0, h.1) refl
@@ -57,18 +59,18 @@ text_loose false b t e n = n
 text_loose true false t e n = n
 text_loose true true t e n = escaped_kind (ends_bare false (before t.text)) t n e
 
-also_front : (d : Draft) → in_front true (put_also token.Op (codes "}")) d ≡ new_leaf (put_also token.Op (codes "}")) d
-also_front no_more = refl
-also_front (new_leaf u d) = refl
-also_front (new_node k c d) = refl
+also_front : (n : Bool) (d : Draft) → in_front n (put_also token.Op (codes "}")) d ≡ new_leaf (put_also token.Op (codes "}")) d
+also_front n no_more = refl
+also_front n (new_leaf u d) = refl
+also_front n (new_node k c d) = refl
 
 -- ---- the walk
 
-module _ (around : Bool → Option Around) where
+module _ (r : Rules) (around : Bool → Option Around) where
   abbrev drawn : Bool → Forest → Draft
-  drawn i f = parts (draft_in around i f)
+  drawn i f = parts (parts_by r around i f)
 
-  begins_same : (f : Forest) (i : Bool) → begins_dollar_brace (draft_in around i f) ≡ begins_dollar f
+  begins_same : (f : Forest) (i : Bool) → begins_dollar_brace (parts_by r around i f) ≡ begins_dollar f
   begins_same none i = refl
   begins_same (leaf t f) i = refl
   begins_same (node k c f) i = refl
@@ -76,7 +78,7 @@ module _ (around : Bool → Option Around) where
   -- a text is walked
   abbrev IsWalked : Forest → Type 0
   IsWalked f = is_quotable anything f ≡ true → (i : Bool) (w : Written)
-      → text_walked around i other f w ≡ draft_next (whole_names true (drawn i f)) w
+      → text_walked r around i other f w ≡ draft_next r.split_names (whole_names r.split_names (drawn i f)) w
 
   -- and each end of it
   abbrev AreWalked : Forest → Type 0
@@ -91,13 +93,13 @@ module _ (around : Bool → Option Around) where
 
   -- a token that is neither `${` nor a piece of text stands for itself
   plain_part : (t : Token) (i : Bool) (f : Forest) → is_plain t ≡ true
-      → drawn i (leaf t f) ≡ new_leaf (hash_comment t) (drawn false f)
+      → drawn i (leaf t f) ≡ new_leaf (token_by r t) (drawn false f)
   plain_part t i f h =
       let n = neither (is_dollar_brace t.kind) (is_piece t.kind) h in
       rw (n.0, n.1) refl
 
   plain_walked : (t : Token) (i : Bool) (f : Forest) (w : Written) → is_plain t ≡ true
-      → text_walked around i other (leaf t f) w ≡ text_walked around false other f (token_next (hash_comment t) w)
+      → text_walked r around i other (leaf t f) w ≡ text_walked r around false other f (token_next r.split_names (token_by r t) w)
   plain_walked t i f w h =
       let n = neither (is_dollar_brace t.kind) (is_piece t.kind) h in
       rw (n.0, n.1) refl
@@ -105,16 +107,16 @@ module _ (around : Bool → Option Around) where
   -- another token
   text_part : (t : Token) (f : Forest) → is_dollar_brace t.kind ≡ false → AreWalked f → IsWalked (leaf t f)
   text_part t f e a h i w =
-      let both : (is_loose (hash_comment t) && is_quotable anything f) ≡ true = rw e at h in
-      let n = text_loose (is_piece t.kind) (begins_dollar f) (hash_comment t) refl
-      (loose (hash_comment t) (and_first (is_loose (hash_comment t)) (is_quotable anything f) both)) in
-      let x = if is_piece t.kind && begins_dollar f then escaped (hash_comment t) else hash_comment t in
-      rw (e, begins_same f false, front_loose x (whole_names true (drawn false f)) n)
-      (now f a (and_second (is_loose (hash_comment t)) (is_quotable anything f) both) false (token_next x w))
+      let both : (is_loose (token_by r t) && is_quotable anything f) ≡ true = rw e at h in
+      let n = text_loose (is_piece t.kind) (begins_dollar f) (token_by r t) refl
+      (loose (token_by r t) (and_first (is_loose (token_by r t)) (is_quotable anything f) both)) in
+      let x = if is_piece t.kind && begins_dollar f then escaped (token_by r t) else token_by r t in
+      rw (e, begins_same f false, front_loose r.split_names x (whole_names r.split_names (drawn false f)) n)
+      (now f a (and_second (is_loose (token_by r t)) (is_quotable anything f) both) false (token_next r.split_names x w))
 
   -- `${`, a name and what follows it
   marked : (t n m : Token) (f : Forest) → is_dollar_brace t.kind ≡ true → is_plain n ≡ true → is_plain m ≡ true
-      → (b : Bool) → is_bracket m ≡ b → (if b then is_quotable offset f else is_loose (hash_comment m) && is_quotable anything f) ≡ true
+      → (b : Bool) → is_bracket m ≡ b → (if b then is_quotable offset f else is_loose (token_by r m) && is_quotable anything f) ≡ true
       → AreWalked (leaf m f) → IsWalked (leaf t (leaf n (leaf m f)))
   marked t n m f e p q false b h a _ i w =
       let d = neither (is_dollar_brace m.kind) (is_piece m.kind) q in
@@ -143,7 +145,7 @@ module _ (around : Bool → Option Around) where
   dollar_part t (leaf n none) e a h i w = absurd (false≢true (and_second (is_plain n) false (rw e at h)))
   dollar_part t (leaf n (node k c f)) e a h i w = absurd (false≢true (and_second (is_plain n) false (rw e at h)))
   dollar_part t (leaf n (leaf m f)) e a h i w =
-      let last = if is_bracket m then is_quotable offset f else is_loose (hash_comment m) && is_quotable anything f in
+      let last = if is_bracket m then is_quotable offset f else is_loose (token_by r m) && is_quotable anything f in
       let all : (is_plain n && (is_plain m && last)) ≡ true = rw e at h in
       let behind = and_second (is_plain n) (is_plain m && last) all in
       marked t n m f e (and_first (is_plain n) (is_plain m && last) all) (and_first (is_plain m) last behind)
@@ -152,7 +154,7 @@ module _ (around : Bool → Option Around) where
   dollar_part t (node k c (node l d f)) e a h i w = absurd (false≢true (rw e at h))
   dollar_part t (node k c (leaf s f)) e a h i w =
       let both : (is_plain s && is_quotable anything f) ≡ true = rw e at h in
-      rw (e, plain_part s false f (and_first (is_plain s) (is_quotable anything f) both), also_front (whole_names true (drawn false f)))
+      rw (e, plain_part s false f (and_first (is_plain s) (is_quotable anything f) both), also_front r.split_names (whole_names r.split_names (drawn false f)))
       (now f a.1.1 (and_second (is_plain s) (is_quotable anything f) both) false _)
 
   step : (t : Token) (f : Forest) → (b : Bool) → is_dollar_brace t.kind ≡ b → AreWalked f → IsWalked (leaf t f)

@@ -1,9 +1,10 @@
 -- What is reported, as contracts see it.
-use Rattle.std.specs.Prelude.{ℕ, ◌+◌, ◌*◌, ◌^◌, length}
+use Rattle.std.specs.Prelude.{ℕ, ◌+◌, ◌*◌, ◌^◌, List, [], ◌∷◌, length}
 use Rattle.io_ports.specs.declared.report.Weight.{Weight}
 use Rattle.rule_tables.specs.declared.cause.Cause.{Cause}
 use Rattle.rule_tables.specs.declared.rule.RuleId.{RuleId}
-use Rattle.rule_tables.specs.Rules.{number_of, undecided_weight_of}
+use Rattle.rule_tables.specs.declared.cause.Cause.TheVariants.{Off}
+use Rattle.rule_tables.specs.Rules.{number_of, undecided_weight_of, weight_of}
 use Rattle.php_tree.specs.declared.token.Token.{Token}
 use Rattle.php_tree.specs.Places.{behind}
 use Rattle.syntax_upgrade.specs.declared.found.Found.{Found}
@@ -29,6 +30,15 @@ undecided rule cause start end = record {
   cause = cause;
   weight = undecided_weight_of rule;
 }
+
+-- a place of a rule that is off
+abbrev pub off : RuleId → ℕ → ℕ → Report
+off rule start end = record { start = start; end = end; rule = rule; cause = Off; weight = weight_of rule }
+
+-- where the text of the first of some tokens begins, whose trivia begin at a place
+abbrev pub text_start : ℕ → List Token → ℕ
+text_start at [] = at
+text_start at (x ∷ xs) = at + length x.lead
 
 -- the text of a token whose trivia begin at a place
 abbrev pub at_token : RuleId → Cause → ℕ → Token → Report

@@ -1,11 +1,9 @@
 pub mod Writing
 pub mod Standings
 pub mod Written
-pub mod InContext
 pub mod NamesWalked
 pub mod Laws
 pub mod Texts
-pub mod Quotable
 pub mod Inside
 pub mod Heads
 pub mod Steps
@@ -21,5 +19,7 @@ pub mod TokenStandings
 pub mod Enums
 pub mod Labels
 pub mod Spans
+pub mod OffPlaces
+pub mod RulesOn
 pub mod Reports
 pub mod Walk

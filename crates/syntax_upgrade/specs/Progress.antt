@@ -1,6 +1,7 @@
 -- The parts of a node that are left, by its rule.
 use Rattle.std.specs.Prelude.{Bool, Option}
 use Rattle.php_tree.specs.Tree.{Forest}
+use Rattle.syntax_rules.specs.declared.rules.Rules.{Rules}
 use Rattle.syntax_rules.specs.Around.{Around}
 use Rattle.syntax_upgrade.specs.declared.progress.Progress as declared
 use Rattle.syntax_upgrade.specs.declared.progress.Progress.TheVariants as code
@@ -12,7 +13,7 @@ use Rattle.syntax_upgrade.specs.Roles.{role_of}
 use Rattle.syntax_upgrade.specs.Texts.{text_walked}
 
 -- the parts that are left, the next of them the first of its node or not
-abbrev pub left_walked : declared.Progress → (Bool → Option Around) → Bool → Forest → Written → Written
-left_walked (code.Names braces inner) around i f w = walked (own_of braces) around i inner f w
-left_walked code.Float around i f w = float_walked around i f w
-left_walked (code.Quoted role) around i f w = text_walked around i (role_of role) f w
+abbrev pub left_walked : Rules → declared.Progress → (Bool → Option Around) → Bool → Forest → Written → Written
+left_walked r (code.Names braces inner) around i f w = walked r (own_of r braces) around i inner f w
+left_walked r code.Float around i f w = float_walked r around i f w
+left_walked r (code.Quoted role) around i f w = text_walked r around i (role_of role) f w

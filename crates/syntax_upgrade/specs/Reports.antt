@@ -1,24 +1,21 @@
--- The reports of a file, in the order of a walk: the places at which a rule on syntax is undecided.
-use Rattle.std.specs.Prelude.{ℕ, zero, suc, ◌+◌, ◌&&◌, if◌then◌else◌, List, [], ◌∷◌, ◌++◌, length}
+-- The reports of a file, in the order of a walk: the places at which a rule on syntax is undecided, and those of rules that are
+-- off.
+use Rattle.std.specs.Prelude.{ℕ, zero, suc, ◌&&◌, if◌then◌else◌, List, [], ◌∷◌, ◌++◌}
 use Rattle.rule_tables.specs.declared.cause.Cause.TheVariants.{Shape}
 use Rattle.rule_tables.specs.declared.rule.RuleId.TheVariants as rule
 use Rattle.php_tree.specs.declared.kind.NodeKind.{NodeKind}
 use Rattle.php_tree.specs.declared.kind.NodeKind.TheVariants as kind
-use Rattle.php_tree.specs.declared.token.Token.{Token}
 use Rattle.php_tree.specs.Tree.{Forest, none, leaf, node, Tree, File, leaves, file_leaves}
 use Rattle.php_tree.specs.Places.{behind, end_of}
 use Rattle.php_terminals.specs.declared.terminal.Terminal.TheVariants as t
 use Rattle.php_terminals.specs.Classify.{terminal}
 use Rattle.syntax_rules.specs.UnsetCast.{is_undecided}
-use Rattle.syntax_upgrade.specs.Found.{Report, undecided}
+use Rattle.syntax_upgrade.specs.Found.{Report, text_start, undecided}
 use Rattle.syntax_upgrade.specs.NameHeads.{head_at}
 use Rattle.syntax_upgrade.specs.ReservedName.{Standing, at_first, past, past_node, class_by, next, is_last, refuses, refuses_last, refused_if}
+use Rattle.syntax_rules.specs.declared.rules.Rules.{Rules}
 use Rattle.syntax_upgrade.specs.Enums.{enums}
-
--- where the text of the first of some tokens begins, whose trivia begin at a place
-abbrev pub text_start : ℕ → List Token → ℕ
-text_start at [] = at
-text_start at (x ∷ xs) = at + length x.lead
+use Rattle.syntax_upgrade.specs.OffPlaces.{off_reports}
 
 -- a cast `(unset)` of anything but a plain variable: it stays, for its shape
 abbrev pub cast_reports : ℕ → Tree → List Report
@@ -40,6 +37,10 @@ reports_in k s (suc more) at (leaf x f) =
 reports_in k s more at (node j b f) =
     (reports_in j at_first zero at b ++ at_node at (j, b)) ++ reports_in k (past_node s) zero (end_of at b) f
 
--- The reports of a file: its statements stand as in a block, and the labels `enum` that 8.1 reads as a keyword come last.
+-- The undecided places of a file: its statements stand as in a block, and the labels `enum` that 8.1 reads as a keyword come last.
 abbrev pub reports : File → List Report
 reports f = reports_in kind.Block at_first zero 0 f.statements ++ enums t.End 0 (file_leaves f)
+
+-- The reports of a file, with those of the rules that are off.
+abbrev pub reports_by : Rules → File → List Report
+reports_by r f = reports f ++ off_reports r f

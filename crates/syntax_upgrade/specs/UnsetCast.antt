@@ -1,12 +1,13 @@
 -- The tokens of a cast `(unset)` of a plain variable, and the token that comes in their place.
-use Rattle.std.specs.Prelude.{ℕ, List, [], ◌∷◌, ◌++◌, if◌then◌else◌, Option, Some, None, codes}
+use Rattle.std.specs.Prelude.{ℕ, List, [], ◌∷◌, ◌++◌, ◌&&◌, if◌then◌else◌, Option, Some, None, codes}
 use Rattle.php_tree.specs.declared.token.Token.{Token}
 use Rattle.php_tree.specs.declared.token.TokenKind.TheVariants as token
 use Rattle.php_tree.specs.declared.kind.NodeKind.{NodeKind}
 use Rattle.php_tree.specs.Tree.{Forest, none, leaf, node, Tree}
 use Rattle.tracked_changes.specs.Pieces.{changed, also}
 use Rattle.tracked_changes.specs.Draft.{NewToken}
-use Rattle.syntax_rules.specs.HashComment.{outside, spaced}
+use Rattle.syntax_rules.specs.declared.rules.Rules.{Rules}
+use Rattle.syntax_rules.specs.HashComment.{lead_by}
 use Rattle.syntax_rules.specs.UnsetCast.{is_unset_cast, is_variable}
 
 -- the token of a node that is a plain variable
@@ -32,18 +33,18 @@ tokens_in (leaf t (node k c (leaf u f))) = None
 tokens_in (leaf t (node k c (node j b f))) = None
 tokens_in (node k c f) = None
 
--- the tokens of a cast `(unset)` of a plain variable, if a node is one
-abbrev pub unset_in : Tree → Option (Token × Token)
-unset_in t = if is_unset_cast t then tokens_in t.1 else None
+-- the tokens of a cast `(unset)` of a plain variable, if a node is one and the rule is on
+abbrev pub unset_in : Rules → Tree → Option (Token × Token)
+unset_in r t = if r.unset_casts && is_unset_cast t then tokens_in t.1 else None
 
 -- the bytes that are taken out
 abbrev pub taken_out : Token → Token → List ℕ
 taken_out cast variable = cast.text ++ (variable.lead ++ variable.text)
 
 -- one token in the place of both
-abbrev pub null_token : Token → Token → NewToken
-null_token cast variable = record {
+abbrev pub null_token : Rules → Token → Token → NewToken
+null_token r cast variable = record {
   kind = token.Op;
-  lead = spaced outside cast.lead;
+  lead = lead_by r.hash_comments cast.lead;
   text = changed (taken_out cast variable) (codes "(") ∷ also (codes "null") ∷ also (codes ")") ∷ [];
 }

@@ -3,7 +3,7 @@ use Rattle.std.specs.Prelude.{ℕ, Bool, List, Option, Some, None}
 use Rattle.php_tree.specs.declared.kind.NodeKind.{NodeKind}
 use Rattle.php_tree.specs.declared.kind.NodeKind.TheVariants as kind
 use Rattle.syntax_rules.specs.Around.{Around}
-use Rattle.syntax_upgrade.specs.InContext.{around_of}
+use Rattle.syntax_rules.specs.InContext.{around_of}
 
 -- the kind by which words are refused: the statements of a file stand as in a block
 abbrev pub kind_of : Option NodeKind → NodeKind

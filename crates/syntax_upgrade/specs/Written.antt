@@ -21,23 +21,23 @@ abbrev pub space_next : Bool → Recorded → Recorded
 space_next true r = changed_next (codes " ") r
 space_next false r = r
 
--- whether a space is wanted before a token behind a keyword or not
-abbrev pub wants_space : Bool → NewToken → Bool
-wants_space behind t = behind && is_name t.kind && begins_root (before t.text) && is_nothing (before t.lead)
+-- whether a space is wanted before a token behind a keyword or not, where names are set apart
+abbrev pub wants_space : Bool → Bool → NewToken → Bool
+wants_space apart behind t = apart && behind && is_name t.kind && begins_root (before t.text) && is_nothing (before t.lead)
 
--- a token: its trivia, the parentheses before it, a space, its text
-abbrev pub token_next : NewToken → Written → Written
-token_next t w = record {
-  recorded = pieces_next t.text (space_next (wants_space w.behind t) (opens_next w.parens (pieces_next t.lead w.recorded)));
+-- A token: its trivia, the parentheses before it, a space, its text; names are set apart or not.
+abbrev pub token_next : Bool → NewToken → Written → Written
+token_next apart t w = record {
+  recorded = pieces_next t.text (space_next (wants_space apart w.behind t) (opens_next w.parens (pieces_next t.lead w.recorded)));
   behind = keyword_behind w.behind t;
   parens = 0;
 }
 
 -- the tokens of a draft
-abbrev pub draft_next : Draft → Written → Written
-draft_next no_more w = w
-draft_next (new_leaf t d) w = draft_next d (token_next t w)
-draft_next (new_node k c d) w = draft_next d (draft_next c w)
+abbrev pub draft_next : Bool → Draft → Written → Written
+draft_next apart no_more w = w
+draft_next apart (new_leaf t d) w = draft_next apart d (token_next apart t w)
+draft_next apart (new_node k c d) w = draft_next apart d (draft_next apart c w)
 
 -- the front of a file
 abbrev pub at_front : Recorded → Written

@@ -7,7 +7,7 @@ ghost use Rattle.php_tree.specs.Tree.{leaf};
 ghost use Rattle.php_rows.specs.Reading.{forest_in};
 ghost use Rattle.syntax_rules.specs.Around.{Around};
 ghost use Rattle.syntax_rules.specs.DollarBrace.{dollar_name, ends_bare as is_bare, escaped, is_dollar_brace as dollar_brace, is_piece as piece};
-ghost use Rattle.syntax_rules.specs.HashComment.{hash_comment};
+ghost use Rattle.syntax_rules.specs.Together.{token_by};
 ghost use Rattle.syntax_upgrade.specs.Roles.{role_of};
 ghost use Rattle.syntax_upgrade.specs.Texts.{begins_dollar as dollar_first, dollar_next, other, role_behind as role_in_front, text_walked};
 ghost use Rattle.syntax_upgrade.specs.Words.{seen};
@@ -21,6 +21,7 @@ use crate::writer::Writer;
 use php_rows::Parts;
 use php_tree::TokenKind;
 use std::alloc::AllocError;
+use syntax_rules::Rules;
 
 /// What a token of a quoted text is: the name behind `${`, the `}` behind `${` and an expression, or another one.
 #[derive(Clone, Copy)]
@@ -30,7 +31,8 @@ pub(crate) enum Role {
     Closing,
 }
 
-fn is_dollar_brace(kind: TokenKind) -> bool
+/// Whether a token is `${`.
+pub(crate) fn is_dollar_brace(kind: TokenKind) -> bool
     ensures { result ≡ dollar_brace kind }
 {
     matches!(kind, TokenKind::DollarBrace)
@@ -87,14 +89,14 @@ fn ends_bare(text: &[u8]) -> bool
 }
 
 // `${` by what follows it.
-fn dollar(writer: &mut Writer, token: Word, role: Role) -> Result<(), AllocError>
-    ensures { OnOk result (writer.new ≡ dollar_next (role_of role) (hash_comment (seen token.entry)) writer.old) }
+fn dollar(writer: &mut Writer, rules: Rules, token: Word, role: Role) -> Result<(), AllocError>
+    ensures { OnOk result (writer.new ≡ dollar_next rules.split_names (role_of role) (token_by rules (seen token.entry)) writer.old) }
 {
     match role {
-        Role::Other => plain(writer, token),
-        Role::Named => replaced(writer, TokenKind::CurlyOpen, token, b"{"),
+        Role::Other => plain(writer, rules, token),
+        Role::Named => replaced(writer, rules, TokenKind::CurlyOpen, token, b"{"),
         Role::Closing => {
-            replaced(writer, TokenKind::CurlyOpen, token, b"{")?;
+            replaced(writer, rules, TokenKind::CurlyOpen, token, b"{")?;
             put(writer, b"$")?;
             put(writer, b"{")
         }
@@ -102,56 +104,64 @@ fn dollar(writer: &mut Writer, token: Word, role: Role) -> Result<(), AllocError
 }
 
 // The name behind `${`.
-fn name(writer: &mut Writer, token: Word) -> Result<(), AllocError>
-    ensures { OnOk result (writer.new ≡ token_next (dollar_name (hash_comment (seen token.entry))) writer.old) }
+fn name(writer: &mut Writer, rules: Rules, token: Word) -> Result<(), AllocError>
+    ensures { OnOk result (writer.new ≡ token_next rules.split_names (dollar_name (token_by rules (seen token.entry))) writer.old) }
 {
-    writer.begin(&[], as_dollar_name(token))?;
+    writer.begin(rules, &[], as_dollar_name(token))?;
     writer.also(b"$")?;
-    writer.trivia(token.lead)?;
+    writer.trivia(rules, token.lead)?;
     writer.kept(token.text)
 }
 
 // A token of the text itself.
-fn text(writer: &mut Writer, token: Word, behind: Parts) -> Result<(), AllocError>
-    ensures { OnOk result (writer.new ≡ token_next (if piece token.entry.kind && dollar_first (forest_in behind.entry) then escaped (hash_comment (seen token.entry)) else hash_comment (seen token.entry)) writer.old) }
+fn text(writer: &mut Writer, rules: Rules, token: Word, behind: Parts) -> Result<(), AllocError>
+    ensures { OnOk result (writer.new ≡ token_next rules.split_names
+        (if piece token.entry.kind && dollar_first (forest_in behind.entry) then escaped (token_by rules (seen token.entry)) else token_by rules (seen token.entry))
+        writer.old) }
 {
     if is_piece(token.kind) && begins_dollar(behind) && ends_bare(token.text) {
-        return put_backslash(writer, token);
+        return put_backslash(writer, rules, token);
     }
-    plain(writer, token)
+    plain(writer, rules, token)
 }
 
 /// The next token of a quoted text, in front of these parts, and what the one behind it is.
 pub(crate) fn text_part(
     writer: &mut Writer,
+    rules: Rules,
     token: Word,
     behind: Parts,
     role: Role,
 ) -> Result<Role, AllocError>
     ensures { (around : Bool → Option Around) (i : Bool) →
-        IfOk result (λ r. text_walked around false (role_of r) (forest_in behind.entry) writer.new ≡ text_walked around i (role_of role) (leaf (seen token.entry) (forest_in behind.entry)) writer.old) }
+        IfOk result (λ r. text_walked rules around false (role_of r) (forest_in behind.entry) writer.new ≡ text_walked rules around i (role_of role) (leaf (seen token.entry) (forest_in behind.entry)) writer.old) }
 {
     match role {
-        Role::Named => name(writer, token)?,
+        Role::Named => name(writer, rules, token)?,
         Role::Closing => {
-            replaced(writer, TokenKind::Op, token, b"}")?;
+            replaced(writer, rules, TokenKind::Op, token, b"}")?;
             put(writer, b"}")?;
         }
-        Role::Other => return opened(writer, token, behind),
+        Role::Other => return opened(writer, rules, token, behind),
     }
     Ok(Role::Other)
 }
 
 // The next token of a quoted text, where none stands open.
-fn opened(writer: &mut Writer, token: Word, behind: Parts) -> Result<Role, AllocError>
+fn opened(
+    writer: &mut Writer,
+    rules: Rules,
+    token: Word,
+    behind: Parts,
+) -> Result<Role, AllocError>
     ensures { (around : Bool → Option Around) (i : Bool) →
-        IfOk result (λ r. text_walked around false (role_of r) (forest_in behind.entry) writer.new ≡ text_walked around i other (leaf (seen token.entry) (forest_in behind.entry)) writer.old) }
+        IfOk result (λ r. text_walked rules around false (role_of r) (forest_in behind.entry) writer.new ≡ text_walked rules around i other (leaf (seen token.entry) (forest_in behind.entry)) writer.old) }
 {
     if is_dollar_brace(token.kind) {
         let role = role_behind(behind);
-        dollar(writer, token, role)?;
+        dollar(writer, rules, token, role)?;
         return Ok(role);
     }
-    text(writer, token, behind)?;
+    text(writer, rules, token, behind)?;
     Ok(Role::Other)
 }

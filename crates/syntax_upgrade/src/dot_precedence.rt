@@ -6,7 +6,7 @@ ghost use Rattle.std.specs.Prelude.{◌≡◌};
 ghost use Rattle.php_rows.specs.Reading.{forest_in};
 ghost use Rattle.syntax_rules.specs.Around.{operator_of as operator_in};
 ghost use Rattle.syntax_rules.specs.DotPrecedence.{is_binary as binary, is_dot as dot, is_regrouped as regrouped, is_shift as shift, is_sum as sum};
-ghost use Rattle.syntax_upgrade.specs.InContext.{around_of};
+ghost use Rattle.syntax_rules.specs.InContext.{around_of};
 
 use crate::casts::first_text;
 use crate::next::{first_node, others};

@@ -2,7 +2,7 @@
 ghost use Rattle.std.specs.Prelude.{◌≡◌, ◌≤◌, ◌+◌, ◌*◌, ◌^◌, ◌++◌, ◌∷◌, [], map, IfOk, OnOk};
 ghost use Rattle.std.specs.List.Sorted.{IsNonDecreasingBy, IsPermutation};
 ghost use Rattle.rule_tables.specs.Rules.{number_of, undecided_weight_of};
-ghost use Rattle.syntax_upgrade.specs.Found.{found_of, order_of};
+ghost use Rattle.syntax_upgrade.specs.Found.{found_of, off, order_of};
 
 use rule_tables::{Cause, RuleId, Span, Weight};
 use std::alloc::AllocError;
@@ -33,6 +33,25 @@ pub(crate) fn add(
         rule,
         cause,
         weight: rule.undecided_weight(),
+    })?;
+    Ok(())
+}
+
+/// Puts a place of a rule that is off behind others.
+pub(crate) fn add_off(
+    start: u32,
+    end: u32,
+    rule: RuleId,
+    out: &mut Vec<Found>,
+) -> Result<(), AllocError>
+    requires { start ≤ end }
+    ensures { OnOk result (map found_of out.new.items ≡ map found_of out.old.items ++ off rule start end ∷ []) }
+{
+    out.push(Found {
+        span: Span { start, end },
+        rule,
+        cause: Cause::Off,
+        weight: rule.weight(),
     })?;
     Ok(())
 }

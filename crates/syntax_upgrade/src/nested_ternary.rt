@@ -4,7 +4,7 @@
 // After:  (true ? 'a' : false) ? 'b' : 'c'
 ghost use Rattle.std.specs.Prelude.{◌≡◌};
 ghost use Rattle.syntax_rules.specs.NestedTernary.{nests as nests_within};
-ghost use Rattle.syntax_upgrade.specs.InContext.{around_of, is_nested as is_nested_in};
+ghost use Rattle.syntax_rules.specs.InContext.{around_of, is_nested as is_nested_in};
 
 use php_tree::NodeKind;
 

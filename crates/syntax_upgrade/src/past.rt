@@ -6,8 +6,8 @@ ghost use Rattle.syntax_upgrade.specs.Words.{seen};
 use crate::word::Word;
 use std::alloc::AllocError;
 
-// The place behind so many bytes that begin at a place. No file is so long that there is none.
-fn past(at: u32, count: usize) -> Result<u32, AllocError>
+/// The place behind so many bytes that begin at a place. No file is so long that there is none.
+pub(crate) fn past(at: u32, count: usize) -> Result<u32, AllocError>
     ensures { IfOk result (λ place. place ≡ at + count) }
 {
     if count > u32::MAX as usize {

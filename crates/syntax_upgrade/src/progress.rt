@@ -1,17 +1,16 @@
 // How far a node's parts are walked, by its rule.
-ghost use Rattle.std.specs.Prelude.{◌≡◌, Bool, true, false, Option, IfOk};
+ghost use Rattle.std.specs.Prelude.{◌≡◌, ◌&&◌, Bool, true, false, Option, IfOk};
 ghost use Rattle.php_tree.specs.declared.kind.NodeKind as kinds;
 ghost use Rattle.php_tree.specs.Tree.{Forest, leaf as leaf_then, node as node_then};
 ghost use Rattle.php_rows.specs.Reading.{forest_in};
 ghost use Rattle.syntax_rules.specs.Around.{Around, within};
-ghost use Rattle.syntax_rules.specs.SplitName.{whole_names};
 ghost use Rattle.syntax_rules.specs.Together.{is_quoted as quoted};
 ghost use Rattle.syntax_rules.specs.UnsetCast.{is_edited};
-ghost use Rattle.syntax_upgrade.specs.InContext.{node_in};
 ghost use Rattle.syntax_upgrade.specs.Inside.{inside_next};
 ghost use Rattle.syntax_upgrade.specs.Progress.{left_walked};
+ghost use Rattle.syntax_upgrade.specs.NamesWalked.{child_next};
 ghost use Rattle.syntax_upgrade.specs.Words.{seen};
-ghost use Rattle.syntax_upgrade.specs.Written.{Written, draft_next};
+ghost use Rattle.syntax_upgrade.specs.Written.{Written};
 
 use crate::brace_offset::is_brace_offset;
 use crate::casts::is_real_cast;
@@ -23,6 +22,7 @@ use crate::writer::Writer;
 use php_rows::Parts;
 use php_tree::{NodeKind, TokenKind};
 use std::alloc::AllocError;
+use syntax_rules::Rules;
 
 /// What the next part of a node is.
 #[derive(Clone, Copy)]
@@ -42,21 +42,21 @@ fn is_quoted(kind: NodeKind) -> bool
 }
 
 /// Before the first part of a node.
-pub(crate) fn start(kind: NodeKind, parts: Parts) -> Progress
-    ensures { (w : Written) → is_edited (kind, forest_in parts.entry) ≡ false →
-        left_walked result (within kind (forest_in parts.entry)) true (forest_in parts.entry) w
-        ≡ inside_next (kind, forest_in parts.entry) w }
+pub(crate) fn start(rules: Rules, kind: NodeKind, parts: Parts) -> Progress
+    ensures { (w : Written) → (rules.unset_casts && is_edited (kind, forest_in parts.entry)) ≡ false →
+        left_walked rules result (within kind (forest_in parts.entry)) true (forest_in parts.entry) w
+        ≡ inside_next rules (kind, forest_in parts.entry) w }
 {
-    if is_brace_offset(kind) {
+    if rules.brace_offsets && is_brace_offset(kind) {
         return Progress::Names {
             braces: true,
             inner: 0,
         };
     }
-    if is_real_cast(kind, parts) {
+    if rules.real_casts && is_real_cast(kind, parts) {
         return Progress::Float;
     }
-    if is_quoted(kind) {
+    if rules.dollar_braces && is_quoted(kind) {
         return Progress::Quoted(Role::Other);
     }
     Progress::Names {
@@ -68,29 +68,30 @@ pub(crate) fn start(kind: NodeKind, parts: Parts) -> Progress
 /// The token that these parts begin with, before the others.
 pub(crate) fn leaf(
     writer: &mut Writer,
+    rules: Rules,
     progress: Progress,
     token: Word,
     parts: Parts,
     behind: Parts,
 ) -> Result<Progress, AllocError>
     ensures { (around : Bool → Option Around) (i : Bool) → forest_in parts.entry ≡ leaf_then (seen token.entry) (forest_in behind.entry) →
-        IfOk result (λ p. left_walked p around false (forest_in behind.entry) writer.new
-        ≡ left_walked progress around i (leaf_then (seen token.entry) (forest_in behind.entry)) writer.old) }
+        IfOk result (λ p. left_walked rules p around false (forest_in behind.entry) writer.new
+        ≡ left_walked rules progress around i (leaf_then (seen token.entry) (forest_in behind.entry)) writer.old) }
 {
     match progress {
         Progress::Names { braces, inner } => {
-            let inner = named(writer, braces, token, parts, inner)?;
+            let inner = named(writer, rules, braces, token, parts, inner)?;
             Ok(Progress::Names { braces, inner })
         }
         Progress::Float => {
-            replaced(writer, TokenKind::Cast, token, b"(float)")?;
+            replaced(writer, rules, TokenKind::Cast, token, b"(float)")?;
             Ok(Progress::Names {
                 braces: false,
                 inner: 0,
             })
         }
         Progress::Quoted(role) => {
-            let role = text_part(writer, token, behind, role)?;
+            let role = text_part(writer, rules, token, behind, role)?;
             Ok(Progress::Quoted(role))
         }
     }
@@ -98,9 +99,9 @@ pub(crate) fn leaf(
 
 /// Behind a node.
 pub(crate) fn behind_node(progress: Progress) -> Progress
-    ensures { (around : Bool → Option Around) (i : Bool) (k : kinds.NodeKind) (c : Forest) (f : Forest) (w : Written) →
-        left_walked result around false f (draft_next (whole_names true (node_in (around i) (k, c))) w)
-        ≡ left_walked progress around i (node_then k c f) w }
+    ensures { (around : Bool → Option Around) (i : Bool) (k : kinds.NodeKind) (c : Forest) (f : Forest) (w : Written) (r : Rules) →
+        left_walked r result around false f (child_next r (around i) (k, c) w)
+        ≡ left_walked r progress around i (node_then k c f) w }
 {
     match progress {
         Progress::Names { .. } => progress,

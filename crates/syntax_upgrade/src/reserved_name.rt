@@ -192,7 +192,7 @@ fn more_behind(token: Word, parts: Parts) -> Result<usize, AllocError>
     ensures { (f : Forest) → forest_in parts.entry ≡ leaf_then (seen token.entry) f →
         IfOk result (λ n. n ≡ (head_at (seen token.entry) f).more) }
 {
-    let ahead = head_of_parts(false, token, parts)?;
+    let ahead = head_of_parts(true, false, token, parts)?;
     Ok(ahead.more)
 }
 

@@ -1,8 +1,8 @@
 // What is put round nodes.
 ghost use Rattle.std.specs.Prelude.{◌≡◌, OnOk};
 ghost use Rattle.php_rows.specs.Reading.{forest_in};
-ghost use Rattle.syntax_rules.specs.DotPrecedence.{is_regrouped as regrouped};
-ghost use Rattle.syntax_upgrade.specs.InContext.{around_of, is_nested as nested};
+ghost use Rattle.syntax_rules.specs.InContext.{around_of};
+ghost use Rattle.syntax_upgrade.specs.Laws.{nests_by, regroups_by};
 ghost use Rattle.syntax_upgrade.specs.Written.{unwrapped_if, wrapped_if};
 
 use crate::dot_precedence::is_regrouped;
@@ -11,6 +11,7 @@ use crate::writer::Writer;
 use php_rows::Parts;
 use php_tree::NodeKind;
 use std::alloc::AllocError;
+use syntax_rules::Rules;
 
 /// Where a node stands: the kind of the node around it, if any, its operator, and whether it stands first in it.
 #[derive(Clone, Copy)]
@@ -43,44 +44,46 @@ fn unwrap_if(writer: &mut Writer, is_wanted: bool) -> Result<(), AllocError>
 /// What is put round a node opens.
 pub(crate) fn open_round(
     writer: &mut Writer,
+    rules: Rules,
     around: Around,
     kind: NodeKind,
     parts: Parts,
 ) -> Result<(), AllocError>
     ensures { OnOk result (writer.new ≡ wrapped_if
-        (regrouped (around_of around.entry.outer around.entry.operator.now around.entry.is_first) (kind, forest_in parts.entry))
-        (wrapped_if (nested (around_of around.entry.outer around.entry.operator.now around.entry.is_first) kind) writer.old)) }
+        (regroups_by rules (around_of around.entry.outer around.entry.operator.now around.entry.is_first) (kind, forest_in parts.entry))
+        (wrapped_if (nests_by rules (around_of around.entry.outer around.entry.operator.now around.entry.is_first) (kind, forest_in parts.entry)) writer.old)) }
 {
     let operator = around.operator;
     wrap_if(
         writer,
-        is_nested(around.outer, operator, around.is_first, kind),
+        rules.nested_ternaries && is_nested(around.outer, operator, around.is_first, kind),
     )?;
     wrap_if(
         writer,
-        is_regrouped(around.outer, operator, around.is_first, kind, parts),
+        rules.dot_operands && is_regrouped(around.outer, operator, around.is_first, kind, parts),
     )
 }
 
 /// What is put round a node closes.
 pub(crate) fn close_round(
     writer: &mut Writer,
+    rules: Rules,
     around: Around,
     kind: NodeKind,
     parts: Parts,
 ) -> Result<(), AllocError>
     ensures { OnOk result (writer.new ≡ unwrapped_if
-        (nested (around_of around.entry.outer around.entry.operator.now around.entry.is_first) kind)
-        (unwrapped_if (regrouped (around_of around.entry.outer around.entry.operator.now around.entry.is_first) (kind, forest_in parts.entry))
+        (nests_by rules (around_of around.entry.outer around.entry.operator.now around.entry.is_first) (kind, forest_in parts.entry))
+        (unwrapped_if (regroups_by rules (around_of around.entry.outer around.entry.operator.now around.entry.is_first) (kind, forest_in parts.entry))
         writer.old)) }
 {
     let operator = around.operator;
     unwrap_if(
         writer,
-        is_regrouped(around.outer, operator, around.is_first, kind, parts),
+        rules.dot_operands && is_regrouped(around.outer, operator, around.is_first, kind, parts),
     )?;
     unwrap_if(
         writer,
-        is_nested(around.outer, operator, around.is_first, kind),
+        rules.nested_ternaries && is_nested(around.outer, operator, around.is_first, kind),
     )
 }

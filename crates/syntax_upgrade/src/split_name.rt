@@ -11,11 +11,11 @@ ghost use Rattle.php_rows.specs.Reading.{forest_in, begins_with_token};
 ghost use Rattle.syntax_rules.specs.Around.{Around};
 ghost use Rattle.tracked_changes.specs.Tokens.{retexted};
 ghost use Rattle.syntax_rules.specs.DollarBrace.{dollar_name};
-ghost use Rattle.syntax_rules.specs.HashComment.{hash_comment};
+ghost use Rattle.syntax_rules.specs.Together.{token_by};
 ghost use Rattle.syntax_rules.specs.SplitName.{begins_root as root, is_backslash as backslash, is_keyword as keyword, keyword_behind as keyword_after, is_label as label, is_name as name, is_namespace as namespace, is_nothing as nothing, is_one as one, is_op as op, one_name};
-ghost use Rattle.syntax_upgrade.specs.Heads.{alone_first, may_go_on as goes_on, own_of, shown, shown_if_any};
+ghost use Rattle.syntax_upgrade.specs.Heads.{alone_first, bare_of, may_go_on as goes_on, own_of, shown, shown_if_any};
 ghost use Rattle.syntax_upgrade.specs.Written.{wants_space as wants};
-ghost use Rattle.syntax_upgrade.specs.NamesWalked.{Head, begins as head, head_of, walked};
+ghost use Rattle.syntax_upgrade.specs.NamesWalked.{Head, are_one as one_by, begins as head, head_of, walked};
 ghost use Rattle.syntax_upgrade.specs.Words.{seen};
 
 use crate::steps::{first as first_of, inner as inside_name};
@@ -23,6 +23,7 @@ use crate::word::Word;
 use crate::words::word_of;
 use crate::writer::Writer;
 use php_rows::Parts;
+use syntax_rules::Rules;
 use php_terminals::tokens::Tokens;
 use php_tree::TokenKind;
 use std::alloc::AllocError;
@@ -40,11 +41,11 @@ pub(crate) struct Ahead {
 }
 
 impl Ahead {
-    /// Whether a space is wanted before it, behind a keyword or not.
-    pub(crate) fn wants_space(self, behind: bool) -> bool
-        ensures { (h : Head) → self ≡ shown h → result ≡ wants behind h.token }
+    /// Whether a space is wanted before it, where names are set apart, behind a keyword or not.
+    pub(crate) fn wants_space(self, apart: bool, behind: bool) -> bool
+        ensures { (h : Head) → self ≡ shown h → result ≡ wants apart behind h.token }
     {
-        behind && is_name(self.kind) && self.rooted && self.lead_empty
+        apart && behind && is_name(self.kind) && self.rooted && self.lead_empty
     }
 
     /// Whether a keyword stands directly behind it, where one stood before it or not.
@@ -68,7 +69,8 @@ fn begins_root(text: &[u8]) -> bool
     }
 }
 
-fn is_nothing(text: &[u8]) -> bool
+/// Whether there are no bytes.
+pub(crate) fn is_nothing(text: &[u8]) -> bool
     ensures { result ≡ nothing text.now }
 {
     match text {
@@ -85,7 +87,7 @@ fn is_brace(text: &[u8]) -> bool
 
 // The kind that a token becomes, in an offset in braces or elsewhere.
 fn kind_in(braces: bool, token: Word) -> TokenKind
-    ensures { result ≡ (own_of braces (seen token.entry)).kind }
+    ensures { result ≡ (bare_of braces (seen token.entry)).kind }
 {
     if braces && is_brace(token.text) {
         TokenKind::Op
@@ -96,7 +98,7 @@ fn kind_in(braces: bool, token: Word) -> TokenKind
 
 /// A token alone.
 pub(crate) fn alone(braces: bool, token: Word) -> Ahead
-    ensures { result ≡ shown (record { more = 0; token = own_of braces (seen token.entry) }) }
+    ensures { (r : Rules) → result ≡ shown (record { more = 0; token = own_of r braces (seen token.entry) }) }
 {
     let lead = token.lead;
     let text = token.text;
@@ -136,22 +138,29 @@ fn is_keyword(kind: TokenKind) -> bool
 
 // Whether a token is the operator `\`.
 fn is_backslash(braces: bool, token: Word) -> bool
-    ensures { result ≡ backslash (own_of braces (seen token.entry)) }
+    ensures { result ≡ backslash (bare_of braces (seen token.entry)) }
 {
     is_op(kind_in(braces, token)) && token.text == b"\\".as_slice()
 }
 
 // Whether a token is a label, or the keyword `namespace`.
 fn begins_name(braces: bool, token: Word) -> bool
-    ensures { result ≡ (label (own_of braces (seen token.entry)).kind || namespace (own_of braces (seen token.entry))) }
+    ensures { result ≡ (label (bare_of braces (seen token.entry)).kind || namespace (bare_of braces (seen token.entry))) }
 {
     let kind = kind_in(braces, token);
     is_label(kind) || (is_keyword(kind) && token.text.eq_ignore_ascii_case(b"namespace"))
 }
 
-// Whether a token and what is ahead are one name.
+// Whether a token and what is ahead are one name, where trivia inside a name are deleted or not.
+fn are_one(delete: bool, braces: bool, token: Word, ahead: Ahead) -> bool
+    ensures { (h : Head) → ahead ≡ shown h → result ≡ one_by delete (bare_of braces (seen token.entry)) h.token }
+{
+    is_one(braces, token, ahead) && (delete || ahead.lead_empty)
+}
+
+// Whether a token and what is ahead may be one name.
 fn is_one(braces: bool, token: Word, ahead: Ahead) -> bool
-    ensures { (h : Head) → ahead ≡ shown h → result ≡ one (own_of braces (seen token.entry)) h.token }
+    ensures { (h : Head) → ahead ≡ shown h → result ≡ one (bare_of braces (seen token.entry)) h.token }
 {
     (is_backslash(braces, token)
         && (is_label(ahead.kind) || (is_name(ahead.kind) && !ahead.rooted)))
@@ -159,12 +168,12 @@ fn is_one(braces: bool, token: Word, ahead: Ahead) -> bool
 }
 
 // A token in front of what is ahead. The only error is want of memory.
-fn in_front(braces: bool, token: Word, ahead: Option<Ahead>) -> Result<Ahead, AllocError>
-    ensures { (o : Option Head) → ahead ≡ shown_if_any o → IfOk result (λ a. a ≡ shown (head_of (own_of braces (seen token.entry)) o)) }
+fn in_front(delete: bool, braces: bool, token: Word, ahead: Option<Ahead>) -> Result<Ahead, AllocError>
+    ensures { (r : Rules) (o : Option Head) → ahead ≡ shown_if_any o → IfOk result (λ a. a ≡ shown (head_of delete (own_of r braces (seen token.entry)) o)) }
 {
     match ahead {
         Some(ahead) => {
-            if is_one(braces, token, ahead) {
+            if are_one(delete, braces, token, ahead) {
                 joined(token, ahead)
             } else {
                 Ok(alone(braces, token))
@@ -196,8 +205,8 @@ fn is_empty(empty: bool, ahead: Ahead) -> bool
 
 // A token that is one with what is ahead.
 fn joined(token: Word, ahead: Ahead) -> Result<Ahead, AllocError>
-    ensures { (h : Head) (braces : Bool) → ahead ≡ shown h →
-        IfOk result (λ a. a ≡ shown (record { more = suc h.more; token = one_name (own_of braces (seen token.entry)) h.token })) }
+    ensures { (r : Rules) (h : Head) (braces : Bool) → ahead ≡ shown h →
+        IfOk result (λ a. a ≡ shown (record { more = suc h.more; token = one_name (own_of r braces (seen token.entry)) h.token })) }
 {
     let lead = token.lead;
     let text = token.text;
@@ -215,7 +224,7 @@ fn joined(token: Word, ahead: Ahead) -> Result<Ahead, AllocError>
 
 // Whether a token may be one with what is behind it.
 fn may_go_on(braces: bool, token: Word) -> bool
-    ensures { result ≡ goes_on (own_of braces (seen token.entry)) }
+    ensures { result ≡ goes_on (bare_of braces (seen token.entry)) }
 {
     is_backslash(braces, token) || begins_name(braces, token)
 }
@@ -223,9 +232,9 @@ fn may_go_on(braces: bool, token: Word) -> bool
 // How many of some tokens from the first on may be one with what is behind them.
 fn run(braces: bool, tokens: Tokens) -> usize
     ensures within { result ≤ length (tokens_in tokens.entry) }
-    ensures ended { (f : Forest) → begins_with_token f ≡ false →
-        head (own_of braces) (leafed (drop result (tokens_in tokens.entry)) f)
-        ≡ alone_first (own_of braces) (leafed (drop result (tokens_in tokens.entry)) f) }
+    ensures ended { (r : Rules) (delete : Bool) (f : Forest) → begins_with_token f ≡ false →
+        head delete (own_of r braces) (leafed (drop result (tokens_in tokens.entry)) f)
+        ≡ alone_first (own_of r braces) (leafed (drop result (tokens_in tokens.entry)) f) }
 {
     let mut count = 0;
     while count < tokens.marks.len() {
@@ -239,8 +248,8 @@ fn run(braces: bool, tokens: Tokens) -> usize
 
 // The token that these begin with behind so many, alone, if any.
 fn first(braces: bool, tokens: Tokens, at: usize) -> Option<Ahead>
-    ensures { (f : Forest) → begins_with_token f ≡ false →
-        result ≡ shown_if_any (alone_first (own_of braces) (leafed (drop at (tokens_in tokens.entry)) f)) }
+    ensures { (r : Rules) (f : Forest) → begins_with_token f ≡ false →
+        result ≡ shown_if_any (alone_first (own_of r braces) (leafed (drop at (tokens_in tokens.entry)) f)) }
 {
     if at < tokens.marks.len() {
         Some(alone(braces, word_of(tokens, at)))
@@ -251,28 +260,33 @@ fn first(braces: bool, tokens: Tokens, at: usize) -> Option<Ahead>
 
 /// What these parts begin with: a token, or a whole name. None where they begin with a node, or are none. The only error is
 /// want of memory.
-pub(crate) fn begins(braces: bool, parts: Parts) -> Result<Option<Ahead>, AllocError>
-    ensures { IfOk result (λ a. a ≡ shown_if_any (head (own_of braces) (forest_in parts.entry))) }
+pub(crate) fn begins(delete: bool, braces: bool, parts: Parts) -> Result<Option<Ahead>, AllocError>
+    ensures { (r : Rules) → IfOk result (λ a. a ≡ shown_if_any (head delete (own_of r braces) (forest_in parts.entry))) }
 {
     let tokens = parts.leading();
     let mut left = run(braces, tokens);
     let mut ahead = first(braces, tokens, left);
     while left > 0 {
         left -= 1;
-        ahead = Some(in_front(braces, word_of(tokens, left), ahead)?);
+        ahead = Some(in_front(delete, braces, word_of(tokens, left), ahead)?);
     }
     Ok(ahead)
 }
 
 /// The first of some parts, a token: alone, or the name that begins with it.
-pub(crate) fn head_of_parts(braces: bool, token: Word, parts: Parts) -> Result<Ahead, AllocError>
-    ensures { (f : Forest) → forest_in parts.entry ≡ leaf_then (seen token.entry) f →
-        IfOk result (λ a. a ≡ shown (head_of (own_of braces (seen token.entry)) (head (own_of braces) f))) }
+pub(crate) fn head_of_parts(
+    delete: bool,
+    braces: bool,
+    token: Word,
+    parts: Parts,
+) -> Result<Ahead, AllocError>
+    ensures { (r : Rules) (f : Forest) → forest_in parts.entry ≡ leaf_then (seen token.entry) f →
+        IfOk result (λ a. a ≡ shown (head_of delete (own_of r braces (seen token.entry)) (head delete (own_of r braces) f))) }
 {
     if !may_go_on(braces, token) {
         return Ok(alone(braces, token));
     }
-    match begins(braces, parts)? {
+    match begins(delete, braces, parts)? {
         Some(ahead) => Ok(ahead),
         None => Ok(alone(braces, token)),
     }
@@ -281,27 +295,28 @@ pub(crate) fn head_of_parts(braces: bool, token: Word, parts: Parts) -> Result<A
 /// The first token of these parts, where the next so many are inside a name, and then how many are.
 pub(crate) fn named(
     writer: &mut Writer,
+    rules: Rules,
     braces: bool,
     token: Word,
     parts: Parts,
     inner: usize,
 ) -> Result<usize, AllocError>
     ensures { (around : Bool → Option Around) (i : Bool) (f : Forest) → forest_in parts.entry ≡ leaf_then (seen token.entry) f →
-        IfOk result (λ n. walked (own_of braces) around false n f writer.new
-        ≡ walked (own_of braces) around i inner (leaf_then (seen token.entry) f) writer.old) }
+        IfOk result (λ n. walked rules (own_of rules braces) around false n f writer.new
+        ≡ walked rules (own_of rules braces) around i inner (leaf_then (seen token.entry) f) writer.old) }
 {
     if inner > 0 {
         inside_name(writer, braces, token)?;
         return Ok(inner - 1);
     }
-    let ahead = head_of_parts(braces, token, parts)?;
-    first_of(writer, braces, token, ahead)?;
+    let ahead = head_of_parts(rules.split_names, braces, token, parts)?;
+    first_of(writer, rules, braces, token, ahead)?;
     Ok(ahead.more)
 }
 
 /// A token alone that becomes one of another kind.
 pub(crate) fn as_kind(kind: TokenKind, token: Word) -> Ahead
-    ensures { (text : List ℕ) → result ≡ shown (record { more = 0; token = retexted kind text (hash_comment (seen token.entry)) }) }
+    ensures { (r : Rules) (text : List ℕ) → result ≡ shown (record { more = 0; token = retexted kind text (token_by r (seen token.entry)) }) }
 {
     let own = alone(false, token);
     Ahead { kind, ..own }
@@ -309,7 +324,7 @@ pub(crate) fn as_kind(kind: TokenKind, token: Word) -> Ahead
 
 /// The name behind `${`, which becomes a variable.
 pub(crate) fn as_dollar_name(token: Word) -> Ahead
-    ensures { result ≡ shown (record { more = 0; token = dollar_name (hash_comment (seen token.entry)) }) }
+    ensures { (r : Rules) → result ≡ shown (record { more = 0; token = dollar_name (token_by r (seen token.entry)) }) }
 {
     let lead = token.lead;
     let text = token.text;

@@ -5,7 +5,7 @@
 ghost use Rattle.std.specs.Prelude.{◌≡◌, ◌<◌, ◌++◌, length, map, OnOk, option_map};
 ghost use Rattle.php_rows.specs.Reading.{forest_in};
 ghost use Rattle.syntax_upgrade.specs.Words.{both_seen, seen};
-ghost use Rattle.syntax_rules.specs.UnsetCast.{is_undecided as undecided, is_variable as variable};
+ghost use Rattle.syntax_rules.specs.UnsetCast.{is_edited as edited, is_undecided as undecided, is_variable as variable};
 ghost use Rattle.php_tree.specs.Places.{end_of};
 ghost use Rattle.syntax_upgrade.specs.Found.{found_of};
 ghost use Rattle.syntax_upgrade.specs.Reports.{cast_reports};
@@ -23,6 +23,7 @@ use php_rows::Parts;
 use php_tree::{NodeKind, TokenKind};
 use rule_tables::{Cause, RuleId};
 use std::alloc::AllocError;
+use syntax_rules::Rules;
 
 fn is_variable(kind: NodeKind, token: TokenKind) -> bool
     ensures { result ≡ variable kind token }
@@ -68,11 +69,15 @@ fn tokens_in<'a>(parts: Parts<'a>) -> Option<(Word<'a>, Word<'a>)>
     }
 }
 
-/// The tokens of a cast `(unset)` of a plain variable, if a node is one.
-pub(crate) fn unset_tokens<'a>(kind: NodeKind, parts: Parts<'a>) -> Option<(Word<'a>, Word<'a>)>
-    ensures { option_map both_seen result ≡ unset_in (kind, forest_in parts.entry) }
+/// The tokens of a cast `(unset)` of a plain variable, if a node is one and the rule is on.
+pub(crate) fn unset_tokens<'a>(
+    rules: Rules,
+    kind: NodeKind,
+    parts: Parts<'a>,
+) -> Option<(Word<'a>, Word<'a>)>
+    ensures { option_map both_seen result ≡ unset_in rules (kind, forest_in parts.entry) }
 {
-    if is_unset_cast(kind, parts) {
+    if rules.unset_casts && is_unset_cast(kind, parts) {
         tokens_in(parts)
     } else {
         None
@@ -80,12 +85,17 @@ pub(crate) fn unset_tokens<'a>(kind: NodeKind, parts: Parts<'a>) -> Option<(Word
 }
 
 /// `(null)` in the place of a cast and a variable.
-pub(crate) fn null(writer: &mut Writer, cast: Word, variable: Word) -> Result<(), AllocError>
+pub(crate) fn null(
+    writer: &mut Writer,
+    rules: Rules,
+    cast: Word,
+    variable: Word,
+) -> Result<(), AllocError>
     requires { 0 < length cast.text.now }
-    ensures { OnOk result (writer.new ≡ token_next (null_token (seen cast.entry) (seen variable.entry)) writer.old) }
+    ensures { OnOk result (writer.new ≡ token_next rules.split_names (null_token rules (seen cast.entry) (seen variable.entry)) writer.old) }
 {
     let _variable = variable;
-    writer.begin(cast.lead, as_kind(TokenKind::Op, cast))?;
+    writer.begin(rules, cast.lead, as_kind(TokenKind::Op, cast))?;
     writer.changed(b"(")?;
     writer.also(b"null")?;
     writer.also(b")")
@@ -97,6 +107,14 @@ fn is_undecided(kind: NodeKind, parts: Parts) -> bool
     ensures { result ≡ undecided (kind, forest_in parts.entry) }
 {
     is_unset_cast(kind, parts) && tokens_in(parts).is_none()
+}
+
+/// Whether a node is a cast `(unset)` of a plain variable.
+#[tactic(auto, using(crate::proofs::Nulls::edited_by))]
+pub(crate) fn is_edited(kind: NodeKind, parts: Parts) -> bool
+    ensures { result ≡ edited (kind, forest_in parts.entry) }
+{
+    is_unset_cast(kind, parts) && tokens_in(parts).is_some()
 }
 
 /// Puts a cast `(unset)` of anything but a plain variable, which begins and ends at these places, behind other places.

@@ -3,23 +3,25 @@ ghost use Rattle.std.specs.Prelude.{◌≡◌, ◌++◌, Some, None, true, zero,
 ghost use Rattle.php_tree.specs.Tree.{alone};
 ghost use Rattle.php_tree.specs.Places.{end_of};
 ghost use Rattle.php_rows.specs.Reading.{forest_in};
-ghost use Rattle.syntax_rules.specs.SplitName.{whole_names};
 ghost use Rattle.syntax_upgrade.specs.Found.{found_of};
-ghost use Rattle.syntax_upgrade.specs.InContext.{around_of, inside, node_in};
+ghost use Rattle.syntax_rules.specs.InContext.{around_of};
 ghost use Rattle.syntax_upgrade.specs.Labels.{labels_in};
+ghost use Rattle.syntax_upgrade.specs.Laws.{own_next};
+ghost use Rattle.syntax_upgrade.specs.NamesWalked.{child_next};
+ghost use Rattle.syntax_upgrade.specs.OffPlaces.{child_off, inside_off, off_in};
 ghost use Rattle.syntax_upgrade.specs.Progress.{left_walked};
-ghost use Rattle.syntax_upgrade.specs.Quotable.{AreQuotable};
+ghost use Rattle.syntax_rules.specs.Quotable.{AreQuotable};
 ghost use Rattle.syntax_upgrade.specs.Reports.{at_node, reports_in};
 ghost use Rattle.syntax_upgrade.specs.ReservedName.{at_first as standing_first};
 ghost use Rattle.syntax_upgrade.specs.UnsetCast.{unset_in};
 ghost use Rattle.syntax_upgrade.specs.Walk.{around_home, kind_of};
 ghost use Rattle.syntax_upgrade.specs.Words.{both_seen, seen};
-ghost use Rattle.syntax_upgrade.specs.Written.{draft_next};
 
 use crate::dot_precedence::operator_of;
 use crate::found::Found;
 use crate::labels::Labels;
-use crate::next::{Part, next};
+use crate::next::{Part, next, others};
+use crate::off_places::OffPlaces;
 use crate::past::past_token;
 use crate::progress::{Progress, behind_node, leaf, start};
 use crate::reports::add_at_node;
@@ -31,13 +33,15 @@ use crate::writer::Writer;
 use php_rows::Parts;
 use php_tree::NodeKind;
 use std::alloc::AllocError;
+use syntax_rules::Rules;
 
-/// What a walk wrote and found.
+/// What a walk wrote and found, of rules that are off too.
 #[derive(Drop)]
 pub(crate) struct Walk {
     pub(crate) writer: Writer,
     pub(crate) found: Vec<Found>,
     pub(crate) labels: Labels,
+    pub(crate) off: OffPlaces,
 }
 
 /// The node whose parts are walked, if any, and its operator.
@@ -61,6 +65,7 @@ fn kind_in(outer: Option<NodeKind>) -> NodeKind
 #[cycle(walk)]
 pub(crate) fn walk_parts(
     walk: &mut Walk,
+    rules: Rules,
     home: Home,
     progress: Progress,
     parts: Parts,
@@ -68,24 +73,30 @@ pub(crate) fn walk_parts(
 ) -> Result<u32, AllocError>
     requires quotable { AreQuotable (forest_in parts) }
     ensures written { OnOk result (walk.new.writer
-        ≡ left_walked progress (around_home home.entry.outer home.entry.operator.now) true (forest_in parts.entry) walk.old.writer) }
+        ≡ left_walked rules progress (around_home home.entry.outer home.entry.operator.now) true (forest_in parts.entry) walk.old.writer) }
     ensures found { OnOk result (map found_of walk.new.found.items ≡ map found_of walk.old.found.items
         ++ reports_in (kind_of home.entry.outer) standing_first zero at (forest_in parts.entry)) }
     ensures labels { OnOk result (walk.new.labels ≡ labels_in at (forest_in parts.entry) walk.old.labels) }
+    ensures off { OnOk result (walk.new.off
+        ≡ off_in rules (around_home home.entry.outer home.entry.operator.now) true zero at (forest_in parts.entry) walk.old.off) }
     ensures end { IfOk result (λ e. e ≡ end_of at (forest_in parts.entry)) }
 {
     let kind = kind_in(home.outer);
     let mut left = parts;
     let mut written = progress;
     let mut spot = at_front(at);
+    let mut inner_tokens = 0;
     let mut is_first = true;
     'parts: loop {
         let here = left;
         match next(&mut left) {
             None => return Ok(spot.place),
             Some(Part::Leaf(token)) => {
-                written = leaf(&mut walk.writer, written, token, here, left)?;
+                written = leaf(&mut walk.writer, rules, written, token, here, left)?;
                 walk.labels.step(spot.place, token)?;
+                inner_tokens = walk
+                    .off
+                    .token(rules, inner_tokens, spot.place, token, here, left)?;
                 spot = word(kind, spot, token, here, left, &mut walk.found)?;
                 is_first = false;
             }
@@ -95,9 +106,10 @@ pub(crate) fn walk_parts(
                     operator: home.operator,
                     is_first,
                 };
-                let end = walk_child(walk, around, inner, inside, spot.place)?;
+                let end = walk_child(walk, rules, around, inner, inside, spot.place)?;
                 written = behind_node(written);
                 spot = behind_inner(spot, end);
+                inner_tokens = 0;
                 is_first = false;
             }
         }
@@ -108,71 +120,85 @@ pub(crate) fn walk_parts(
 #[cycle(walk)]
 fn walk_child(
     walk: &mut Walk,
+    rules: Rules,
     around: Around,
     kind: NodeKind,
     parts: Parts,
     at: u32,
 ) -> Result<u32, AllocError>
     requires quotable { AreQuotable (alone (kind, forest_in parts)) }
-    ensures written { OnOk result (walk.new.writer ≡ draft_next (whole_names true
-        (node_in (around_of around.entry.outer around.entry.operator.now around.entry.is_first) (kind, forest_in parts.entry))) walk.old.writer) }
+    ensures written { OnOk result (walk.new.writer ≡ child_next rules
+        (around_of around.entry.outer around.entry.operator.now around.entry.is_first) (kind, forest_in parts.entry) walk.old.writer) }
     ensures found { OnOk result (map found_of walk.new.found.items ≡ map found_of walk.old.found.items
         ++ (reports_in kind standing_first zero at (forest_in parts.entry) ++ at_node at (kind, forest_in parts.entry))) }
     ensures labels { OnOk result (walk.new.labels ≡ labels_in at (forest_in parts.entry) walk.old.labels) }
+    ensures off { OnOk result (walk.new.off ≡ child_off rules
+        (around_of around.entry.outer around.entry.operator.now around.entry.is_first) at (kind, forest_in parts.entry) walk.old.off) }
     ensures end { IfOk result (λ e. e ≡ end_of at (forest_in parts.entry)) }
 {
-    open_round(&mut walk.writer, around, kind, parts)?;
-    let end = walk_inside(walk, kind, parts, at)?;
-    close_round(&mut walk.writer, around, kind, parts)?;
+    open_round(&mut walk.writer, rules, around, kind, parts)?;
+    let end = walk_inside(walk, rules, kind, parts, at)?;
+    close_round(&mut walk.writer, rules, around, kind, parts)?;
+    walk.off.node(rules, around, kind, parts, at, end)?;
     add_at_node(kind, parts, at, end, &mut walk.found)?;
     Ok(end)
 }
 
 // A node without what is put round it.
 #[cycle(walk)]
-fn walk_inside(walk: &mut Walk, kind: NodeKind, parts: Parts, at: u32) -> Result<u32, AllocError>
+fn walk_inside(
+    walk: &mut Walk,
+    rules: Rules,
+    kind: NodeKind,
+    parts: Parts,
+    at: u32,
+) -> Result<u32, AllocError>
     requires quotable { AreQuotable (alone (kind, forest_in parts)) }
     ensures written { OnOk result (walk.new.writer
-        ≡ draft_next (whole_names true (inside (kind, forest_in parts.entry)).1) walk.old.writer) }
+        ≡ own_next rules (kind, forest_in parts.entry) walk.old.writer) }
     ensures found { OnOk result (map found_of walk.new.found.items ≡ map found_of walk.old.found.items
         ++ reports_in kind standing_first zero at (forest_in parts.entry)) }
     ensures labels { OnOk result (walk.new.labels ≡ labels_in at (forest_in parts.entry) walk.old.labels) }
+    ensures off { OnOk result (walk.new.off ≡ inside_off rules at (kind, forest_in parts.entry) walk.old.off) }
     ensures end { IfOk result (λ e. e ≡ end_of at (forest_in parts.entry)) }
 {
-    if let Some((cast, variable)) = unset_tokens(kind, parts) {
-        let end = walk_unset(walk, kind, parts, cast, variable, at)?;
+    if let Some((cast, variable)) = unset_tokens(rules, kind, parts) {
+        let end = walk_unset(walk, rules, kind, parts, cast, variable, at)?;
         return Ok(end);
     }
     let home = Home {
         outer: Some(kind),
         operator: operator_of(parts),
     };
-    let end = walk_parts(walk, home, start(kind, parts), parts, at)?;
+    let end = walk_parts(walk, rules, home, start(rules, kind, parts), parts, at)?;
     Ok(end)
 }
 
 // A cast `(unset)` of a plain variable, by its two tokens.
 fn walk_unset(
     walk: &mut Walk,
+    rules: Rules,
     kind: NodeKind,
     parts: Parts,
     cast: Word,
     variable: Word,
     at: u32,
 ) -> Result<u32, AllocError>
-    requires unset { Some (both_seen (cast, variable)) ≡ unset_in (kind, forest_in parts) }
+    requires unset { Some (both_seen (cast, variable)) ≡ unset_in rules (kind, forest_in parts) }
     requires quotable { AreQuotable (alone (kind, forest_in parts)) }
     ensures written { OnOk result (walk.new.writer
-        ≡ draft_next (whole_names true (inside (kind, forest_in parts.entry)).1) walk.old.writer) }
+        ≡ own_next rules (kind, forest_in parts.entry) walk.old.writer) }
     ensures found { OnOk result (map found_of walk.new.found.items ≡ map found_of walk.old.found.items
         ++ reports_in kind standing_first zero at (forest_in parts.entry)) }
     ensures labels { OnOk result (walk.new.labels ≡ labels_in at (forest_in parts.entry) walk.old.labels) }
+    ensures off { OnOk result (walk.new.off ≡ inside_off rules at (kind, forest_in parts.entry) walk.old.off) }
     ensures end { IfOk result (λ e. e ≡ end_of at (forest_in parts.entry)) }
 {
     let _kind = kind;
     let _parts = parts;
-    null(&mut walk.writer, cast, variable)?;
+    null(&mut walk.writer, rules, cast, variable)?;
     walk.labels.step(at, cast)?;
+    walk.off.alone(rules, at, cast, others(parts))?;
     let behind = past_token(at, cast)?;
     walk.labels.step(behind, variable)?;
     let end = past_token(behind, variable)?;

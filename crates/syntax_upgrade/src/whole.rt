@@ -6,13 +6,14 @@ ghost use Rattle.php_tree.specs.declared.kind.NodeKind.TheVariants.{Block};
 ghost use Rattle.php_terminals.specs.declared.terminal.Terminal.TheVariants.{End};
 ghost use Rattle.php_rows.specs.File.{file_in};
 ghost use Rattle.tracked_changes.specs.Draft.{token_pieces};
-ghost use Rattle.syntax_rules.specs.HashComment.{hash_comment};
-ghost use Rattle.syntax_rules.specs.Rewritten as rules;
+ghost use Rattle.syntax_rules.specs.Together.{token_by};
+ghost use Rattle.syntax_rules.specs.Rewritten.{edits_by, rewritten_by};
 ghost use Rattle.syntax_upgrade.specs.Enums.{enums};
 ghost use Rattle.syntax_upgrade.specs.Found.{found_of, order_of};
 ghost use Rattle.syntax_upgrade.specs.Laws.{file_next};
-ghost use Rattle.syntax_upgrade.specs.Quotable.{AreQuotable};
-ghost use Rattle.syntax_upgrade.specs.Reports.{reports as reports_of, reports_in};
+ghost use Rattle.syntax_rules.specs.Quotable.{AreQuotable};
+ghost use Rattle.syntax_upgrade.specs.OffPlaces.{off_reports};
+ghost use Rattle.syntax_upgrade.specs.Reports.{reports_by, reports_in};
 ghost use Rattle.syntax_upgrade.specs.ReservedName.{at_first};
 ghost use Rattle.syntax_upgrade.specs.Steps.{recorded_next};
 ghost use Rattle.syntax_upgrade.specs.Words.{seen};
@@ -20,6 +21,7 @@ ghost use Rattle.syntax_upgrade.specs.Writing.{pieces_next};
 
 use crate::found::{Found, in_order};
 use crate::labels::Labels;
+use crate::off_places::OffPlaces;
 use crate::progress::Progress;
 use crate::walk::{Home, Walk, walk_parts};
 use crate::word::Word;
@@ -27,6 +29,7 @@ use crate::words::word_at;
 use crate::writer::Writer;
 use php_rows::RowTree;
 use std::alloc::{AllocError, Global};
+use syntax_rules::Rules;
 
 /// A file upgraded: its new bytes, how many edits made them, and what is reported, in order of start, then end, then the
 /// rule's number.
@@ -38,10 +41,10 @@ pub struct Upgrade {
 }
 
 // The token at the end of a file.
-fn end_token(writer: &mut Writer, token: Word) -> Result<(), AllocError>
-    ensures { OnOk result (writer.new ≡ recorded_next (pieces_next (token_pieces (hash_comment (seen token.entry)))) writer.old) }
+fn end_token(writer: &mut Writer, rules: Rules, token: Word) -> Result<(), AllocError>
+    ensures { OnOk result (writer.new ≡ recorded_next (pieces_next (token_pieces (token_by rules (seen token.entry)))) writer.old) }
 {
-    writer.trivia(token.lead)?;
+    writer.trivia(rules, token.lead)?;
     writer.kept(token.text)
 }
 
@@ -53,18 +56,19 @@ fn join(mut first: Vec<Found>, second: Vec<Found>) -> Result<Vec<Found>, AllocEr
     Ok(first)
 }
 
-/// Upgrades a file by all rules on syntax, in one walk. The only error is want of memory; a place past 32 bits and a count that
-/// doesn't fit count as such.
-pub fn upgraded(alloc: Global, tree: &RowTree) -> Result<Upgrade, AllocError>
+/// Upgrades a file by the rules on syntax that are on, in one walk. A rule that is off is reported where it would edit, with
+/// cause off and its weight. The only error is want of memory; a place past 32 bits and a count that doesn't fit count as such.
+pub fn upgraded(alloc: Global, tree: &RowTree, rules: Rules) -> Result<Upgrade, AllocError>
     requires quotable { AreQuotable (file_in tree.now).statements }
-    ensures bytes { IfOk result (λ u. u.bytes.items ≡ file_printed (rules.rewritten (file_in tree.now))) }
-    ensures edits { IfOk result (λ u. u.edits ≡ length (rules.edits (file_in tree.now))) }
-    ensures reports { IfOk result (λ u. IsPermutation (reports_of (file_in tree.now)) (map found_of u.reports.items)) }
+    ensures bytes { IfOk result (λ u. u.bytes.items ≡ file_printed (rewritten_by rules (file_in tree.now))) }
+    ensures edits { IfOk result (λ u. u.edits ≡ length (edits_by rules (file_in tree.now))) }
+    ensures reports { IfOk result (λ u. IsPermutation (reports_by rules (file_in tree.now)) (map found_of u.reports.items)) }
     ensures ordered { IfOk result (λ u. IsNonDecreasingBy order_of u.reports.items) }
 {
-    let walk = walk_file(alloc, tree)?;
+    let walk = walk_file(alloc, tree, rules)?;
     let (bytes, edits) = walk.writer.finish();
-    let reports = in_order(join(walk.found, walk.labels.finish())?)?;
+    let undecided = join(walk.found, walk.labels.finish())?;
+    let reports = in_order(join(undecided, walk.off.finish())?)?;
     Ok(Upgrade {
         bytes,
         edits,
@@ -73,17 +77,19 @@ pub fn upgraded(alloc: Global, tree: &RowTree) -> Result<Upgrade, AllocError>
 }
 
 // The walk over the statements of a file, and the token at its end.
-fn walk_file(alloc: Global, tree: &RowTree) -> Result<Walk, AllocError>
+fn walk_file(alloc: Global, tree: &RowTree, rules: Rules) -> Result<Walk, AllocError>
     requires quotable { AreQuotable (file_in tree.now).statements }
-    ensures written { IfOk result (λ w. w.writer.recorded ≡ file_next (file_in tree.now)) }
+    ensures written { IfOk result (λ w. w.writer.recorded ≡ file_next rules (file_in tree.now)) }
     ensures found { IfOk result (λ w. map found_of w.found.items
         ≡ reports_in Block at_first zero 0 (file_in tree.now).statements) }
     ensures labels { IfOk result (λ w. w.labels.found ≡ enums End 0 (file_leaves (file_in tree.now))) }
+    ensures off { IfOk result (λ w. w.off.found ≡ off_reports rules (file_in tree.now)) }
 {
     let mut walk = Walk {
         writer: Writer::new(alloc),
         found: Vec::new(alloc),
         labels: Labels::new(alloc),
+        off: OffPlaces::new(alloc),
     };
     let top = Home {
         outer: None,
@@ -94,8 +100,9 @@ fn walk_file(alloc: Global, tree: &RowTree) -> Result<Walk, AllocError>
         inner: 0,
     };
     let last = word_at(tree.bytes(), tree.end());
-    let place = walk_parts(&mut walk, top, progress, tree.statements(), 0)?;
-    end_token(&mut walk.writer, last)?;
+    let place = walk_parts(&mut walk, rules, top, progress, tree.statements(), 0)?;
+    end_token(&mut walk.writer, rules, last)?;
     walk.labels.step(place, last)?;
+    walk.off.trivia(rules, place, last)?;
     Ok(walk)
 }

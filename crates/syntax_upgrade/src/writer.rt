@@ -2,17 +2,18 @@
 ghost use Rattle.std.specs.Prelude.{◌≡◌, ◌+◌, suc, OnOk};
 ghost use Rattle.syntax_upgrade.specs.Writing.{also_next, changed_next, front, kept_next, pieces_next};
 ghost use Rattle.syntax_upgrade.specs.Written.{at_front, opens_next, space_next, unwrapped, wrapped};
-ghost use Rattle.syntax_rules.specs.HashComment.{outside, spaced as spaced_pieces};
+ghost use Rattle.syntax_rules.specs.HashComment.{lead_by};
 ghost use Rattle.syntax_rules.specs.SplitName.{deleted as deleted_pieces};
 ghost use Rattle.syntax_upgrade.specs.Heads.{shown};
 ghost use Rattle.syntax_upgrade.specs.NamesWalked.{Head};
 ghost use Rattle.syntax_upgrade.specs.Steps.{begun_next, recorded_next};
 
-use crate::hash_comment::spaced;
+use crate::hash_comment::write_lead;
 use crate::recorder::Recorder;
 use crate::split_name::Ahead;
 use php_tree::TokenKind;
 use std::alloc::{AllocError, Global};
+use syntax_rules::Rules;
 use std::marker::Model;
 
 /// The edits up to a place, whether a keyword stands directly before it, and how many parentheses open at the next text.
@@ -60,12 +61,13 @@ impl Writer {
     }
 
     /// Before the text of what a token begins with: its trivia, the parentheses, a space.
-    pub(crate) fn begin(&mut self, lead: &[u8], ahead: Ahead) -> Result<(), AllocError>
-        ensures { (h : Head) → ahead ≡ shown h → OnOk result (self.new ≡ begun_next h (spaced_pieces outside lead.now) self.old) }
+    pub(crate) fn begin(&mut self, rules: Rules, lead: &[u8], ahead: Ahead) -> Result<(), AllocError>
+        ensures { (h : Head) → ahead ≡ shown h →
+            OnOk result (self.new ≡ begun_next rules.split_names h (lead_by rules.hash_comments lead.now) self.old) }
     {
-        let wants_space = ahead.wants_space(self.behind_keyword);
+        let wants_space = ahead.wants_space(rules.split_names, self.behind_keyword);
         let behind = ahead.keyword_behind(self.behind_keyword);
-        spaced(&mut self.recorder, lead)?;
+        write_lead(&mut self.recorder, rules.hash_comments, lead)?;
         self.open_parens()?;
         space_if(&mut self.recorder, wants_space)?;
         self.behind_keyword = behind;
@@ -94,10 +96,10 @@ impl Writer {
     }
 
     /// Trivia inside a token.
-    pub(crate) fn trivia(&mut self, lead: &[u8]) -> Result<(), AllocError>
-        ensures { OnOk result (self.new ≡ recorded_next (pieces_next (spaced_pieces outside lead.now)) self.old) }
+    pub(crate) fn trivia(&mut self, rules: Rules, lead: &[u8]) -> Result<(), AllocError>
+        ensures { OnOk result (self.new ≡ recorded_next (pieces_next (lead_by rules.hash_comments lead.now)) self.old) }
     {
-        spaced(&mut self.recorder, lead)
+        write_lead(&mut self.recorder, rules.hash_comments, lead)
     }
 
     /// Trivia that are deleted: one edit, where there are any.

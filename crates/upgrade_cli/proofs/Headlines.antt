@@ -13,7 +13,7 @@ use Rattle.php_meaning.proofs.Silent.{inside_is_covered}
 use Rattle.tracked_changes.proofs.Splicing.{edits_are_apart}
 use Rattle.syntax_rules.specs.NestedTernary.{program}
 use Rattle.syntax_rules.specs.Rewritten.{patches, draft_of, edits, rewritten}
-use Rattle.syntax_rules.specs.Together.{all_on}
+use Rattle.syntax_rules.specs.Together.{all_on, every_rule}
 use Rattle.syntax_rules.specs.Keeps.{all_rewritten}
 use Rattle.syntax_rules.proofs.TogetherKeeps.{syntax_is_rewritten}
 use Rattle.syntax_upgrade.proofs.NextEdit.{makes_rewritten}
@@ -91,7 +91,7 @@ are_direct (f ∷ g ∷ fs) trees r = absurd r
 means_the_same : (files : List (Bytes × File)) → All (λ f. Shape V74 f.1) files → All (λ f. NamesAreDirect f.1.statements) files
     → MeansTheSame files
 means_the_same files h d =
-    let keeps = shaped_files_keep_meaning files None (marks files) h d in
+    let keeps = shaped_files_keep_meaning every_rule files None (marks files) h d in
     record {
       meaning = keeps;
       runs = λ asks. inside_is_covered (program files None) (program (all_rewritten files) None) (marks files) asks keeps;

@@ -14,7 +14,7 @@ use io_ports::{PathText, SourceTree, TargetTree};
 use php_rows::RowTree;
 use rewritten_shapes::paired_laws::quoted_texts_are_walked;
 use std::alloc::{AllocError, Global};
-use syntax_upgrade::{Found, upgraded};
+use syntax_upgrade::{Found, Rules, upgraded};
 
 /// A file upgraded: the bytes to write, how many edits made them, and how many reports stand.
 #[derive(Drop)]
@@ -37,7 +37,7 @@ fn upgrade_tree(alloc: Global, tree: &RowTree) -> Result<Upgraded, AllocError>
     ensures { IfOk result (λ u. spec.IsOfTree (file_in tree.now) u) }
 {
     quoted_texts_are_walked();
-    let upgrade = upgraded(alloc, tree)?;
+    let upgrade = upgraded(alloc, tree, Rules::all())?;
     Ok(Upgraded {
         bytes: upgrade.bytes,
         edits: upgrade.edits,

@@ -20,9 +20,9 @@ use Rattle.syntax_rules.specs.HashComment.{hash_comment}
 use Rattle.syntax_rules.specs.SplitName.{is_keyword, is_label}
 use Rattle.syntax_rules.specs.SplitName as names
 use Rattle.syntax_rules.specs.Together.{is_quoted}
-use Rattle.syntax_upgrade.specs.Quotable.{AreQuotable}
-use Rattle.syntax_upgrade.specs.Texts.{anything, close, expression, is_bracket, is_loose, is_plain, is_quotable, mark, offset, place_behind, shut}
-use Rattle.syntax_upgrade.specs.Texts as place
+use Rattle.syntax_rules.specs.Quotable.{AreQuotable}
+use Rattle.syntax_rules.specs.Quotable.{anything, close, expression, is_bracket, is_loose, is_plain, is_quotable, mark, offset, place_behind, shut}
+use Rattle.syntax_rules.specs.Quotable as place
 use Rattle.rewritten_shapes.specs.paired.Laws.{QuotedTextsAreWalked}
 use Rattle.rewritten_shapes.specs.paired.Tokens.{IsMark, opens_text}
 use Rattle.rewritten_shapes.proofs.paired.Asked.{both_left, both_right, both_true}

@@ -2,7 +2,7 @@
 use Rattle.php_tree.specs.declared.version.Version.TheVariants.{V74}
 use Rattle.php_tree.specs.Tree.{File}
 use Rattle.php_shapes.specs.Shapes.{Shape}
-use Rattle.syntax_upgrade.specs.Quotable.{AreQuotable}
+use Rattle.syntax_rules.specs.Quotable.{AreQuotable}
 use Rattle.rewritten_shapes.specs.paired.Paired.{Paired}
 use Rattle.rewritten_shapes.specs.paired.Traits.{PlainTraits}
 

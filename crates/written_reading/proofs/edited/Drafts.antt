@@ -19,8 +19,8 @@ use Rattle.syntax_rules.specs.DollarBrace as braces
 use Rattle.syntax_rules.specs.DollarBrace.{begins_dollar_brace, parts}
 use Rattle.syntax_rules.specs.HashComment.{hash_comment}
 use Rattle.syntax_rules.specs.Rewritten.{wrapping}
-use Rattle.syntax_upgrade.specs.InContext.{changed_node, draft_in, is_nested, nests_in, parens_if}
-use Rattle.syntax_upgrade.proofs.Around.{wrapping_is}
+use Rattle.syntax_rules.specs.InContext.{changed_node, draft_in, is_nested, nests_in, parens_if}
+use Rattle.syntax_rules.proofs.InContext.{wrapping_is}
 use Rattle.written_tokens.specs.tokens.Written.{draft_tokens}
 use Rattle.rewritten_shapes.specs.paired.Paired.{is_common, is_ternary, may_be_grouped}
 use Rattle.rewritten_shapes.specs.paired.Tokens.{opens_text}

@@ -18,7 +18,7 @@ use Rattle.syntax_rules.specs.Casts.{bare}
 use Rattle.syntax_rules.specs.HashComment.{outside, spaced, hash_comment}
 use Rattle.syntax_rules.specs.RealCast.{is_real_cast}
 use Rattle.syntax_rules.specs.UnsetCast.{of_variable, is_edited}
-use Rattle.syntax_upgrade.specs.InContext.{changed_node, draft_in}
+use Rattle.syntax_rules.specs.InContext.{changed_node, draft_in}
 use Rattle.written_tokens.specs.tokens.Written.{draft_tokens}
 use Rattle.rewritten_shapes.specs.paired.Paired.{Paired, no_part, token, rounds, braces, part, brace_offset, cast, text}
 use Rattle.written_reading.specs.edited.PlainTexts.{has_operands, begins_plainly}

@@ -24,7 +24,7 @@ use Rattle.syntax_rules.specs.BraceOffset.{is_brace_offset, bracket, bracketed, 
 use Rattle.syntax_rules.specs.RealCast.{is_real_cast, float_first, real_cast}
 use Rattle.syntax_rules.specs.UnsetCast.{is_edited, unset_cast}
 use Rattle.syntax_rules.specs.DollarBrace.{is_dollar_brace, plain, with_offset, with_node, opened, ends_bare, escaped, is_piece, begins_dollar_brace, parts, dollar_brace}
-use Rattle.syntax_rules.specs.Together.{is_quoted, at_node, rewriting, all_on}
+use Rattle.syntax_rules.specs.Together.{is_quoted, every_rule, node_by, rewriting, all_on}
 use Rattle.syntax_rules.specs.Rewritten.{patches}
 use Rattle.written_tokens.specs.tokens.Written.{draft_tokens}
 use Rattle.written_tokens.specs.tokens.Spaced.{nameless_draft}
@@ -166,7 +166,7 @@ module _ (wraps : Patches) where
   keyed_drafted id (leaf t f) h = a_leaf (λ w. kept_text t.text (h.0 w)) (keyed_drafted id f h.1)
   keyed_drafted id (node k c f) h =
       a_node
-      (keyed_wrapped (wraps id) (at_node (all_on wraps) (k, c) (k, drafted (rewriting (all_on wraps)) (suc id) c))
+      (keyed_wrapped (wraps id) (node_by every_rule (k, c) (k, drafted (rewriting (all_on wraps)) (suc id) c))
       (edited_by (is_brace_offset k) (is_real_cast (k, c)) (is_edited (k, c)) (is_quoted k) (k, drafted (rewriting (all_on wraps)) (suc id) c) (keyed_drafted (suc id) c h.0)))
       (keyed_drafted (suc (id + count c)) f h.1)
 

@@ -11,7 +11,7 @@ use Rattle.tracked_changes.specs.Tokens.{is_text, retexted, put_also}
 use Rattle.syntax_rules.specs.Around.{Around, within}
 use Rattle.syntax_rules.specs.DollarBrace.{is_dollar_brace, is_piece, begins_dollar_brace, escaped, parts, curly, dollar_name}
 use Rattle.syntax_rules.specs.HashComment.{hash_comment}
-use Rattle.syntax_upgrade.specs.InContext.{draft_in}
+use Rattle.syntax_rules.specs.InContext.{draft_in}
 use Rattle.written_tokens.specs.tokens.Written.{draft_tokens}
 use Rattle.written_tokens.specs.names.Fronts.{FrontOfRow}
 use Rattle.rewritten_shapes.specs.paired.Paired.{IsKey, label, number, negative, variable, IsSimple, alone, with_offset, with_property, Interpolated, text_end, piece, simple, curly as curly_part, named, named_offset, expression}

@@ -15,7 +15,7 @@ use Rattle.syntax_rules.specs.BraceOffset.{bracket}
 use Rattle.syntax_rules.specs.HashComment.{hash_comment}
 use Rattle.syntax_rules.specs.RealCast.{is_real_cast}
 use Rattle.syntax_rules.specs.UnsetCast.{is_variable, is_unset_cast, is_edited, opening}
-use Rattle.syntax_upgrade.specs.InContext.{changed_node, draft_in}
+use Rattle.syntax_rules.specs.InContext.{changed_node, draft_in}
 use Rattle.written_tokens.specs.tokens.Written.{draft_tokens}
 use Rattle.written_tokens.specs.tiles.Becomes.{BecomesJoin}
 use Rattle.written_tokens.specs.tiles.Edits.{BracesBecome, BracesAreSquared, RoundsBecome, RoundsComeIn, CastsBecomeFloat, CastsBecomeNull}

@@ -14,7 +14,7 @@ use Rattle.syntax_rules.specs.Around.{Around, within}
 use Rattle.syntax_rules.specs.DollarBrace.{is_dollar_brace, is_piece, begins_dollar_brace, parts}
 use Rattle.syntax_rules.specs.DollarBrace as braced
 use Rattle.syntax_rules.specs.HashComment.{hash_comment}
-use Rattle.syntax_upgrade.specs.InContext.{changed_node, draft_in}
+use Rattle.syntax_rules.specs.InContext.{changed_node, draft_in}
 use Rattle.written_tokens.specs.tokens.Written.{draft_tokens}
 use Rattle.rewritten_shapes.specs.paired.Paired.{is_common, IsStanding, IsSimple, Paired, no_part, token, rounds, braces, part, brace_offset, cast, text, Interpolated, text_end, piece, simple, curly, named, named_offset, expression}
 use Rattle.rewritten_shapes.specs.paired.Tokens.{is_op, is_mark, is_code_kind, is_code_token, opens_text, has_stop, IsMark}

@@ -15,8 +15,8 @@ use Rattle.tracked_changes.specs.Pieces.{after}
 use Rattle.tracked_changes.specs.Draft.{NewToken, Draft}
 use Rattle.syntax_rules.specs.Around.{at_top}
 use Rattle.syntax_rules.specs.HashComment.{outside, spaced, hash_comment}
-use Rattle.syntax_upgrade.specs.InContext.{draft_in}
-use Rattle.syntax_upgrade.proofs.Around.{drafted_is}
+use Rattle.syntax_rules.specs.InContext.{draft_in}
+use Rattle.syntax_rules.proofs.InContext.{drafted_is}
 use Rattle.written_tokens.specs.tokens.Tokens.{InARow, TokensAreTiles}
 use Rattle.written_tokens.specs.tokens.Written.{new_lexeme, draft_tokens}
 use Rattle.written_tokens.specs.tokens.Levels.{stack_of}

@@ -15,7 +15,7 @@ use Rattle.syntax_rules.specs.BraceOffset.{is_brace_offset, bracket, bracketed, 
 use Rattle.syntax_rules.specs.RealCast.{is_real_cast, float_first, real_cast}
 use Rattle.syntax_rules.specs.UnsetCast.{is_edited, unset_cast}
 use Rattle.syntax_rules.specs.DollarBrace.{is_dollar_brace, plain, with_offset, with_node, opened, ends_bare, escaped, is_piece, begins_dollar_brace, parts, dollar_brace}
-use Rattle.syntax_rules.specs.Together.{is_quoted, at_node, rewriting, all_on}
+use Rattle.syntax_rules.specs.Together.{is_quoted, every_rule, node_by, rewriting, all_on}
 use Rattle.syntax_rules.specs.Rewritten.{patches}
 use Rattle.written_tokens.specs.tokens.Written.{draft_tokens}
 use Rattle.written_tokens.specs.names.NamesPut.{LeadsStay, LeadsOfFilesStay}
@@ -135,7 +135,7 @@ pick_tree false t u g h = h
 unset_good : (t : NewTree) → AllGood t.1 → AllGood (unset_cast t).1
 unset_good t h = (first_good t.1 h, ((refl, tt), (refl, tt)))
 
-node_at : (wraps : Patches) (s : Tree) (t : NewTree) → AllGood t.1 → AllGood (at_node (all_on wraps) s t).1
+node_at : (wraps : Patches) (s : Tree) (t : NewTree) → AllGood t.1 → AllGood (node_by every_rule s t).1
 node_at wraps s t h =
     pick_tree (is_brace_offset s.0) (brace_offset t) (cond (is_real_cast s) (real_cast t) (cond (is_edited s) (unset_cast t) (cond (is_quoted s.0) (dollar_brace t) t)))
     (bracketed_good t.1 h)
@@ -149,7 +149,7 @@ drafted_good : (wraps : Patches) (id : ℕ) (f : Forest) → AllGood (drafted (r
 drafted_good wraps id none = tt
 drafted_good wraps id (leaf t f) = (spaced_good t.lead, drafted_good wraps id f)
 drafted_good wraps id (node k c f) = (
-  wrapped_good (wraps id) (at_node (all_on wraps) (k, c) (k, drafted (rewriting (all_on wraps)) (suc id) c)) (node_at wraps (k, c) (k, drafted (rewriting (all_on wraps)) (suc id) c) (drafted_good wraps (suc id) c)),
+  wrapped_good (wraps id) (node_by every_rule (k, c) (k, drafted (rewriting (all_on wraps)) (suc id) c)) (node_at wraps (k, c) (k, drafted (rewriting (all_on wraps)) (suc id) c) (drafted_good wraps (suc id) c)),
   drafted_good wraps (suc (id + count c)) f,
 )
 

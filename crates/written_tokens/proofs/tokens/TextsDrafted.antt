@@ -21,7 +21,7 @@ use Rattle.syntax_rules.specs.BraceOffset.{is_brace_offset, bracket, bracketed, 
 use Rattle.syntax_rules.specs.RealCast.{is_real_cast, float_first, real_cast}
 use Rattle.syntax_rules.specs.UnsetCast.{is_edited, of_variable, opening, unset_cast}
 use Rattle.syntax_rules.specs.DollarBrace.{is_dollar_brace, plain, with_offset, with_node, opened, ends_bare, escaped, is_piece, begins_dollar_brace, part, parts, dollar_brace}
-use Rattle.syntax_rules.specs.Together.{is_quoted, at_node, rewriting, all_on}
+use Rattle.syntax_rules.specs.Together.{is_quoted, every_rule, node_by, rewriting, all_on}
 use Rattle.written_tokens.specs.tokens.Written.{draft_tokens}
 use Rattle.written_tokens.proofs.tokens.Texts.{is_wordy, Fine, Quiet, null, Row, no_token, a_token, a_null, row_join}
 
@@ -215,5 +215,5 @@ module _ (wraps : Patches) where
   drafted_texts id (leaf t f) h = a_leaf (λ w. kept_text t.text (h.0 w)) (drafted_texts id f h.1)
   drafted_texts id (node k c f) h =
       a_node
-      (wrapped_inner (wraps id) (at_node (all_on wraps) (k, c) (k, draft_from (suc id) c)) (edited_by (suc id) k c (is_brace_offset k) (is_real_cast (k, c)) (drafted_texts (suc id) c h.0)))
+      (wrapped_inner (wraps id) (node_by every_rule (k, c) (k, draft_from (suc id) c)) (edited_by (suc id) k c (is_brace_offset k) (is_real_cast (k, c)) (drafted_texts (suc id) c h.0)))
       (drafted_texts (suc (id + count c)) f h.1)

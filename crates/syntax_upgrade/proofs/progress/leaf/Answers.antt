@@ -19,8 +19,8 @@ returns-in_ok-replaced-in-Float c = λ around i h.
     let f = forest_in c.args.behind in
     let e : c.args.progress ≡ code.Float = c.in-Float.is in
     rw e
-    (ap (λ (w : Written). walked (own_of false) around false zero f w) c.in_ok-replaced-in-Float.ensures
-    ∙ own_false around false f (token_next (float_token (seen c.args.token)) c.args.writer.now))
+    (ap (λ (w : Written). walked c.args.rules (own_of c.args.rules false) around false zero f w) c.in_ok-replaced-in-Float.ensures
+    ∙ own_false c.args.rules around false f (token_next c.args.rules.split_names (float_token c.args.rules (seen c.args.token)) c.args.writer.now))
 
 pub returns-in_ok-role-in-Quoted : goal.returns-in_ok-role-in-Quoted
 returns-in_ok-role-in-Quoted c = λ around i h.

@@ -6,6 +6,6 @@ use Rattle.syntax_upgrade.proofs.Fronts.{first_alone}
 use Rattle.syntax_upgrade.proofs.split_name.first.Goals as goal
 
 pub returns-then-at-tokens : goal.returns-then-at-tokens
-returns-then-at-tokens c = λ f h.
-    ap Some c.alone.ensures
-    ∙ sym (ap shown_if_any (first_alone (own_of c.args.braces) (tokens_in c.args.tokens) c.args.at (seen c.word_of.result) f c.word_of.ensures))
+returns-then-at-tokens c = λ r f h.
+    ap Some (c.alone.ensures r)
+    ∙ sym (ap shown_if_any (first_alone (own_of r c.args.braces) (tokens_in c.args.tokens) c.args.at (seen c.word_of.result) f c.word_of.ensures))

@@ -1,5 +1,5 @@
 use Rattle.std.proofs.Common.{◌≡◌, ℕ, List, OnOk, codes, subst, ap, ◌∙◌}
-use Rattle.syntax_rules.specs.HashComment.{hash_comment}
+use Rattle.syntax_rules.specs.Together.{token_by}
 use Rattle.syntax_upgrade.specs.NamesWalked.{Head}
 use Rattle.syntax_upgrade.specs.Steps.{recorded_next}
 use Rattle.syntax_upgrade.specs.Words.{seen}
@@ -14,8 +14,9 @@ split_last-requires c = bare_some c.args.token.text.now c.requires
 pub returns : goal.returns
 returns c =
     let t = seen c.args.token in
+    let r = c.args.rules in
     let w = c.args.writer.now in
-    let h : Head = record { more = 0; token = hash_comment t } in
+    let h : Head = record { more = 0; token = token_by r t } in
     let put = λ (l : List ℕ) (x : Written). recorded_next (kept_next l) x in
     let slash = λ (x : Written). recorded_next (changed_next (codes "\\")) x in
     subst (λ (x : Written). OnOk c.kept-2.result (c.kept-2.new.self ≡ x))
@@ -23,6 +24,6 @@ returns c =
     ∙ ap (put _) (c.in_ok-changed.ensures
     ∙ ap slash (c.in_ok-kept.ensures
     ∙ ap (λ (f : List ℕ). put f c.begin.new.self) c.split_last.ensures.front
-    ∙ ap (put _) (c.in_ok-begin.ensures h c.alone.ensures)))
-    ∙ backslash_steps t w (bare_some t.text c.requires) c.requires)
+    ∙ ap (put _) (c.in_ok-begin.ensures h (c.alone.ensures r))))
+    ∙ backslash_steps r t w (bare_some t.text c.requires) c.requires)
     c.kept-2.ensures

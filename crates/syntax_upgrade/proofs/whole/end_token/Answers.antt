@@ -10,5 +10,5 @@ pub returns : goal.returns
 returns c =
     let t = seen c.args.token in
     subst (λ (x : Written). OnOk c.kept.result (c.kept.new.self ≡ x))
-    (ap (recorded_next (kept_next t.text)) c.in_ok-trivia.ensures ∙ end_steps t c.args.writer.now)
+    (ap (recorded_next (kept_next t.text)) c.in_ok-trivia.ensures ∙ end_steps c.args.rules t c.args.writer.now)
     c.kept.ensures
