@@ -126,13 +126,13 @@ module _ (claim : Claim) (t : Tables) where
   quoted_at {f} {g} x y e p q s marks lower low h id jd m =
       let kid : ℕ → Mode → World → Result = step false t marks lower s (leaf x f) (suc id) in
       let lid : ℕ → Mode → World → Result = step true t [] low s (leaf y g) (suc jd) in
-      let old : ℕ → Mode → World → Result = passes (λ again n u. play false (place_in s id) (going lower kid again) (rule t s kind.Quoted n (form (leaf x f))) u) in
-      let new : ℕ → Mode → World → Result = passes (λ again n u. play true (place_in s jd) (going low lid again) (rule t s kind.Quoted n (form (leaf y g))) u) in
+      let old : ℕ → Mode → World → Result = passes (place_in s id) (λ again n u. play false (place_in s id) (going lower kid again) (rule t s kind.Quoted n (form (leaf x f))) u) in
+      let new : ℕ → Mode → World → Result = passes (place_in s jd) (λ again n u. play true (place_in s jd) (going low lid again) (rule t s kind.Quoted n (form (leaf y g))) u) in
       let both : (a b : ℕ) → Plays claim (place_in s id) (place_in s jd) (going lower kid (old a)) (going low lid (new b)) (rule t s kind.Quoted m (form (leaf x f))) (rule t s kind.Quoted m (form (leaf y g))) =
       λ a b. quoted_mode x y e p q s marks lower low h id jd kid lid (old a) (new b) (λ i n w. refl) (λ i n w. refl) m in
       record {
-        grows = λ w. (both (suc w.turns) (suc w.turns)).grows w;
-        follows = λ w u z. (both (suc w.turns) (suc u.turns)).follows w u z;
+        grows = λ w. (both w.turns w.turns).grows w;
+        follows = λ w u z. (both w.turns u.turns).follows w u z;
       }
 
   -- a quoted text, at its node

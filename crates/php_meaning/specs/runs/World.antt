@@ -65,11 +65,14 @@ pub data End : Type 0 where
   Threw : Bytes → End
   Outside : Place → Cause → End
 
--- when a node is visited: before it, after it, or while an exception goes through it
+-- when a node is visited: before it, after it, or when it is left by a return, an exception, a break or a continue
 pub data Moment : Type 0 where
   Before : Moment
   After : Moment
+  Returned : Moment
   Thrown : Moment
+  Broken : Moment
+  Continued : Moment
 
 -- a visit of a node: where and when, with its value after it, and the store
 pub record Visit : Type 0 where
