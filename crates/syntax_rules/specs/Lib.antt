@@ -12,3 +12,4 @@ pub mod DollarBrace
 pub mod Together
 pub mod Rewritten
 pub mod Keeps
+pub mod DoTheSame
