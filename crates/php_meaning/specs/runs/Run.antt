@@ -251,7 +251,7 @@ first_values input c =
 abbrev pub first_frame : Frame
 first_frame = record {
   body = None;
-  variables = (codes "_GET", cell_numbered 0) ∷ (codes "_POST", cell_numbered 1) ∷ (codes "argv", cell_numbered 2) ∷ [];
+  variables = [];
   this = None;
   class = None;
   arguments = entries.none;
@@ -263,6 +263,7 @@ first_store input = record {
   held = first_values input;
   made = 3;
   serials = 0;
+  globals = (codes "_GET", cell_numbered 0) ∷ (codes "_POST", cell_numbered 1) ∷ (codes "argv", cell_numbered 2) ∷ [];
   here = first_frame;
   waiting = [];
   statics = [];
