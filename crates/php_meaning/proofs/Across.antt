@@ -1,5 +1,5 @@
 -- A 7.4 run and an 8.3 run that do the same, wherever the first stays inside and asks at handled places alone.
-use Rattle.std.specs.Prelude.{◌≡◌, ℕ, zero, suc, ◌+◌, IsTrue, List, [], ◌∷◌, ◌++◌, length, Bool, true, false, ◌&&◌, nat_eq, cond, refl, Option, Some, None}
+use Rattle.std.specs.Prelude.{◌≡◌, ℕ, zero, suc, ◌+◌, IsTrue, List, [], ◌∷◌, ◌++◌, Bool, true, false, ◌&&◌, nat_eq, nat_lt, cond, refl, Option, Some, None}
 use Rattle.std.specs.Str.{bytes_eq}
 use Rattle.std.proofs.Common.{ap, sym, ◌∙◌, subst, append_assoc}
 use Rattle.std.proofs.lemmas.Slice.Eq.{bytes_eq-Decides}
@@ -10,13 +10,13 @@ use Rattle.scope_names.specs.Slot.{Declared}
 use Rattle.scope_names.specs.Form.{parts, form, kids}
 use Rattle.scope_names.specs.Sites.{Site, file_site, is_declaration, declarations, within, beside}
 use Rattle.php_meaning.specs.names.Tables.{Tables, tables_of}
-use Rattle.php_meaning.specs.Cause.{NoRule}
+use Rattle.php_meaning.specs.Cause.{Cause, NoRule, Call}
 use Rattle.php_meaning.specs.values.Value.{Value}
 use Rattle.php_meaning.specs.runs.World.{Asked, Visit, Moment, Store, Bytes, Place, Going, Outside, Before, World}
 use Rattle.php_meaning.specs.runs.Script.{Return, Throw, Break, Continue, Out, Val, Fresh, At, Jump, Mode, Target, Kid, Again, There, File, Script, Give, Stop, Finish, Look, Put, Echo, Turn, Ask, Run}
 use Rattle.php_meaning.specs.Rules.{rule, file_script}
 use Rattle.php_meaning.specs.runs.Kinds.{is_statement}
-use Rattle.php_meaning.specs.runs.Run.{begun, Program, Mark, file_at, is_stopped, is_refused, Result, Done, Over, then_do, with_turn, play, Entry, FileStart, DeclarationStart, place_in, place_of_file, told, moment_of, value_of, left, starting, unless_stopped, going, passes, at_node, step, run_file, declared_in, run_declared, unless_refused, enter, first_world, answer, and_start, start_all}
+use Rattle.php_meaning.specs.runs.Run.{begun, Program, Mark, file_at, is_stopped, is_refused, Result, Done, Over, then_do, with_turn, play, Entry, FileStart, DeclarationStart, place_in, place_of_file, told, moment_of, value_of, left, starting, unless_stopped, going, repeated, passes, at_node, step, run_file, declared_in, run_declared, unless_refused, start, value_count, place_of_entry, enter, first_world, answer, and_start, start_all}
 use Rattle.php_meaning.specs.laws.Laws.{IsInside, SameRun}
 use Rattle.php_meaning.specs.laws.Following.{Same, DoneAlike, OverAlike}
 use Rattle.php_meaning.specs.laws.Across.{Claim, AskedAt, Show, Meets, Extends, world_in, Grown, FollowsAcross, Across, IsRewritten, nothing, token_before, token_behind, same, replaced, kept, wrapped, AreRewritten, no_more, one_more, RewrittenRunsAcross}
@@ -164,11 +164,8 @@ module _ (claim : Claim) where
       }
       both false = h
 
-  passes_across : (f l : (Mode → World → Result) → Mode → World → Result)
-      → ((x y : Mode → World → Result) → ((m : Mode) → Across claim (x m) (y m)) → (m : Mode) → Across claim (f x m) (l y m))
-      → (n : ℕ) (m : Mode) → Across claim (passes f n m) (passes l n m)
-  passes_across f l h zero m = record { grows = λ w. grown w; follows = λ w u s a i. (refl, s) }
-  passes_across f l h (suc n) m = h (passes f n) (passes l n) (λ i. passes_across f l h n i) m
+  over_across : (here there : Place) (c d : Cause) → Across claim (λ w. Over (Outside here c) w) (λ w. Over (Outside there d) w)
+  over_across here there c d = record { grows = λ w. grown w; follows = λ w u s a i. absurd i }
 
   -- neither node is the declaration that is looked for
   neither_across : (a b p q : Bool) (f g l j : World → Result) → a ≡ false → b ≡ false → Across claim g j
@@ -185,6 +182,22 @@ module _ (claim : Claim) where
       both : (x : Bool) → Across claim (λ w. elim x [ true ↦ f w | false ↦ g w ]) (λ w. elim x [ true ↦ l w | false ↦ j w ])
       both true = p
       both false = q
+
+-- what runs itself again
+module _ (claim : Claim) {A : Type 0} (free : ℕ) (out off : A → World → Result) (h' : (a : A) → Across claim (out a) (off a))
+    (f l : (A → World → Result) → A → World → Result)
+    (h : (x y : A → World → Result) → ((a : A) → Across claim (x a) (y a)) → (a : A) → Across claim (f x a) (l y a)) where
+  pub repeated_across : (n left : ℕ) (a : A) → Across claim (repeated free out f n left a) (repeated free off l n left a)
+  repeated_across zero zero a = h' a
+  repeated_across zero (suc left) a = h _ _ (repeated_across zero left) a
+  repeated_across (suc n) zero a =
+      let by : (w u : World) → Same w u → Across claim (λ x. elim (nat_lt w.turns (suc n)) [ true ↦ f (repeated free out f n free) a x | false ↦ out a x ]) (λ x. elim (nat_lt u.turns (suc n)) [ true ↦ l (repeated free off l n free) a x | false ↦ off a x ]) =
+      λ w u s. either_across claim (nat_lt w.turns (suc n)) (nat_lt u.turns (suc n)) _ _ _ _ (ap (λ x. nat_lt x (suc n)) s.turns) (h _ _ (repeated_across n free) a) (h' a) in
+      record { grows = λ w. (by w w (record { store = refl; echo = refl; turns = refl })).grows w; follows = λ w u s. (by w u s).follows w u s }
+  repeated_across (suc n) (suc left) a =
+      let by : (w u : World) → Same w u → Across claim (λ x. elim (nat_lt w.turns (suc n)) [ true ↦ f (repeated free out f n free) a x | false ↦ f (repeated free out f (suc n) left) a x ]) (λ x. elim (nat_lt u.turns (suc n)) [ true ↦ l (repeated free off l n free) a x | false ↦ l (repeated free off l (suc n) left) a x ]) =
+      λ w u s. either_across claim (nat_lt w.turns (suc n)) (nat_lt u.turns (suc n)) _ _ _ _ (ap (λ x. nat_lt x (suc n)) s.turns) (h _ _ (repeated_across n free) a) (h _ _ (repeated_across (suc n) left) a) in
+      record { grows = λ w. (by w w (record { store = refl; echo = refl; turns = refl })).grows w; follows = λ w u s. (by w u s).follows w u s }
 
 children_rewritten : {claim : Claim} {t t' : Tables} {id : ℕ} {s : Site} {f g : Forest} → IsRewritten claim t t' id s f g → kids (form g) ≡ kids (form f)
 children_rewritten nothing = refl
@@ -220,15 +233,15 @@ module _ (claim : Claim) (t t' : Tables) (marks : List Mark) (lower low : Entry 
       λ again n a. play false (place_in s id) (going lower kid again) (rule t s k n (form c)) a in
       let past : (Mode → World → Result) → Mode → World → Result =
       λ again n a. play true (place_in s jd) (going low lid again) (rule t' s j n (form d)) a in
-      let both : (n : ℕ) → Across claim (passes pass n m) (passes past n m) =
-      λ n. passes_across claim pass past
-      (λ x y a i. script_across (place_in s id) (place_in s jd) p (going lower kid x) (going low lid y) (going_across kid lid g x y a) (rule t s k i (form c)) (rule t' s j i (form d)) (e i))
-      n m in
+      let one : (x y : Mode → World → Result) → ((i : Mode) → Across claim (x i) (y i)) → (i : Mode) → Across claim (pass x i) (past y i) =
+      λ x y a i. script_across (place_in s id) (place_in s jd) p (going lower kid x) (going low lid y) (going_across kid lid g x y a) (rule t s k i (form c)) (rule t' s j i (form d)) (e i) in
+      let both : (n : ℕ) → Across claim (pass (passes (place_in s id) pass n) m) (past (passes (place_in s jd) past n) m) =
+      λ n. one _ _ (repeated_across claim 1 _ _ (λ i. over_across claim (place_in s id) (place_in s jd) NoRule NoRule) pass past one n 1) m in
       record {
-        grows = λ w. (both (suc (suc w.turns))).grows w;
+        grows = λ w. (both w.turns).grows w;
         follows = λ w u z.
-            subst (λ n. FollowsAcross claim (passes pass (suc (suc w.turns)) m w) (passes past (suc (suc n)) m u)) (sym z.turns)
-            ((both (suc (suc w.turns))).follows w u z);
+            subst (λ n. FollowsAcross claim (pass (passes (place_in s id) pass w.turns) m w) (past (passes (place_in s jd) past n) m u)) (sym z.turns)
+            ((both w.turns).follows w u z);
       }
 
   -- a node without a rule is outside, whatever stands in its place
@@ -266,7 +279,7 @@ module _ (claim : Claim) (t t' : Tables) (marks : List Mark) (lower low : Entry 
       let pass : (Mode → World → Result) → Mode → World → Result =
       λ again n a. play false (place_in s id) (going lower kid again) (rule t s k n (form c)) a in
       no_rule_across (is_statement k) (is_stopped marks s.file id) s id (at_node false t lower s k c id kid m) _ r.statement
-      (λ a. ap (λ x. play false (place_in s id) (going lower kid (passes pass (suc a.turns))) x a) (r.script m))
+      (λ a. ap (λ x. play false (place_in s id) (going lower kid (passes (place_in s id) pass a.turns)) x a) (r.script m))
   step_across id s (replaced {k = k} {j = j} {c = c} {d = d} {f = f} {g = g} r q) jd (suc i) m =
       subst (λ x. Across claim (step false t marks lower (beside k c s) f (suc (id + count c)) i m) (step true t' [] low x g (suc (jd + count d)) i m)) (sym r.beside)
       (step_across (suc (id + count c)) (beside k c s) q (suc (jd + count d)) i m)
@@ -367,13 +380,18 @@ refused_across claim false path m n h = record {
 }
 
 module _ (claim : Claim) (t t' : Tables) (early : (path : Bytes) (n : ℕ) → file_script t' path n ≡ file_script t path n) (marks : List Mark) (source written : Program) (same_files : AreRewritten claim t t' source.files written.files) (plain : (path : Bytes) → claim.handled (place_of_file path) ≡ false) where
-  enter_across : (n : ℕ) (e : Entry) → Across claim (enter false t source marks n e) (enter true t' written [] n e)
-  enter_across zero e = record { grows = λ w. grown w; follows = λ w u s a i. (refl, s) }
-  enter_across (suc n) (FileStart path) =
-      refused_across claim (is_refused marks path) path _ _
-      (found_across claim t t' marks (enter false t source marks n) (enter true t' written [] n) (λ e. enter_across n e) early path (plain path) same_files)
-  enter_across (suc n) (DeclarationStart b m) =
-      declaration_across claim t t' marks (enter false t source marks n) (enter true t' written [] n) (λ e. enter_across n e) b m same_files
+  start_across : (lower low : Entry → World → Result) → ((e : Entry) → Across claim (lower e) (low e))
+      → (e : Entry) → Across claim (start false t source marks lower e) (start true t' written [] low e)
+  start_across lower low h (FileStart path) =
+      refused_across claim (is_refused marks path) path _ _ (found_across claim t t' marks lower low h early path (plain path) same_files)
+  start_across lower low h (DeclarationStart b m) = declaration_across claim t t' marks lower low h b m same_files
+
+  enter_across : value_count t' ≡ value_count t → (n : ℕ) (e : Entry) → Across claim (enter false t source marks n e) (enter true t' written [] n e)
+  enter_across count n e =
+      let out : Entry → World → Result = λ d w. Over (Outside (place_of_entry d) Call) w in
+      subst (λ c. Across claim (enter false t source marks n e) (repeated c out (start true t' written []) n c e)) (sym count)
+      (repeated_across claim (value_count t) out out (λ d. over_across claim (place_of_entry d) (place_of_entry d) Call Call)
+      (start false t source marks) (start true t' written []) start_across n (value_count t) e)
 
 -- ---- whole runs
 
@@ -403,14 +421,12 @@ pub rewritten_runs_across : RewrittenRunsAcross
 rewritten_runs_across claim source written marks same_files declared same_first plain entry input n i a b =
     let t : Tables = tables_of source.files in
     let t' : Tables = tables_of written.files in
-    let high : ℕ → ℕ = λ k. suc (suc (n + k)) in
-    let old : Bytes → World → Result = λ path. enter false t source marks (high (length t)) (FileStart path) in
-    let new : ℕ → Bytes → World → Result = λ k path. enter true t' written [] (high k) (FileStart path) in
+    let old : Bytes → World → Result = λ path. start false t source marks (enter false t source marks n) (FileStart path) in
+    let new : Bytes → World → Result = λ path. start true t' written [] (enter true t' written [] n) (FileStart path) in
     answer_across claim entry _ _
-    (subst (λ k. FollowsAcross claim (start_all old source.prepend entry (first_world input n)) (start_all (new k) written.prepend entry (first_world input n)))
-    (sym declared.count)
-    (subst (λ first. FollowsAcross claim (start_all old source.prepend entry (first_world input n)) (start_all (new (length t)) first entry (first_world input n)))
+    (subst (λ first. FollowsAcross claim (start_all old source.prepend entry (first_world input n)) (start_all new first entry (first_world input n)))
     (sym same_first)
-    ((start_all_across claim old (new (length t))
-    (λ path. enter_across claim t t' declared.early marks source written same_files plain (high (length t)) (FileStart path)) source.prepend entry).follows _ _
-    (record { store = refl; echo = refl; turns = refl })))) i a b
+    ((start_all_across claim old new
+    (λ path. start_across claim t t' declared.early marks source written same_files plain (enter false t source marks n) (enter true t' written [] n)
+    (enter_across claim t t' declared.early marks source written same_files plain declared.count n) (FileStart path)) source.prepend entry).follows _ _
+    (record { store = refl; echo = refl; turns = refl }))) i a b

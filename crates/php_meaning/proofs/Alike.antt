@@ -1,5 +1,5 @@
 -- Two runs in one version that do the same but for what they tell of themselves, wherever the first stays inside.
-use Rattle.std.specs.Prelude.{◌≡◌, ℕ, zero, suc, ◌+◌, List, [], ◌∷◌, ◌++◌, length, Bool, true, false, ◌&&◌, nat_eq, cond, refl, Option, Some, None}
+use Rattle.std.specs.Prelude.{◌≡◌, ℕ, zero, suc, ◌+◌, List, [], ◌∷◌, ◌++◌, Bool, true, false, ◌&&◌, nat_eq, nat_lt, cond, refl, Option, Some, None}
 use Rattle.std.specs.Str.{bytes_eq}
 use Rattle.std.proofs.Common.{ap, sym, ◌∙◌, subst, arith}
 use Rattle.std.proofs.lemmas.Slice.Eq.{bytes_eq-Decides}
@@ -11,13 +11,13 @@ use Rattle.scope_names.specs.Slot.{Declared}
 use Rattle.scope_names.specs.Form.{Form, Part, word, child, joins, part_of, part_before, bits, parts, form, kids}
 use Rattle.scope_names.specs.Sites.{Site, file_site, is_declaration, declarations, one_if, within, beside}
 use Rattle.php_meaning.specs.names.Tables.{Tables, tables_of}
-use Rattle.php_meaning.specs.Cause.{NoRule}
+use Rattle.php_meaning.specs.Cause.{Cause, NoRule, Call}
 use Rattle.php_meaning.specs.runs.World.{Store, Bytes, Place, Going, Outside, Before, World}
 use Rattle.php_meaning.specs.runs.Script.{Return, Throw, Break, Continue, Out, Val, Fresh, At, Jump, Mode, Target, Kid, Again, There, File, Script, Give, Stop, Finish, Look, Put, Echo, Turn, Ask, Run}
 use Rattle.php_meaning.specs.Rules.{rule, file_script}
 use Rattle.php_meaning.specs.runs.Kinds.{is_statement}
 use Rattle.php_meaning.specs.runs.Input.{Input}
-use Rattle.php_meaning.specs.runs.Run.{begun, Program, Mark, file_at, is_stopped, is_refused, Result, Done, Over, then_do, with_turn, play, Entry, FileStart, DeclarationStart, place_in, place_of_file, told, left, starting, unless_stopped, going, passes, at_node, step, run_file, declared_in, run_declared, unless_refused, enter, first_world, end_of_file, answer, and_start, start_all, run_of}
+use Rattle.php_meaning.specs.runs.Run.{begun, Program, Mark, file_at, is_stopped, is_refused, Result, Done, Over, then_do, with_turn, play, Entry, FileStart, DeclarationStart, place_in, place_of_file, told, left, starting, unless_stopped, going, repeated, passes, at_node, step, run_file, declared_in, run_declared, unless_refused, start, value_count, place_of_entry, enter, first_world, end_of_file, answer, and_start, start_all, run_of}
 use Rattle.php_meaning.specs.laws.Laws.{IsInside, SameRun}
 use Rattle.php_meaning.specs.laws.Following.{Same, Follows, Alike}
 use Rattle.php_meaning.specs.laws.SameScripts.{HasScriptsOf, nothing, token_before, token_behind, same, replaced, kept, wrapped, HaveScriptsOf, no_more, one_more, DeclareAlike}
@@ -82,13 +82,6 @@ starting_follows true b w u k l e s h =
 starting_follows false b w u k l e s h =
     subst (λ x. Follows (starting false w k) (starting x u l)) (sym e) (h.follows w u s)
 
--- a pass of a node, and those that follow it
-passes_alike : (f l : (Mode → World → Result) → Mode → World → Result)
-    → ((x y : Mode → World → Result) → ((m : Mode) → Alike (x m) (y m)) → (m : Mode) → Alike (f x m) (l y m))
-    → (n : ℕ) (m : Mode) → Alike (passes f n m) (passes l n m)
-passes_alike f l h zero m = record { follows = λ w u s i. (refl, s) }
-passes_alike f l h (suc n) m = h (passes f n) (passes l n) (λ i. passes_alike f l h n i) m
-
 either_alike : (a b : Bool) (f g l j : World → Result) → b ≡ a → Alike f l → Alike g j
     → Alike (λ w. elim a [ true ↦ f w | false ↦ g w ]) (λ w. elim b [ true ↦ l w | false ↦ j w ])
 either_alike a b f g l j e p q =
@@ -97,6 +90,26 @@ either_alike a b f g l j e p q =
     both : (x : Bool) → Alike (λ w. elim x [ true ↦ f w | false ↦ g w ]) (λ w. elim x [ true ↦ l w | false ↦ j w ])
     both true = p
     both false = q
+
+over_alike : (here there : Place) (c d : Cause) → Alike (λ w. Over (Outside here c) w) (λ w. Over (Outside there d) w)
+over_alike here there c d = record { follows = λ w u s i. absurd i }
+
+-- what runs itself again
+module _ {A : Type 0} (free : ℕ) (out off : A → World → Result) (h' : (a : A) → Alike (out a) (off a)) (f l : (A → World → Result) → A → World → Result)
+    (h : (x y : A → World → Result) → ((a : A) → Alike (x a) (y a)) → (a : A) → Alike (f x a) (l y a)) where
+  repeated_alike : (n left : ℕ) (a : A) → Alike (repeated free out f n left a) (repeated free off l n left a)
+  repeated_alike zero zero a = h' a
+  repeated_alike zero (suc left) a = h _ _ (repeated_alike zero left) a
+  repeated_alike (suc n) zero a = record {
+    follows = λ w u s.
+        (either_alike (nat_lt w.turns (suc n)) (nat_lt u.turns (suc n)) _ _ _ _ (ap (λ x. nat_lt x (suc n)) s.turns)
+        (h _ _ (repeated_alike n free) a) (h' a)).follows w u s;
+  }
+  repeated_alike (suc n) (suc left) a = record {
+    follows = λ w u s.
+        (either_alike (nat_lt w.turns (suc n)) (nat_lt u.turns (suc n)) _ _ _ _ (ap (λ x. nat_lt x (suc n)) s.turns)
+        (h _ _ (repeated_alike n free) a) (h _ _ (repeated_alike (suc n) left) a)).follows w u s;
+  }
 
 -- neither node is the declaration that is looked for
 neither_alike : (a b p q : Bool) (f g l j : World → Result) → a ≡ false → b ≡ false → Alike g j
@@ -180,14 +193,14 @@ module _ (v : Bool) (t t' : Tables) (early : (path : Bytes) (n : ℕ) → file_s
       λ again n a. play v (place_in s id) (going lower kid again) (rule t s k n (form c)) a in
       let past : (Mode → World → Result) → Mode → World → Result =
       λ again n a. play v (place_in s jd) (going low lid again) (rule t' s j n (form d)) a in
-      let both : (n : ℕ) → Alike (passes pass n m) (passes past n m) =
-      λ n. passes_alike pass past
-      (λ x y a i. record { follows = λ w u z. script_follows (place_in s id) (place_in s jd) (going lower kid x) (going low lid y) (going_alike kid lid g x y a) (rule t s k i (form c)) (rule t' s j i (form d)) (e i) w u z })
-      n m in
+      let one : (x y : Mode → World → Result) → ((i : Mode) → Alike (x i) (y i)) → (i : Mode) → Alike (pass x i) (past y i) =
+      λ x y a i. record { follows = λ w u z. script_follows (place_in s id) (place_in s jd) (going lower kid x) (going low lid y) (going_alike kid lid g x y a) (rule t s k i (form c)) (rule t' s j i (form d)) (e i) w u z } in
+      let both : (n : ℕ) → Alike (pass (passes (place_in s id) pass n) m) (past (passes (place_in s jd) past n) m) =
+      λ n. one _ _ (repeated_alike 1 _ _ (λ i. over_alike (place_in s id) (place_in s jd) NoRule NoRule) pass past one n 1) m in
       record {
         follows = λ w u z.
-            subst (λ n. Follows (passes pass (suc (suc w.turns)) m w) (passes past (suc (suc n)) m u)) (sym z.turns)
-            ((both (suc (suc w.turns))).follows w u z);
+            subst (λ n. Follows (pass (passes (place_in s id) pass w.turns) m w) (past (passes (place_in s jd) past n) m u)) (sym z.turns)
+            ((both w.turns).follows w u z);
       }
 
   -- a node without a rule is outside, whatever stands in its place
@@ -226,7 +239,7 @@ module _ (v : Bool) (t t' : Tables) (early : (path : Bytes) (n : ℕ) → file_s
       let pass : (Mode → World → Result) → Mode → World → Result =
       λ again n a. play v (place_in s id) (going lower kid again) (rule t s k n (form c)) a in
       no_rule_follows (is_statement k) (is_stopped marks s.file id) s id (at_node v t lower s k c id kid m) w _ r.statement
-      (λ a. ap (λ x. play v (place_in s id) (going lower kid (passes pass (suc a.turns))) x a) (r.script m))
+      (λ a. ap (λ x. play v (place_in s id) (going lower kid (passes (place_in s id) pass a.turns)) x a) (r.script m))
   step_follows s (replaced {k} {j} {c} {d} {f} {g} r q) id jd (suc i) m w u e =
       subst (λ x. Follows (step v t marks lower (beside k c s) f (suc (id + count c)) i m w) (step v t' [] low x g (suc (jd + count d)) i m u)) (sym r.beside)
       (step_follows (beside k c s) q (suc (id + count c)) (suc (jd + count d)) i m w u e)
@@ -299,18 +312,24 @@ module _ (v : Bool) (t t' : Tables) (early : (path : Bytes) (n : ℕ) → file_s
       ]) ((bytes_eq-Decides p b.file).0)
 
 module _ (v : Bool) (t t' : Tables) (early : (path : Bytes) (n : ℕ) → file_script t' path n ≡ file_script t path n) (marks : List Mark) (source written : Program) (same_files : HaveScriptsOf t t' source.files written.files) where
-  enter_alike : (n : ℕ) (e : Entry) → Alike (enter v t source marks n e) (enter v t' written [] n e)
-  enter_alike zero e = record { follows = λ w u s i. (refl, s) }
-  enter_alike (suc n) (FileStart path) = record {
+  start_alike : (lower low : Entry → World → Result) → ((e : Entry) → Alike (lower e) (low e))
+      → (e : Entry) → Alike (start v t source marks lower e) (start v t' written [] low e)
+  start_alike lower low h (FileStart path) = record {
     follows = λ w u s.
         refused_follows (is_refused marks path) path w _ _
-        (found_follows v t t' early marks (enter v t source marks n) (enter v t' written [] n) (λ e. enter_alike n e) path same_files (begun path w) (begun path u)
+        (found_follows v t t' early marks lower low h path same_files (begun path w) (begun path u)
         (record { store = ap (λ (st : Store). record st { started = path ∷ st.started }) s.store; echo = s.echo; turns = s.turns }));
   }
-  enter_alike (suc n) (DeclarationStart b m) = record {
-    follows = λ w u s.
-        declaration_follows v t t' early marks (enter v t source marks n) (enter v t' written [] n) (λ e. enter_alike n e) b m same_files w u s;
+  start_alike lower low h (DeclarationStart b m) = record {
+    follows = λ w u s. declaration_follows v t t' early marks lower low h b m same_files w u s;
   }
+
+  enter_alike : value_count t' ≡ value_count t → (n : ℕ) (e : Entry) → Alike (enter v t source marks n e) (enter v t' written [] n e)
+  enter_alike count n e =
+      let out : Entry → World → Result = λ d w. Over (Outside (place_of_entry d) Call) w in
+      subst (λ c. Alike (enter v t source marks n e) (repeated c out (start v t' written []) n c e)) (sym count)
+      (repeated_alike (value_count t) out out (λ d. over_alike (place_of_entry d) (place_of_entry d) Call Call)
+      (start v t source marks) (start v t' written []) start_alike n (value_count t) e)
 
 -- ---- whole runs
 
@@ -358,13 +377,12 @@ pub scripts_alike : (v : Bool) (source written : Program) (marks : List Mark)
 scripts_alike v source written marks same_files declared same_first entry input n i =
     let t : Tables = tables_of source.files in
     let t' : Tables = tables_of written.files in
-    let high : ℕ → ℕ = λ k. suc (suc (n + k)) in
-    let runs : List Mark → Tables → Program → ℕ → Bytes → World → Result = λ ms ts p k path. enter v ts p ms (high k) (FileStart path) in
+    let old : Bytes → World → Result = λ path. start v t source marks (enter v t source marks n) (FileStart path) in
+    let new : Bytes → World → Result = λ path. start v t' written [] (enter v t' written [] n) (FileStart path) in
     answer_same entry _ _
-    (subst (λ k. Follows (start_all (runs marks t source (length t)) source.prepend entry (first_world input n)) (start_all (runs [] t' written k) written.prepend entry (first_world input n)))
-    (sym declared.count)
-    (subst (λ first. Follows (start_all (runs marks t source (length t)) source.prepend entry (first_world input n)) (start_all (runs [] t' written (length t)) first entry (first_world input n)))
+    (subst (λ first. Follows (start_all old source.prepend entry (first_world input n)) (start_all new first entry (first_world input n)))
     (sym same_first)
-    ((start_all_alike (runs marks t source (length t)) (runs [] t' written (length t))
-    (λ path. enter_alike v t t' declared.early marks source written same_files (high (length t)) (FileStart path)) source.prepend entry).follows _ _
-    (record { store = refl; echo = refl; turns = refl })))) i
+    ((start_all_alike old new
+    (λ path. start_alike v t t' declared.early marks source written same_files (enter v t source marks n) (enter v t' written [] n)
+    (enter_alike v t t' declared.early marks source written same_files declared.count n) (FileStart path)) source.prepend entry).follows _ _
+    (record { store = refl; echo = refl; turns = refl }))) i

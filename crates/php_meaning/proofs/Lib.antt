@@ -1,5 +1,6 @@
 pub mod Alike
 pub mod Bounds
+pub mod Spent
 pub mod Parens
 pub mod Rows
 pub mod Unasked

@@ -1,6 +1,6 @@
 -- Runs of programs whose nodes never ask.
-use Rattle.std.proofs.Common.{◌≡◌, ℕ, zero, suc, ◌+◌, Bool, true, false, not, ◌&&◌, IsTrue, cond, codes, List, [], ◌∷◌, ◌++◌, length, All, Option, Some, None, refl, ◌∙◌, arith}
-use Rattle.std.specs.Prelude.{nat_eq, is_some}
+use Rattle.std.proofs.Common.{◌≡◌, ℕ, zero, suc, ◌+◌, Bool, true, false, not, ◌&&◌, IsTrue, cond, codes, List, [], ◌∷◌, ◌++◌, All, Option, Some, None, refl, ◌∙◌, arith}
+use Rattle.std.specs.Prelude.{nat_eq, nat_lt, is_some}
 use Rattle.std.specs.Str.{bytes_eq}
 use Rattle.php_tree.specs.declared.kind.NodeKind.{NodeKind}
 use Rattle.php_tree.specs.declared.kind.NodeKind.TheVariants as kind
@@ -22,7 +22,7 @@ use Rattle.php_meaning.specs.literals.Literals.{constant_named, name_of}
 use Rattle.php_meaning.specs.literals.TextLiterals.{text_literal}
 use Rattle.php_meaning.specs.Rules.{first_text, run_all, declare_early, is_early, file_script, echo_all, choices, constant, ternary, short_ternary, reading, reading_quietly, locating, running, rule, at_top, run_top, is_unfit}
 use Rattle.php_meaning.specs.runs.Kinds.{is_statement}
-use Rattle.php_meaning.specs.runs.Run.{begun, Program, Mark, file_at, is_stopped, is_refused, Result, Done, Over, then_do, with_turn, play, Entry, FileStart, DeclarationStart, place_in, place_of_file, told, left, starting, unless_stopped, going, passes, at_node, step, run_file, declared_in, run_declared, unless_refused, enter, first_world, and_start, start_all, is_newer}
+use Rattle.php_meaning.specs.runs.Run.{begun, Program, Mark, file_at, is_stopped, is_refused, Result, Done, Over, then_do, with_turn, play, Entry, FileStart, DeclarationStart, place_in, place_of_file, told, left, starting, unless_stopped, going, repeated, passes, at_node, step, run_file, declared_in, run_declared, unless_refused, start, value_count, place_of_entry, enter, first_world, and_start, start_all, is_newer}
 use Rattle.php_meaning.specs.laws.Asking.{may_ask, asks_nothing, AsksNowhere, InsideIsCovered}
 use Rattle.php_meaning.proofs.Unasked.{asked_in, answer_asked}
 
@@ -223,16 +223,21 @@ back_of : (a b : Bool) → IsTrue (a && b) → IsTrue b
 back_of true b h = h
 back_of false b h = cc
 
--- a pass of a node, and those that follow it
-passes_quiet : (f : (Mode → World → Result) → Mode → World → Result)
-    → ((x : Mode → World → Result) → ((m : Mode) → Silent (x m)) → (m : Mode) → Silent (f x m))
-    → (n : ℕ) (m : Mode) → Silent (passes f n m)
-passes_quiet f h zero m = λ w. refl
-passes_quiet f h (suc n) m = h (passes f n) (λ i. passes_quiet f h n i) m
-
 either_quiet : (b : Bool) (f g : World → Result) → Silent f → Silent g → Silent (λ w. elim b [ true ↦ f w | false ↦ g w ])
 either_quiet true f g p q = p
 either_quiet false f g p q = q
+
+-- what runs itself again
+module _ {A : Type 0} (free : ℕ) (out : A → World → Result) (h' : (a : A) → Silent (out a)) (f : (A → World → Result) → A → World → Result)
+    (h : (x : A → World → Result) → ((a : A) → Silent (x a)) → (a : A) → Silent (f x a)) where
+  repeated_quiet : (n left : ℕ) (a : A) → Silent (repeated free out f n left a)
+  repeated_quiet zero zero a = h' a
+  repeated_quiet zero (suc left) a = h (repeated free out f zero left) (repeated_quiet zero left) a
+  repeated_quiet (suc n) zero a =
+      λ w. either_quiet (nat_lt w.turns (suc n)) (f (repeated free out f n free) a) (out a) (h (repeated free out f n free) (repeated_quiet n free) a) (h' a) w
+  repeated_quiet (suc n) (suc left) a =
+      λ w. either_quiet (nat_lt w.turns (suc n)) (f (repeated free out f n free) a) (f (repeated free out f (suc n) left) a)
+      (h (repeated free out f n free) (repeated_quiet n free) a) (h (repeated free out f (suc n) left) (repeated_quiet (suc n) left) a) w
 
 module _ (v : Bool) (t : Tables) (marks : List Mark) (lower : Entry → World → Result) (h : (e : Entry) → Silent (lower e)) where
   going_quiet : (kid : ℕ → Mode → World → Result) → ((i : ℕ) (m : Mode) → Silent (kid i m))
@@ -245,9 +250,11 @@ module _ (v : Bool) (t : Tables) (marks : List Mark) (lower : Entry → World �
   node_quiet : (s : Site) (k : NodeKind) (c : Forest) (id : ℕ) (kid : ℕ → Mode → World → Result) → IsTrue (not (may_ask k (texts (form c))))
       → ((i : ℕ) (m : Mode) → Silent (kid i m)) → (m : Mode) → Silent (at_node v t lower s k c id kid m)
   node_quiet s k c id kid a g m =
-      λ w. passes_quiet (λ again n u. play v (place_in s id) (going lower kid again) (rule t s k n (form c)) u)
-      (λ again b n. play_quiet v (place_in s id) (going lower kid again) (going_quiet kid g again b) (rule t s k n (form c)) (rule_never t s k n (form c) a))
-      (suc (suc w.turns)) m w
+      let pass : (Mode → World → Result) → Mode → World → Result =
+      λ again n u. play v (place_in s id) (going lower kid again) (rule t s k n (form c)) u in
+      let one : (x : Mode → World → Result) → ((n : Mode) → Silent (x n)) → (n : Mode) → Silent (pass x n) =
+      λ again b n. play_quiet v (place_in s id) (going lower kid again) (going_quiet kid g again b) (rule t s k n (form c)) (rule_never t s k n (form c) a) in
+      λ w. one (passes (place_in s id) pass w.turns) (repeated_quiet 1 _ (λ i u. refl) pass one w.turns 1) m w
 
   step_quiet : (s : Site) (f : Forest) → IsTrue (asks_nothing f) → (id i : ℕ) (m : Mode) → Silent (step v t marks lower s f id i m)
   step_quiet s none a id i m = λ w. refl
@@ -301,13 +308,15 @@ refused_quiet : (b : Bool) (path : Bytes) (m : World → Result) → Silent m �
 refused_quiet true path m h = λ w. refl
 refused_quiet false path m h = λ w. h (begun path w)
 
+start_quiet : (v : Bool) (t : Tables) (p : Program) (marks : List Mark) → All (λ f. IsTrue (asks_nothing f.1)) p.files
+    → (lower : Entry → World → Result) → ((e : Entry) → Silent (lower e)) → (e : Entry) → Silent (start v t p marks lower e)
+start_quiet v t p marks a lower h (FileStart path) =
+    refused_quiet (is_refused marks path) path (run_file v t marks lower path (file_at p.files path)) (found_quiet v t marks lower h path p.files a)
+start_quiet v t p marks a lower h (DeclarationStart b m) = declaration_quiet v t marks lower h b m b.file p.files a
+
 enter_quiet : (v : Bool) (t : Tables) (p : Program) (marks : List Mark) → All (λ f. IsTrue (asks_nothing f.1)) p.files → (n : ℕ) (e : Entry) → Silent (enter v t p marks n e)
-enter_quiet v t p marks a zero e = λ w. refl
-enter_quiet v t p marks a (suc n) (FileStart path) =
-    refused_quiet (is_refused marks path) path (run_file v t marks (enter v t p marks n) path (file_at p.files path))
-    (found_quiet v t marks (enter v t p marks n) (enter_quiet v t p marks a n) path p.files a)
-enter_quiet v t p marks a (suc n) (DeclarationStart b m) =
-    declaration_quiet v t marks (enter v t p marks n) (enter_quiet v t p marks a n) b m b.file p.files a
+enter_quiet v t p marks a n e =
+    repeated_quiet (value_count t) _ (λ d w. refl) (start v t p marks) (start_quiet v t p marks a) n (value_count t) e
 
 and_start_quiet : (path : Bytes) (k : World → Result) → Silent k → (o : Out) → Silent (and_start path k o)
 and_start_quiet path k h (Val x) = h
@@ -326,9 +335,9 @@ start_all_quiet k h (Some path) entry =
 pub asks_nowhere : AsksNowhere
 asks_nowhere v p marks entry input n a =
     let t : Tables = tables_of p.files in
-    let starts : Bytes → World → Result = λ path. enter (is_newer v) t p marks (suc (suc (n + length t))) (FileStart path) in
+    let starts : Bytes → World → Result = λ path. start (is_newer v) t p marks (enter (is_newer v) t p marks n) (FileStart path) in
     answer_asked entry (start_all starts p.prepend entry (first_world input n))
-    ∙ start_all_quiet starts (λ path. enter_quiet (is_newer v) t p marks a (suc (suc (n + length t))) (FileStart path)) p.prepend entry (first_world input n)
+    ∙ start_all_quiet starts (λ path. start_quiet (is_newer v) t p marks a (enter (is_newer v) t p marks n) (enter_quiet (is_newer v) t p marks a n) (FileStart path)) p.prepend entry (first_world input n)
 
 pub inside_is_covered : InsideIsCovered
 inside_is_covered source written marks a keeps entry input n i =

@@ -87,7 +87,7 @@ next_lid t low s u jd j k d g lid b e n m w = e (suc n) m w ∙ ap (λ z. step t
 abbrev unused : (t : Tables) (low : Entry → World → Result) (s : Site) (x : Token) (jd : ℕ) → World → Target → World → Result
 unused t low s x jd u =
     going low (step true t [] low s (leaf x none) (suc jd))
-    (passes (λ again n y. play true (place_in s jd) (going low (step true t [] low s (leaf x none) (suc jd)) again) (rule t s kind.Variable n (form (leaf x none))) y) (suc u.turns))
+    (passes (place_in s jd) (λ again n y. play true (place_in s jd) (going low (step true t [] low s (leaf x none) (suc jd)) again) (rule t s kind.Variable n (form (leaf x none))) y) u.turns)
 
 -- a variable's node
 variable_step : (t : Tables) (low : Entry → World → Result) (s : Site) (x : Token) (g : Forest) (jd : ℕ) (word : Bytes) → x.text ≡ 36 ∷ word → (u : World)
@@ -159,7 +159,7 @@ module _ (claim : Claim) (t : Tables) (marks : List Mark) (lower low : Entry →
     -- what the node of the offset runs
     abbrev offset_over : World → Target → World → Result
     offset_over u = going low (step true t [] low s offset_parts (suc jd))
-        (passes (λ again n w. play true (place_in s jd) (going low (step true t [] low s offset_parts (suc jd)) again) (rule t s kind.Offset n (form offset_parts)) w) (suc u.turns))
+        (passes (place_in s jd) (λ again n w. play true (place_in s jd) (going low (step true t [] low s offset_parts (suc jd)) again) (rule t s kind.Offset n (form offset_parts)) w) u.turns)
 
     abbrev text_onward : Out → World → Result
     text_onward e w = play true there (going low lid anew) (value_then (λ value. text_then value target_rest) e) w

@@ -26,6 +26,7 @@ use Rattle.php_meaning.specs.runs.Run.{Mark, Result, then_do, play, Entry, is_st
 use Rattle.php_meaning.specs.laws.SameScripts.{HasScriptOf}
 use Rattle.php_meaning.specs.laws.Across.{Claim, world_in, Grown, FollowsAcross, Across, DoesAcross, IsRewritten, nothing, token_before, token_behind, same, replaced, kept, wrapped}
 use Rattle.php_meaning.proofs.Across.{grown, told_across, step_across, declared_across}
+use Rattle.syntax_rules.specs.DoTheSame.{UnsetCastsAreNull, BracesDoTheSame, ending}
 use Rattle.syntax_rules.specs.Keeps.{token_of}
 use Rattle.syntax_rules.proofs.Rewrites.{IsToken, begins, Rewrites, ends, same_token, inner, changed, parens, Changed, brackets, float, null, curled, Curled, closing, piece as a_piece, escaped, simple, code, name, offset, expression}
 use Rattle.syntax_rules.proofs.RewrittenTables.{forms_same, changed_declares, old_expression, new_expression, within_same, beside_same, plain_beside, node_beside, beside_variable, changed_beside, offset_beside, expression_beside, declarations_same}
@@ -126,13 +127,13 @@ module _ (claim : Claim) (t : Tables) where
   quoted_at {f} {g} x y e p q s marks lower low h id jd m =
       let kid : ℕ → Mode → World → Result = step false t marks lower s (leaf x f) (suc id) in
       let lid : ℕ → Mode → World → Result = step true t [] low s (leaf y g) (suc jd) in
-      let old : ℕ → Mode → World → Result = passes (λ again n u. play false (place_in s id) (going lower kid again) (rule t s kind.Quoted n (form (leaf x f))) u) in
-      let new : ℕ → Mode → World → Result = passes (λ again n u. play true (place_in s jd) (going low lid again) (rule t s kind.Quoted n (form (leaf y g))) u) in
+      let old : ℕ → Mode → World → Result = passes (place_in s id) (λ again n u. play false (place_in s id) (going lower kid again) (rule t s kind.Quoted n (form (leaf x f))) u) in
+      let new : ℕ → Mode → World → Result = passes (place_in s jd) (λ again n u. play true (place_in s jd) (going low lid again) (rule t s kind.Quoted n (form (leaf y g))) u) in
       let both : (a b : ℕ) → Plays claim (place_in s id) (place_in s jd) (going lower kid (old a)) (going low lid (new b)) (rule t s kind.Quoted m (form (leaf x f))) (rule t s kind.Quoted m (form (leaf y g))) =
       λ a b. quoted_mode x y e p q s marks lower low h id jd kid lid (old a) (new b) (λ i n w. refl) (λ i n w. refl) m in
       record {
-        grows = λ w. (both (suc w.turns) (suc w.turns)).grows w;
-        follows = λ w u z. (both (suc w.turns) (suc u.turns)).follows w u z;
+        grows = λ w. (both w.turns w.turns).grows w;
+        follows = λ w u z. (both w.turns u.turns).follows w u z;
       }
 
   -- a quoted text, at its node
@@ -296,3 +297,16 @@ module _ (claim : Claim) (plain : (p : Place) → claim.handled p ≡ false) (t 
         held_declared claim t k j c d f g u marks lower low h id (suc jd) (suc (jd + count (leaf z (leaf o (node j d (leaf u none)))))) s
         (beside kind.Variable (leaf z (leaf o (node j d (leaf u none)))) s) (rewritten r id s) (expression_beside z o u w r s) n m x y
         (curled_declared p marks lower low h (suc (id + count c)) (suc (jd + count (leaf z (leaf o (node j d (leaf u none)))))) (beside k c s) n m x y a)
+
+-- ---- single changes
+
+pub unset_casts_are_null : UnsetCastsAreNull
+unset_casts_are_null claim t t' s written variable opening word shut e d = unset_cast_across claim t t' s written variable opening word shut e d
+
+pub braces_do_the_same : BracesDoTheSame
+braces_do_the_same claim plain t s quote opening variable dollar_lead dollar_text word brace_lead lead text dollar_start word_start brace_start start e x =
+    let p : Curled
+    (leaf (token_of token.DollarBrace dollar_lead dollar_text dollar_start) (leaf (token_of token.VarName [] word word_start) (ending brace_lead brace_start lead text start)))
+    (leaf opening (node kind.Variable (leaf variable none) (ending brace_lead brace_start lead text start))) =
+    name e x (record { kind_is = refl; text_is = refl }) (closing (record { kind_is = refl; text_is = refl })) in
+    quoted_does claim t quote quote refl p (curled_alike claim plain t p) (curled_declared claim plain t p) s

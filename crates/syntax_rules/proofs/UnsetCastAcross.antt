@@ -101,7 +101,7 @@ module _ (claim : Claim) (t t' : Tables) (s : Site) (u x o n p : Token) (is_unse
         (record { store = z.store; echo = z.echo; turns = z.turns }))))
       where
         onward : World → Target → World → Result
-        onward a = going lower (step false t marks lower s (cast_of u x) (suc id)) (passes (λ again i b. play false (place_in s id) (going lower (step false t marks lower s (cast_of u x) (suc id)) again) (rule t s kind.Cast i (form (cast_of u x))) b) (suc a.turns))
+        onward a = going lower (step false t marks lower s (cast_of u x) (suc id)) (passes (place_in s id) (λ again i b. play false (place_in s id) (going lower (step false t marks lower s (cast_of u x) (suc id)) again) (rule t s kind.Cast i (form (cast_of u x))) b) a.turns)
 
         comes : (a : World) → at_node false t lower s kind.Cast (cast_of u x) id (step false t marks lower s (cast_of u x) (suc id)) m a
             ≡ dropped (place_in s id) (onward a) (step false t marks lower s (cast_of u x) (suc id) 0 Read a)
@@ -110,11 +110,11 @@ module _ (claim : Claim) (t t' : Tables) (s : Site) (u x o n p : Token) (is_unse
         harmless : (a : World) → Harmless a (step false t marks lower s (cast_of u x) (suc id) 0 Read a)
         harmless a = reading_harmless (is_stopped marks s.file (suc id)) s (suc id)
             (going lower (step false t marks lower s (leaf x none) (suc (suc id)))
-            (passes (λ again i b. play false (place_in s (suc id)) (going lower (step false t marks lower s (leaf x none) (suc (suc id))) again) (rule t s kind.Variable i (form (leaf x none))) b) (suc a.turns)))
+            (passes (place_in s (suc id)) (λ again i b. play false (place_in s (suc id)) (going lower (step false t marks lower s (leaf x none) (suc (suc id))) again) (rule t s kind.Variable i (form (leaf x none))) b) a.turns))
             (plain_name x.text) a
 
         within_constant : World → Target → World → Result
-        within_constant a = going low (step true t' [] low s (leaf n none) (suc (suc jd))) (passes (λ again i c. play true (place_in s (suc jd)) (going low (step true t' [] low s (leaf n none) (suc (suc jd))) again) (rule t' s kind.Constant i (form (leaf n none))) c) (suc a.turns))
+        within_constant a = going low (step true t' [] low s (leaf n none) (suc (suc jd))) (passes (place_in s (suc jd)) (λ again i c. play true (place_in s (suc jd)) (going low (step true t' [] low s (leaf n none) (suc (suc jd))) again) (rule t' s kind.Constant i (form (leaf n none))) c) a.turns)
 
         ends : (a : World) → step true t' [] low s (node kind.Paren (null_of o n p) none) jd 0 m a
             ≡ Done (Val Null) (told s jd After (Some Null) (told s (suc jd) After (Some Null) (told s (suc jd) Before None (told s jd Before None a))))
@@ -131,7 +131,7 @@ module _ (claim : Claim) (t t' : Tables) (s : Site) (u x o n p : Token) (is_unse
       (λ a. ap (λ sc. play false (place_in s id) (onward a) sc a) (e u.text))
     where
       onward : World → Target → World → Result
-      onward a = going lower (step false t marks lower s (cast_of u x) (suc id)) (passes (λ again i b. play false (place_in s id) (going lower (step false t marks lower s (cast_of u x) (suc id)) again) (rule t s kind.Cast i (form (cast_of u x))) b) (suc a.turns))
+      onward a = going lower (step false t marks lower s (cast_of u x) (suc id)) (passes (place_in s id) (λ again i b. play false (place_in s id) (going lower (step false t marks lower s (cast_of u x) (suc id)) again) (rule t s kind.Cast i (form (cast_of u x))) b) a.turns)
 
   unset_modes : (marks : List Mark) (lower low : Entry → World → Result) → ((e : Entry) → Across claim (lower e) (low e)) → (id jd : ℕ) (m : Mode)
       → Across claim (step false t marks lower s (node kind.Cast (cast_of u x) none) id 0 m) (step true t' [] low s (node kind.Paren (null_of o n p) none) jd 0 m)

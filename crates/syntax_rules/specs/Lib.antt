@@ -14,3 +14,4 @@ pub mod Rewritten
 pub mod InContext
 pub mod Quotable
 pub mod Keeps
+pub mod DoTheSame

@@ -16,7 +16,7 @@ mod unset_cast;
 pub use brace_offset::brace_offset_is_written;
 pub use dollar_brace::dollar_brace_is_written;
 pub use hash_comment::hash_comment_is_written;
-pub use keeps::rewriting_keeps_meaning;
+pub use keeps::{braces_do_the_same, rewriting_keeps_meaning, unset_casts_are_null};
 pub use nested_ternary::nested_ternary_keeps_meaning;
 pub use real_cast::real_cast_is_written;
 pub use rules::Rules;

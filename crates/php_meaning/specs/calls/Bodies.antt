@@ -16,7 +16,7 @@ use Rattle.scope_names.specs.Sites.{Site, in_space, declared_here}
 use Rattle.php_meaning.specs.names.Tables.{Tables, declaration_at, is_same_declared}
 use Rattle.php_meaning.specs.names.Tables as table
 use Rattle.php_meaning.specs.names.Reserved.{is_function_taken}
-use Rattle.php_meaning.specs.runs.Stores.{same_name, next_cell, with_cell, variable_slot, with_variable, last_frame}
+use Rattle.php_meaning.specs.runs.Stores.{same_name, next_cell, with_cell, variable_slot, with_variable}
 use Rattle.php_meaning.specs.literals.Literals.{found, behind_backslash}
 use Rattle.php_meaning.specs.expressions.Expressions.{plain_name}
 use Rattle.php_meaning.specs.expressions.Assigning.{Properties, kept_then, cell_then}
@@ -245,17 +245,12 @@ parameter t s f st none =
 -- ---- shared variables
 
 -- the cell of a file's variable, made where there is none
-abbrev pub with_last : (Frame → Frame) → Frame → List Frame → Frame × List Frame
-with_last change f [] = (change f, [])
-with_last change f (g ∷ gs) = (f, (with_last change g gs).0 ∷ (with_last change g gs).1)
-
 abbrev pub file_variable : Bytes → (Cell → Script) → Script
-file_variable name k = Look (λ s. elim (found (last_frame s.here s.waiting).variables name) [
+file_variable name k = Look (λ s. elim (found s.globals name) [
   | Some c ↦ k c
   | None ↦
       let c = next_cell (variable_slot None name) s in
-      let fs = with_last (λ f. record f { variables = (name, c) ∷ f.variables }) s.here s.waiting in
-      Put (record (with_cell Null s) { here = fs.0; waiting = fs.1 }) (k c)
+      Put (record (with_cell Null s) { globals = (name, c) ∷ s.globals }) (k c)
 ])
 
 abbrev pub global_all : ℕ → ℕ → Script

@@ -9,7 +9,7 @@ use Rattle.php_tree.specs.Tree.{Forest, none, leaf, node}
 use Rattle.php_meaning.specs.runs.Kinds.{is_expression}
 use Rattle.php_meaning.specs.runs.World.{Bytes, End, Going, Ended, Threw, Outside}
 use Rattle.php_meaning.specs.runs.Input.{Input}
-use Rattle.php_meaning.specs.runs.Run.{Program, Mark, Answer, run}
+use Rattle.php_meaning.specs.runs.Run.{Program, Mark, Result, Done, Over, Answer, is_newer, result_of, run}
 
 -- the run stays inside the profile and reaches no mark
 abbrev pub IsInside : End → Type 0
@@ -48,6 +48,20 @@ EndStays =
     (v : Version) (p : Program) (marks : List Mark) (entry : Bytes) (input : Input) (n more : ℕ)
     → IsOver (run v p marks entry input n).end
     → run v p marks entry input (n + more) ≡ run v p marks entry input n
+
+-- where it goes on, no turn is left
+abbrev pub IsSpent : Result → Type 0
+IsSpent (Done o w) = Unit {0}
+IsSpent (Over Going w) = w.turns ≡ 0
+IsSpent (Over (Ended status) w) = Unit {0}
+IsSpent (Over (Threw class) w) = Unit {0}
+IsSpent (Over (Outside place cause) w) = Unit {0}
+
+-- A run goes on past its bound only where it must take a turn and none is left: no other bound cuts it off.
+abbrev pub GoingTookAllTurns : Type 0
+GoingTookAllTurns =
+    (v : Version) (p : Program) (marks : List Mark) (entry : Bytes) (input : Input) (n : ℕ)
+    → IsSpent (result_of (is_newer v) p marks entry input n)
 
 -- a run that stays inside with marks does the same without them
 abbrev pub MarksOnlyStop : Type 0

@@ -1,5 +1,5 @@
 -- Trees whose nodes have the same scripts, and that they run alike.
-use Rattle.std.specs.Prelude.{◌≡◌, ℕ, zero, Bool, true, false, IsTrue, List, [], ◌∷◌, ◌++◌, length}
+use Rattle.std.specs.Prelude.{◌≡◌, ℕ, zero, Bool, true, false, IsTrue, List, [], ◌∷◌, ◌++◌}
 use Rattle.php_tree.specs.declared.token.TokenKind.TheVariants as token
 use Rattle.php_tree.specs.declared.token.Token.{Token}
 use Rattle.php_tree.specs.declared.kind.NodeKind.{NodeKind}
@@ -13,7 +13,7 @@ use Rattle.php_meaning.specs.names.Tables.{Tables, tables_of}
 use Rattle.php_meaning.specs.runs.Script.{Mode, Stop}
 use Rattle.php_meaning.specs.Rules.{rule, file_script}
 use Rattle.php_meaning.specs.runs.Kinds.{is_statement}
-use Rattle.php_meaning.specs.runs.Run.{Program, Mark, Result, Entry, step, declared_in}
+use Rattle.php_meaning.specs.runs.Run.{Program, Mark, Result, Entry, step, declared_in, value_count}
 use Rattle.php_meaning.specs.laws.Following.{Alike}
 use Rattle.php_meaning.specs.laws.Laws.{KeepsMeaning}
 
@@ -76,10 +76,10 @@ pub data HaveScriptsOf (t t' : Tables) : List (Bytes × Forest) → List (Bytes 
   one_more : {path : Bytes} {f g : Forest} {fs gs : List (Bytes × Forest)}
       → HasScriptsOf t t' (file_site path) f g → HaveScriptsOf t t' fs gs → HaveScriptsOf t t' ((path, f) ∷ fs) ((path, g) ∷ gs)
 
--- Declarations that take place alike when a file starts, and of which there are as many.
+-- Declarations that take place alike when a file starts, and write down as many values.
 pub record DeclareAlike (t t' : Tables) : Type 0 where
   pub early : (path : Bytes) (n : ℕ) → file_script t' path n ≡ file_script t path n
-  pub count : length t' ≡ length t
+  pub count : value_count t' ≡ value_count t
 
 -- Files whose nodes have the same scripts, each by the declarations of its program, run alike.
 abbrev pub SameScriptsKeepMeaning : Type 0

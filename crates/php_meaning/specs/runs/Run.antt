@@ -1,5 +1,5 @@
 -- Runs: a script is played, a node is entered, a file is started.
-use Rattle.std.specs.Prelude.{ℕ, zero, suc, ◌+◌, pos, Bool, true, false, ◌&&◌, ◌||◌, nat_eq, cond, List, [], ◌∷◌, ◌++◌, codes, length, Option, Some, None}
+use Rattle.std.specs.Prelude.{ℕ, zero, suc, ◌+◌, pos, Bool, true, false, ◌&&◌, ◌||◌, nat_eq, nat_lt, cond, List, [], ◌∷◌, ◌++◌, codes, Option, Some, None}
 use Rattle.std.specs.Str.{bytes_eq}
 use Rattle.php_tree.specs.declared.version.Version.{Version}
 use Rattle.php_tree.specs.declared.version.Version.TheVariants.{V74, V83}
@@ -13,8 +13,8 @@ use Rattle.php_meaning.specs.values.Value.{Value, Null, Cell}
 use Rattle.php_meaning.specs.values.Value as entries
 use Rattle.php_meaning.specs.values.Arrays.{array}
 use Rattle.php_meaning.specs.runs.Input.{Input, no_items, sent_array, texts_array}
-use Rattle.php_meaning.specs.Cause.{NoRule, StopMark, CompileMark}
-use Rattle.php_meaning.specs.runs.World.{Bytes, Object, Frame, Store, Place, End, Going, Ended, Threw, Outside, Moment, Before, After, Thrown, Visit, Asked, World}
+use Rattle.php_meaning.specs.Cause.{NoRule, Call, StopMark, CompileMark}
+use Rattle.php_meaning.specs.runs.World.{Bytes, Object, Frame, Store, Place, End, Going, Ended, Threw, Outside, Moment, Before, After, Returned, Thrown, Broken, Continued, Visit, Asked, World}
 use Rattle.php_meaning.specs.runs.Script.{Return, Throw, Break, Continue, Out, Val, Fresh, At, Jump, Mode, Target, Kid, Again, There, File, Script, Give, Stop, Finish, Look, Put, Echo, Turn, Ask, Run}
 use Rattle.php_meaning.specs.Rules.{rule, file_script}
 use Rattle.php_meaning.specs.runs.Kinds.{is_statement}
@@ -111,8 +111,13 @@ value_of (At l) = None
 value_of (Jump w) = None
 
 abbrev pub moment_of : Out → Moment
+moment_of (Val v) = After
+moment_of (Fresh v) = After
+moment_of (At l) = After
+moment_of (Jump (Return v)) = Returned
 moment_of (Jump (Throw o)) = Thrown
-moment_of _ = After
+moment_of (Jump (Break n)) = Broken
+moment_of (Jump (Continue n)) = Continued
 
 -- the end of a node's evaluation is told
 abbrev pub left : Site → ℕ → Result → Result
@@ -136,15 +141,31 @@ going lower kid again (Again m) w = again m w
 going lower kid again (There b m) w = lower (DeclarationStart b m) w
 going lower kid again (File path) w = lower (FileStart path) w
 
--- A node's passes, at most so many: each takes a turn, so no more of them than turns are left can come.
-abbrev pub passes : ((Mode → World → Result) → Mode → World → Result) → ℕ → Mode → World → Result
-passes pass zero m w = Over Going w
-passes pass (suc n) m w = pass (passes pass n) m w
+-- What may run itself again: each time after a turn, where fewer than `n` are left, or without one, at most `free` times
+-- in a row. What goes on past that without a turn is `out`. So a run can't go on for ever, and no run that takes its turns is
+-- cut off.
+abbrev pub repeated : {A : Type 0} → ℕ → (A → World → Result) → ((A → World → Result) → A → World → Result) → ℕ → ℕ → A → World → Result
+repeated free out f zero zero a w = out a w
+repeated free out f zero (suc left) a w = f (repeated free out f zero left) a w
+repeated free out f (suc n) zero a w = elim (nat_lt w.turns (suc n)) [
+  | true ↦ f (repeated free out f n free) a w
+  | false ↦ out a w
+]
+repeated free out f (suc n) (suc left) a w = elim (nat_lt w.turns (suc n)) [
+  | true ↦ f (repeated free out f n free) a w
+  | false ↦ f (repeated free out f (suc n) left) a w
+]
+
+-- A node's further passes: each comes after a turn, but for the first one over the entries of an array.
+abbrev pub passes : Place → ((Mode → World → Result) → Mode → World → Result) → ℕ → Mode → World → Result
+passes here pass n = repeated 1 (λ m w. Over (Outside here NoRule) w) pass n 1
 
 -- A node is played: `kid` evaluates its children.
 abbrev pub at_node : Bool → Tables → (Entry → World → Result) → Site → NodeKind → Forest → ℕ → (ℕ → Mode → World → Result) → Mode → World → Result
 at_node is_new t lower s k c id kid m w =
-    passes (λ again n u. play is_new (place_in s id) (going lower kid again) (rule t s k n (form c)) u) (suc (suc w.turns)) m w
+    let pass : (Mode → World → Result) → Mode → World → Result =
+    λ again n u. play is_new (place_in s id) (going lower kid again) (rule t s k n (form c)) u in
+    pass (passes (place_in s id) pass w.turns) m w
 
 -- The child node with an index among these parts, whose first node has the number `id`, is evaluated.
 abbrev pub step : Bool → Tables → List Mark → (Entry → World → Result) → Site → Forest → ℕ → ℕ → Mode → World → Result
@@ -195,10 +216,20 @@ start is_new t p marks lower (FileStart path) w =
     unless_refused (is_refused marks path) path w (run_file is_new t marks lower path (file_at p.files path) (begun path w))
 start is_new t p marks lower (DeclarationStart b m) w = run_declared is_new t marks lower b m (file_at p.files b.file) w
 
--- with at most so many files and declarations in one another
+-- how many values the declarations of a program write down, at most
+abbrev pub value_count : Tables → ℕ
+value_count [] = zero
+value_count (d ∷ ds) = kids d.form + value_count ds
+
+abbrev pub place_of_entry : Entry → Place
+place_of_entry (FileStart path) = place_of_file path
+place_of_entry (DeclarationStart d m) = place_of_file d.file
+
+-- A file or a declaration is started inside another one, once a turn was taken there; but for the values that declarations
+-- write down: more of these in a row than there are come back to one that is being found.
 abbrev pub enter : Bool → Tables → Program → List Mark → ℕ → Entry → World → Result
-enter is_new t p marks zero e w = Over Going w
-enter is_new t p marks (suc n) e w = start is_new t p marks (enter is_new t p marks n) e w
+enter is_new t p marks n =
+    repeated (value_count t) (λ e w. Over (Outside (place_of_entry e) Call) w) (start is_new t p marks) n (value_count t)
 
 -- ---- whole runs
 
@@ -220,7 +251,7 @@ first_values input c =
 abbrev pub first_frame : Frame
 first_frame = record {
   body = None;
-  variables = (codes "_GET", cell_numbered 0) ∷ (codes "_POST", cell_numbered 1) ∷ (codes "argv", cell_numbered 2) ∷ [];
+  variables = [];
   this = None;
   class = None;
   arguments = entries.none;
@@ -232,6 +263,7 @@ first_store input = record {
   held = first_values input;
   made = 3;
   serials = 0;
+  globals = (codes "_GET", cell_numbered 0) ∷ (codes "_POST", cell_numbered 1) ∷ (codes "argv", cell_numbered 2) ∷ [];
   here = first_frame;
   waiting = [];
   statics = [];
@@ -284,15 +316,14 @@ abbrev pub start_all : (Bytes → World → Result) → Option Bytes → Bytes �
 start_all run None entry w = run entry w
 start_all run (Some path) entry w = then_do (run path w) (and_start path (run entry))
 
--- The run of a program from an entry, with marks, on an input, bounded by a number of turns. A file is entered by a
--- statement, and a body takes a turn itself; the first file takes none. The value that a declaration writes down takes no
--- turn, but each such declaration is found in no more than one other.
-abbrev pub run_with : Bool → Tables → Program → List Mark → Bytes → Input → ℕ → Answer
-run_with is_new t p marks entry input n =
-    answer entry (start_all (λ path. enter is_new t p marks (suc (suc (n + length t))) (FileStart path)) p.prepend entry (first_world input n))
+-- what a program comes to from an entry, with marks, on an input, within a number of turns
+abbrev pub result_of : Bool → Program → List Mark → Bytes → Input → ℕ → Result
+result_of is_new p marks entry input n =
+    let t : Tables = tables_of p.files in
+    start_all (λ path. start is_new t p marks (enter is_new t p marks n) (FileStart path)) p.prepend entry (first_world input n)
 
 abbrev pub run_of : Bool → Program → List Mark → Bytes → Input → ℕ → Answer
-run_of is_new p marks entry input n = run_with is_new (tables_of p.files) p marks entry input n
+run_of is_new p marks entry input n = answer entry (result_of is_new p marks entry input n)
 
 abbrev pub is_newer : Version → Bool
 is_newer V74 = false

@@ -1,5 +1,5 @@
 -- What is done to a store: cells are made and written, variables found and bound, and the holders of a cell counted.
-use Rattle.std.specs.Prelude.{ℕ, zero, suc, Bool, true, false, ◌&&◌, ◌||◌, if◌then◌else◌, nat_eq, nat_lt, List, [], ◌∷◌, ◌++◌, codes, Option, Some, None}
+use Rattle.std.specs.Prelude.{ℕ, zero, suc, Bool, true, false, ◌&&◌, ◌||◌, if◌then◌else◌, nat_eq, nat_lt, List, [], ◌∷◌, ◌++◌, codes, is_none, Option, Some, None}
 use Rattle.std.specs.Str.{bytes_eq, str_to_ascii_lowercase}
 use Rattle.scope_names.specs.Slot.{Declared, Slot, FileVariable, BodyVariable, StaticProperty}
 use Rattle.php_meaning.specs.values.Value.{Value, Null, Truth, Int, Text, Object, Arr, Cell, Entries, none, own, shared}
@@ -33,17 +33,13 @@ variable_slot (Some body) name = BodyVariable body name
 abbrev pub is_everywhere : Bytes → Bool
 is_everywhere name = bytes_eq name (codes "_GET") || bytes_eq name (codes "_POST")
 
--- the file's frame
-abbrev pub last_frame : Frame → List Frame → Frame
-last_frame f [] = f
-last_frame f (g ∷ gs) = last_frame g gs
-
-abbrev pub frame_of : Bytes → Store → Frame
-frame_of name s = if is_everywhere name then last_frame s.here s.waiting else s.here
+-- whether a variable is one of the file level: each is where no body of a function runs
+abbrev pub is_global : Bytes → Store → Bool
+is_global name s = is_everywhere name || is_none s.here.body
 
 -- the cell of a variable
 abbrev pub variable_cell : Bytes → Store → Option Cell
-variable_cell name s = found (frame_of name s).variables name
+variable_cell name s = found (if is_global name s then s.globals else s.here.variables) name
 
 -- the value of a variable, or null where there is none
 abbrev pub held_or_null : Store → Option Cell → Value
@@ -55,14 +51,23 @@ abbrev pub without_name : Bytes → List (Bytes × Cell) → List (Bytes × Cell
 without_name name [] = []
 without_name name (v ∷ vs) = if bytes_eq v.0 name then vs else v ∷ without_name name vs
 
--- the store with a variable bound to a cell, in the body that runs
+-- variables with one bound to a cell
+abbrev pub with_name : Bytes → Cell → List (Bytes × Cell) → List (Bytes × Cell)
+with_name name c vs = (name, c) ∷ without_name name vs
+
+-- the store with other variables in the place where one is
+abbrev pub changing : Bytes → (List (Bytes × Cell) → List (Bytes × Cell)) → Store → Store
+changing name change s =
+    if is_global name s then record s { globals = change s.globals }
+    else record s { here = record s.here { variables = change s.here.variables } }
+
+-- the store with a variable bound to a cell
 abbrev pub with_variable : Bytes → Cell → Store → Store
-with_variable name c s =
-    record s { here = record s.here { variables = (name, c) ∷ without_name name s.here.variables } }
+with_variable name c s = changing name (with_name name c) s
 
 -- the store without a variable
 abbrev pub without_variable : Bytes → Store → Store
-without_variable name s = record s { here = record s.here { variables = without_name name s.here.variables } }
+without_variable name s = changing name (without_name name) s
 
 -- ---- static properties
 
@@ -165,7 +170,7 @@ object_cells (o ∷ os) = named_cells o.properties ++ object_cells os
 
 -- the cells that something outside of arrays holds, one for each holder
 abbrev pub roots : Store → List Cell
-roots s = named_cells s.here.variables ++ frame_cells s.waiting ++ static_cells s.statics ++ object_cells s.objects
+roots s = named_cells s.globals ++ named_cells s.here.variables ++ frame_cells s.waiting ++ static_cells s.statics ++ object_cells s.objects
 
 -- these cells and those, each once
 abbrev pub added_cells : List Cell → List Cell → List Cell

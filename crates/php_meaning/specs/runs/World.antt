@@ -30,15 +30,16 @@ pub record Frame : Type 0 where
   pub arguments : Entries
   pub item : Option ℕ
 
--- The store: what each cell holds, how many cells were made, the next serial number of an
--- entry, the body that runs and those that wait for it (the last
--- one is the file's), the cells of statics and static properties by slot and, where classes have a copy each, by class,
--- the objects by number, the constants by name and
--- which of them are found without case, and what was declared and which files were started, the newest first.
+-- The store: what each cell holds, how many cells were made, the next serial number of an entry, the variables of the file
+-- level by name, the body that runs and those that wait for it (the last one is the file's, and has no variables of its own),
+-- the cells of statics and static properties by slot and, where classes have a copy each, by class, the objects by number,
+-- the constants by name and which of them are found without case, and what was declared and which files were started, the
+-- newest first.
 pub record Store : Type 0 where
   pub held : Cell → Value
   pub made : ℕ
   pub serials : ℕ
+  pub globals : List (Bytes × Cell)
   pub here : Frame
   pub waiting : List Frame
   pub statics : List (Slot × Option Bytes × Cell)
@@ -65,11 +66,14 @@ pub data End : Type 0 where
   Threw : Bytes → End
   Outside : Place → Cause → End
 
--- when a node is visited: before it, after it, or while an exception goes through it
+-- when a node is visited: before it, after it, or when it is left by a return, an exception, a break or a continue
 pub data Moment : Type 0 where
   Before : Moment
   After : Moment
+  Returned : Moment
   Thrown : Moment
+  Broken : Moment
+  Continued : Moment
 
 -- a visit of a node: where and when, with its value after it, and the store
 pub record Visit : Type 0 where
