@@ -240,7 +240,7 @@ mutual
       (cast_becomes r x k c y (r.real_casts && is_real) (r.unset_casts && (is_unset && is_plain))
       (λ h. (bytes_eq-Decides (bare x.text) (codes "(real)")).0 (and_later r.real_casts is_real h))
       (λ h. let both = and_both r.unset_casts is_unset is_plain h in
-          ((bytes_eq-Decides (bare x.text) (codes "(unset)")).0 both.0, plain_cast x k c both.1))
+      ((bytes_eq-Decides (bare x.text) (codes "(unset)")).0 both.0, plain_cast x k c both.1))
       (walked r p (suc id) a (w.1.0, w.1.1, tt)))))
       (walked r p (suc (id + count here)) b w.2)
   walked r p id (text {t = x} {c} {f} h q b) w =

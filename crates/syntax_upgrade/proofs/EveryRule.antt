@@ -38,7 +38,7 @@ nothing_off around i (suc n) at (leaf x f) g = nothing_off around false n (behin
 nothing_off around i n at (node k c f) g =
     let inner : Off = none_behind g in
     ap (λ (s : Off). off_in every_rule around false zero (end_of at c) f
-        (record { behind = s.behind; found = ((((s.found ++ []) ++ []) ++ []) ++ []) ++ [] }))
+    (record { behind = s.behind; found = ((((s.found ++ []) ++ []) ++ []) ++ []) ++ [] }))
     (where_on (is_edited (k, c)) (null_off every_rule at c inner) (off_in every_rule (within k c) true zero at c inner) inner
     (null_none at c g) (nothing_off (within k c) true zero at c g))
     ∙ ap (off_in every_rule around false zero (end_of at c) f) (five g)

@@ -19,6 +19,7 @@ use Rattle.syntax_upgrade.specs.Steps.{begun_next, recorded_next}
 use Rattle.syntax_upgrade.specs.UnsetCast.{null_token}
 use Rattle.syntax_upgrade.proofs.Own.{own_lead}
 use Rattle.syntax_upgrade.proofs.Tokens.{pieces_append}
+
 no_lead : (b : Bool) → lead_by b [] ≡ []
 no_lead true = refl
 no_lead false = refl

@@ -148,12 +148,7 @@ pub(crate) fn text_part(
 }
 
 // The next token of a quoted text, where none stands open.
-fn opened(
-    writer: &mut Writer,
-    rules: Rules,
-    token: Word,
-    behind: Parts,
-) -> Result<Role, AllocError>
+fn opened(writer: &mut Writer, rules: Rules, token: Word, behind: Parts) -> Result<Role, AllocError>
     ensures { (around : Bool → Option Around) (i : Bool) →
         IfOk result (λ r. text_walked rules around false (role_of r) (forest_in behind.entry) writer.new ≡ text_walked rules around i other (leaf (seen token.entry) (forest_in behind.entry)) writer.old) }
 {

@@ -178,12 +178,7 @@ fn line_length(bytes: &[u8]) -> usize
 }
 
 // Puts a comment that begins at a place, with these bytes behind its first one, behind other places, if it is one.
-fn add_comment(
-    is_one: bool,
-    at: u32,
-    rest: &[u8],
-    out: &mut Vec<Found>,
-) -> Result<(), AllocError>
+fn add_comment(is_one: bool, at: u32, rest: &[u8], out: &mut Vec<Found>) -> Result<(), AllocError>
     ensures { OnOk result (map found_of out.new.items ≡ map found_of out.old.items
         ++ off_if is_one HashComment at (at + 1 + length (take_while in_line rest.now))) }
 {

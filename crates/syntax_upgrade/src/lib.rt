@@ -32,7 +32,7 @@ mod words;
 mod writer;
 
 pub use found::Found;
+pub use laws::{edits_are_written, insides_are_written, names_are_walked, nodes_are_written};
 pub use rules_on::rules_of;
 pub use syntax_rules::Rules;
-pub use laws::{edits_are_written, insides_are_written, names_are_walked, nodes_are_written};
 pub use whole::{Upgrade, upgraded};

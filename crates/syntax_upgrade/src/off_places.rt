@@ -122,7 +122,8 @@ impl OffPlaces {
         ensures { (h : Head) → ahead ≡ shown h →
             OnOk result (self.new ≡ spec.head_off at (seen token.entry) h (forest_in behind.entry) self.old) }
     {
-        let is_split = has_trivia(ahead.more, behind) || ahead.wants_space(true, self.behind_keyword);
+        let is_split = has_trivia(ahead.more, behind)
+            || ahead.wants_space(true, self.behind_keyword);
         if is_split {
             let start = past_bytes(at, token.lead)?;
             let end = behind_more(ahead.more, past_token(at, token)?, behind)?;

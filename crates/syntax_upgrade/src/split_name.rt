@@ -23,10 +23,10 @@ use crate::word::Word;
 use crate::words::word_of;
 use crate::writer::Writer;
 use php_rows::Parts;
-use syntax_rules::Rules;
 use php_terminals::tokens::Tokens;
 use php_tree::TokenKind;
 use std::alloc::AllocError;
+use syntax_rules::Rules;
 
 /// What parts begin with, a token or a whole name: its kind, how many tokens it has behind its first one, and of its text
 /// and of its trivia whether it begins with `\` and whether it is empty.
@@ -168,7 +168,12 @@ fn is_one(braces: bool, token: Word, ahead: Ahead) -> bool
 }
 
 // A token in front of what is ahead. The only error is want of memory.
-fn in_front(delete: bool, braces: bool, token: Word, ahead: Option<Ahead>) -> Result<Ahead, AllocError>
+fn in_front(
+    delete: bool,
+    braces: bool,
+    token: Word,
+    ahead: Option<Ahead>,
+) -> Result<Ahead, AllocError>
     ensures { (r : Rules) (o : Option Head) → ahead ≡ shown_if_any o → IfOk result (λ a. a ≡ shown (head_of delete (own_of r braces (seen token.entry)) o)) }
 {
     match ahead {

@@ -13,8 +13,8 @@ use crate::recorder::Recorder;
 use crate::split_name::Ahead;
 use php_tree::TokenKind;
 use std::alloc::{AllocError, Global};
-use syntax_rules::Rules;
 use std::marker::Model;
+use syntax_rules::Rules;
 
 /// The edits up to a place, whether a keyword stands directly before it, and how many parentheses open at the next text.
 #[derive(Drop)]
@@ -61,7 +61,12 @@ impl Writer {
     }
 
     /// Before the text of what a token begins with: its trivia, the parentheses, a space.
-    pub(crate) fn begin(&mut self, rules: Rules, lead: &[u8], ahead: Ahead) -> Result<(), AllocError>
+    pub(crate) fn begin(
+        &mut self,
+        rules: Rules,
+        lead: &[u8],
+        ahead: Ahead,
+    ) -> Result<(), AllocError>
         ensures { (h : Head) → ahead ≡ shown h →
             OnOk result (self.new ≡ begun_next rules.split_names h (lead_by rules.hash_comments lead.now) self.old) }
     {
