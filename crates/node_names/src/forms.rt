@@ -50,7 +50,8 @@ fn piece_of(draft: Draft) -> Piece
     }
 }
 
-fn pieces_of(alloc: Global, mut drafts: Vec<Draft>) -> Result<Vec<Piece>, AllocError>
+/// The pieces that drafts become. The only error is want of memory.
+pub fn pieces_of(alloc: Global, mut drafts: Vec<Draft>) -> Result<Vec<Piece>, AllocError>
     ensures { IfOk result (λ ps. form_of ps.items ≡ bits (stacked drafts.items)) }
 {
     let mut pieces = Vec::new(alloc);

@@ -15,7 +15,8 @@ mod tests;
 
 pub use comparing::{compared, in_space, member_names, named, space_names};
 pub use declares::declared_names;
-pub use forms::form;
+pub use draft::{Draft, add_token};
+pub use forms::{form, pieces_of};
 pub use name::Name;
 pub use name_sort::NameSort;
 pub use parted::{behind_keyword, behind_text, first_member, is_keyword, without_ampersand};

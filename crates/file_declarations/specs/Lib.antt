@@ -1,0 +1,11 @@
+pub mod Loose
+pub mod Texts
+pub mod Next
+pub mod Kinds
+pub mod Imported
+pub mod Told
+pub mod Roles
+pub mod Spaces
+pub mod Standing
+pub mod NamesSite
+pub mod FactsTold
