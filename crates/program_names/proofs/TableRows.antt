@@ -5,7 +5,7 @@ use Rattle.php_tree.specs.declared.kind.NodeKind.TheVariants as kind
 use Rattle.php_tree.specs.declared.token.TokenKind.TheVariants as token
 use Rattle.php_tree.specs.Tree.{Forest, none, leaf, node}
 use Rattle.node_names.specs.Facts.{file_facts}
-use Rattle.program_names.specs.declared.node_ref.NodeRef.{NodeRef}
+use Rattle.file_declarations.specs.declared.node_ref.NodeRef.{NodeRef}
 use Rattle.program_names.specs.Classes.{number_of, class_number}
 use Rattle.program_names.specs.Table.{Table, declarations}
 

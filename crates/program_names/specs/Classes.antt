@@ -8,8 +8,8 @@ use Rattle.php_tree.specs.declared.kind.NodeKind.{NodeKind}
 use Rattle.php_tree.specs.declared.kind.NodeKind.TheVariants as kind
 use Rattle.node_names.specs.declared.name.Name.{Name}
 use Rattle.node_names.specs.declared.name_sort.NameSort.TheVariants as sort
-use Rattle.program_names.specs.declared.node_ref.NodeRef.{NodeRef}
-use Rattle.program_names.specs.declared.declaration.Declaration.{Declaration}
+use Rattle.file_declarations.specs.declared.node_ref.NodeRef.{NodeRef}
+use Rattle.file_declarations.specs.declared.declaration.Declaration.{Declaration}
 use Rattle.program_names.specs.Table.{Table, all_declared, fact_at}
 
 -- `stdClass`, and the exception classes

@@ -4,11 +4,11 @@ use Rattle.std.specs.Ordering.{nat_cmp}
 use Rattle.std.specs.declared.cmp.Ordering.TheVariants.{Less}
 use Rattle.std.specs.Cmp.Lexicographic.{slice_cmp}
 use Rattle.std.specs.Str.{bytes_eq}
-use Rattle.php_tree.specs.Whole.{file}
+use Rattle.php_rows.specs.File.{file_in}
 use Rattle.node_names.specs.declared.name_sort.NameSort.{NameSort}
 use Rattle.node_names.specs.declared.name_sort.NameSort.TheVariants as sort
-use Rattle.program_names.specs.declared.declaration.Declaration.{Declaration}
-use Rattle.program_names.specs.declared.node_ref.NodeRef.{NodeRef}
+use Rattle.file_declarations.specs.declared.declaration.Declaration.{Declaration}
+use Rattle.file_declarations.specs.declared.node_ref.NodeRef.{NodeRef}
 use Rattle.node_names.specs.declared.name.Name.{Name}
 use Rattle.node_names.specs.Compared.{Use}
 use Rattle.node_names.specs.Facts.{Fact, file_facts}
@@ -17,7 +17,7 @@ use Rattle.program_names.specs.Files.{Files}
 -- what the nodes of each file tell
 abbrev pub table_of : Files → List (List Fact)
 table_of [] = []
-table_of (f ∷ fs) = file_facts f.0 (file f.1).statements ∷ table_of fs
+table_of (f ∷ fs) = file_facts f.0 (file_in f.1).statements ∷ table_of fs
 
 abbrev pub Table : Type 0
 Table = List (List Fact)
@@ -115,14 +115,15 @@ is_declared_once s = false
 abbrev pub is_same_name : Name → Name → Bool
 is_same_name a b = same_sort a.sort b.sort && bytes_eq a.text b.text
 
+-- an entry, and the file that runs before each
+abbrev pub with_prepend : ℕ → Option ℕ → List ℕ
+with_prepend e None = e ∷ []
+with_prepend e (Some p) = e ∷ p ∷ []
+
 -- one run that starts with an entry reaches both files; the file that runs before each entry counts as reached
 abbrev pub AreTogether : List (List ℕ) → Table → List ℕ → Option ℕ → ℕ → ℕ → Type 0
 AreTogether paths t entries prepend f g =
     (e : ℕ) × Contains entries e × IsReached paths t (with_prepend e prepend) f × IsReached paths t (with_prepend e prepend) g
-  where
-    with_prepend : ℕ → Option ℕ → List ℕ
-    with_prepend e None = e ∷ []
-    with_prepend e (Some p) = e ∷ p ∷ []
 
 -- two declarations by their numbers among all, in the order of paths and places, that one run would both begin with
 pub record Clash (paths : List (List ℕ)) (t : Table) (entries : List ℕ) (prepend : Option ℕ) (i j : ℕ) : Type 0 where

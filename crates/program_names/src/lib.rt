@@ -1,10 +1,9 @@
 //! The names of a whole program: its files, what each node names, and which declarations a name stands for.
 #![tactic(auto)]
 
-mod declaration;
-mod node_ref;
 mod program;
+mod slot_id;
 
-pub use declaration::Declaration;
-pub use node_ref::{NodeRef, SlotId};
+pub use file_declarations::{Declaration, NodeRef};
 pub use program::Program;
+pub use slot_id::SlotId;

@@ -2,13 +2,13 @@
 ghost use Rattle.std.specs.Prelude.{◌<◌, ◌^◌, IsTrue, length};
 ghost use Rattle.program_names.specs.Files.{are_ascending, nodes_in, tokens_in};
 
-use php_tree::FileTree;
+use php_rows::RowTree;
 use span_edits::PathText;
 
 /// A program: its files by their paths, in the order of the paths' bytes, as they were handed in.
 #[derive(Drop)]
 pub struct Program {
-    files: Vec<(PathText, FileTree)>,
+    files: Vec<(PathText, RowTree)>,
     ghost ascending: { IsTrue (are_ascending files.items) },
     ghost few_files: { length files.items < 2 ^ 32 },
     ghost few_nodes: { nodes_in files.items < 2 ^ 31 },
@@ -21,7 +21,7 @@ impl Program {
 
     /// A program of these files: their paths ascend strictly, byte by byte, and there are fewer than 2^32 files, 2^31
     /// nodes and 2^30 tokens in all.
-    pub fn new(files: Vec<(PathText, FileTree)>) -> Program
+    pub fn new(files: Vec<(PathText, RowTree)>) -> Program
         requires ascending { IsTrue (are_ascending files.items) }
         requires few_files { length files.items < 2 ^ 32 }
         requires few_nodes { nodes_in files.items < 2 ^ 31 }
@@ -46,7 +46,7 @@ impl Program {
     }
 
     /// The tree of the file with a number, from 0; none exactly where there are no more files than that.
-    pub fn tree(&self, file: u32) -> Option<&FileTree>
+    pub fn tree(&self, file: u32) -> Option<&RowTree>
         ensures { option_copied result ≡ option_map (λ f. f.1) (slice_get (files_of self.now) file) }
     {
         self.files.get(file as usize).map(|f| &f.1)

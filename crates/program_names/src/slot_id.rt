@@ -1,0 +1,5 @@
+// Slots by number.
+
+/// A slot by its number.
+#[derive(Clone, Copy, Debug, PartialEq, Eq, PartialOrd, Ord)]
+pub struct SlotId(pub u32);
