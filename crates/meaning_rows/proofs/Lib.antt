@@ -15,6 +15,7 @@ mod MixedCalls
 mod MixedNames
 mod MixedBodies
 mod FurtherKinds
+mod AgainstPhp
 mod MixedOrders
 mod PageRow
 mod BuiltinRows

@@ -7,7 +7,8 @@ use Rattle.builtin_tables.specs.Builtins.{builtin_rows}
 use Rattle.builtin_tables.specs.Constants.{named_constants, word_constants}
 use Rattle.builtin_tables.specs.Named.{is_same_name}
 use Rattle.builtin_tables.specs.Newer.{newer_functions, newer_classes, newer_constants}
-use Rattle.meaning_rows.specs.Words.{t, b, file, ended, Comes}
+use Rattle.php_meaning.specs.Cause.{Offset}
+use Rattle.meaning_rows.specs.Words.{t, b, file, ended, outside, Comes}
 
 -- <?php class A { private $x = 1; public $y = 2; function a() { return $this->x; } } class B extends A { public $x = 5; function b() { return $this->x; } } $b = new B; echo $b->a(), $b->b(), $b->x; $b->x = 7; echo $b->a(), $b->x; function f($o) { $o->y = 9; } f($b); echo $b->y;
 abbrev mixed_private_shadow_tree : Forest
@@ -186,8 +187,8 @@ mixed_text_offsets_tree =
     ";" none))))))))))))) none))
 
 mixed_text_offsets : Comes 200 (file mixed_text_offsets_tree) (file mixed_text_offsets_tree) (codes "a.php")
-    ((codes "acb00d"), ended)
-    ((codes "acb00d"), ended)
+    ((codes "acb0"), outside Offset)
+    ((codes "acb0"), outside Offset)
 unfolding builtin_rows named_constants word_constants is_same_name newer_functions newer_classes newer_constants
 mixed_text_offsets = (refl, refl)
 

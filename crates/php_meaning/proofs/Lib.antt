@@ -12,6 +12,7 @@ pub mod NowdocLemmas
 mod TextLiteralRows
 mod OperatorRows
 mod RunRows
+mod ProgramRows
 mod ComparisonRows
 mod TextRows
 mod KeyRows

@@ -8,8 +8,9 @@ use Rattle.php_tree.specs.declared.kind.NodeKind.TheVariants as kind
 use Rattle.std.proofs.lemmas.Bool.{true≢false}
 use Rattle.php_tree.specs.declared.version.Version.TheVariants.{V74, V83}
 use Rattle.php_tree.specs.Tree.{Forest, none, leaf, node}
+use Rattle.php_meaning.specs.values.Value.{Value}
 use Rattle.php_meaning.specs.runs.World.{Bytes}
-use Rattle.php_meaning.specs.runs.Script.{Mode, Read, Quiet, Write, Later, Top}
+use Rattle.php_meaning.specs.runs.Script.{Mode, Read, Quiet, Write, Later, Top, Unchanged, Standing, Location}
 use Rattle.scope_names.specs.Slot.{Declared}
 use Rattle.scope_names.specs.Form.{Form, Part, word, child, part_of, part_before, parts, bits, form, kids, joins, is_name_part, is_namespace, first_is, is_backslash}
 use Rattle.scope_names.specs.Sites.{Site, file_site, is_declaration, declarations, one_if, declared_here, within, within_form, beside, names_beside}
@@ -18,7 +19,7 @@ use Rattle.php_meaning.specs.names.Tables.{Tables, tables_of, listed, entry, hol
 use Rattle.php_meaning.specs.statements.Loops.{switch}
 use Rattle.php_meaning.specs.calls.Bodies.{global_all}
 use Rattle.php_meaning.specs.expressions.Expressions.{array_literal, isset, unset_all}
-use Rattle.php_meaning.specs.Rules.{rule, reading, reading_quietly, locating, running, run_all, return, choices, exit, echo_all, ternary, at_top}
+use Rattle.php_meaning.specs.Rules.{rule, reading, reading_quietly, locating, running, run_all, return, choices, exit, echo_all, ternary, at_top, held_again, standing_still}
 use Rattle.php_meaning.specs.runs.Run.{Program, is_newer, run}
 use Rattle.php_meaning.specs.laws.Laws.{IsInside, SameRun, ParensChangeNoRun, ParensKeepMeaning, MarksOnlyStop, Parenthesized, ends, token, inner, parens, AreParenthesized, no_files, file}
 use Rattle.php_meaning.specs.laws.SameScripts.{HasScriptsOf, nothing, token_before, token_behind, same, wrapped, HaveScriptsOf, no_more, one_more, DeclareAlike, SameScriptsKeepMeaning, NamesAsOneToken, counts_children, OtherTokensCountNothing}
@@ -342,10 +343,31 @@ top_counts t s kind.Use f g e h = absurd (true≢false (sym h))
 top_counts t s kind.Declare f g e h = absurd (true≢false (sym h))
 top_counts t s k f g e h = reading_counts t s k f g e h
 
+unchanged_counts : (k : NodeKind) (v : Value) (f g : Form) → IsTrue (counts_children k) → held_again k v g ≡ held_again k v f
+unchanged_counts kind.Variable v f g h = absurd (true≢false (sym h))
+unchanged_counts kind.Cast v f g h = absurd (true≢false (sym h))
+unchanged_counts kind.Float v f g h = refl
+unchanged_counts kind.List v f g h = refl
+unchanged_counts kind.Closure v f g h = refl
+unchanged_counts kind.Arrow v f g h = refl
+unchanged_counts kind.EvalTest v f g h = refl
+unchanged_counts kind.Yield v f g h = refl
+unchanged_counts k v f g h = refl
+
+standing_counts : (k : NodeKind) (l : Location) (f g : Form) → standing_still k l g ≡ standing_still k l f
+standing_counts kind.Variable l f g = refl
+standing_counts kind.StaticProp l f g = refl
+standing_counts kind.Offset l f g = refl
+standing_counts kind.BraceOffset l f g = refl
+standing_counts kind.Prop l f g = refl
+standing_counts k l f g = refl
+
 pub other_tokens_count_nothing : OtherTokensCountNothing
 other_tokens_count_nothing t s kind.Paren m f g h e = refl
 other_tokens_count_nothing t s k Read f g h e = reading_counts t s k f g e h
 other_tokens_count_nothing t s k Top f g h e = top_counts t s k f g e h
+other_tokens_count_nothing t s k (Unchanged v) f g h e = unchanged_counts k v f g h
+other_tokens_count_nothing t s k (Standing l) f g h e = standing_counts k l f g
 other_tokens_count_nothing t s k Quiet f g h e = quietly_counts t s k f g e h
 other_tokens_count_nothing t s k Write f g h e = locating_counts t s k f g h
 other_tokens_count_nothing t s k m f g h e = running_counts t s k m f g h

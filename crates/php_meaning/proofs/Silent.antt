@@ -15,12 +15,12 @@ use Rattle.php_meaning.specs.Cause.{NoRule, Outcome, Gives, Outside, Came, Retur
 use Rattle.php_meaning.specs.values.Convert.{to_text, to_truth}
 use Rattle.php_meaning.specs.runs.World as End
 use Rattle.php_meaning.specs.runs.World.{Store, Asked, Bytes, Place, Before, World}
-use Rattle.php_meaning.specs.runs.Script.{Return, Throw, Break, Continue, Out, Val, Fresh, At, Jump, Mode, Read, Quiet, Write, Target, Kid, Again, There, File, Script, Give, Stop, Finish, Look, Put, Echo, Turn, Ask, Run, value_then, given, comes, Top, Name}
+use Rattle.php_meaning.specs.runs.Script.{Return, Throw, Break, Continue, Out, Val, Fresh, At, Jump, Mode, Read, Quiet, Write, Target, Kid, Again, There, File, Script, Give, Stop, Finish, Look, Put, Echo, Turn, Ask, Run, value_then, given, comes, Top, Name, Unchanged, Standing, Location, location_then}
 use Rattle.php_meaning.specs.values.Arithmetic.{joined}
 use Rattle.php_meaning.specs.expressions.Operators.{of_values, binary}
 use Rattle.php_meaning.specs.literals.Literals.{constant_named, name_of}
 use Rattle.php_meaning.specs.literals.TextLiterals.{text_literal}
-use Rattle.php_meaning.specs.Rules.{first_text, run_all, declare_early, is_early, file_script, echo_all, choices, constant, ternary, short_ternary, reading, reading_quietly, locating, running, rule, at_top, run_top, is_unfit}
+use Rattle.php_meaning.specs.Rules.{first_text, run_all, declare_early, is_early, file_script, echo_all, choices, constant, ternary, short_ternary, reading, reading_quietly, locating, running, rule, at_top, run_top, is_unfit, held_again, standing_still}
 use Rattle.php_meaning.specs.runs.Kinds.{is_statement}
 use Rattle.php_meaning.specs.runs.Run.{begun, Program, Mark, file_at, is_stopped, is_refused, Result, Done, Over, then_do, with_turn, play, Entry, FileStart, DeclarationStart, place_in, place_of_file, told, left, starting, unless_stopped, going, repeated, passes, at_node, step, run_file, declared_in, run_declared, unless_refused, start, value_count, place_of_entry, enter, first_world, and_start, start_all, is_newer}
 use Rattle.php_meaning.specs.laws.Asking.{may_ask, asks_nothing, AsksNowhere, InsideIsCovered}
@@ -45,6 +45,12 @@ value_then_never k h (Val v) = h v
 value_then_never k h (Fresh v) = h v
 value_then_never k h (At l) = tt
 value_then_never k h (Jump w) = tt
+
+location_then_never : (k : Location → Script) → ((l : Location) → NeverAsks (k l)) → (o : Out) → NeverAsks (location_then k o)
+location_then_never k h (Val v) = tt
+location_then_never k h (Fresh v) = tt
+location_then_never k h (At l) = h l
+location_then_never k h (Jump w) = tt
 
 given_never : {A : Type 0} (r : Outcome A) (k : A → Script) → ((a : A) → NeverAsks (k a)) → NeverAsks (given r k)
 given_never (Gives a) k h = h a
@@ -101,7 +107,8 @@ choices_never i (suc (suc n)) = value_then_never _ (λ v. cond_never (to_truth v
 
 -- `.` joins texts
 dot_never : (b : Bool) (rest : Script) → IsTrue b → NeverAsks (cond b (binary (Some (of_values joined))) rest)
-dot_never true rest h = value_then_never _ (λ a. value_then_never _ (λ c. given_never (outcome_map Returns (joined a c)) comes comes_never))
+dot_never true rest h =
+    value_then_never _ (λ a. value_then_never _ (λ c. location_then_never _ (λ l. given_never (outcome_map Returns (joined a c)) comes comes_never)))
 dot_never false rest h = cc
 
 is_dot : (b : Bool) → IsTrue (not (not b)) → IsTrue b
@@ -168,10 +175,31 @@ top_never t s kind.Use f h = cc
 top_never t s kind.Declare f h = cc
 top_never t s k f h = reading_never t s k f h
 
+unchanged_never : (k : NodeKind) (v : Value) (f : Form) → IsTrue (not (may_ask k (texts f))) → NeverAsks (held_again k v f)
+unchanged_never kind.Variable v f h = cc
+unchanged_never kind.Cast v f h = cc
+unchanged_never kind.Float v f h = tt
+unchanged_never kind.List v f h = tt
+unchanged_never kind.Closure v f h = tt
+unchanged_never kind.Arrow v f h = tt
+unchanged_never kind.EvalTest v f h = tt
+unchanged_never kind.Yield v f h = tt
+unchanged_never k v f h = tt
+
+standing_never : (k : NodeKind) (l : Location) (f : Form) → IsTrue (not (may_ask k (texts f))) → NeverAsks (standing_still k l f)
+standing_never kind.Variable l f h = cc
+standing_never kind.StaticProp l f h = cc
+standing_never kind.Offset l f h = cc
+standing_never kind.BraceOffset l f h = cc
+standing_never kind.Prop l f h = cc
+standing_never k l f h = tt
+
 rule_never : (t : Tables) (s : Site) (k : NodeKind) (m : Mode) (f : Form) → IsTrue (not (may_ask k (texts f))) → NeverAsks (rule t s k m f)
 rule_never t s kind.Paren m f h = λ o. tt
 rule_never t s k Read f h = reading_never t s k f h
 rule_never t s k Top f h = top_never t s k f h
+rule_never t s k (Unchanged v) f h = unchanged_never k v f h
+rule_never t s k (Standing l) f h = standing_never k l f h
 rule_never t s k Quiet f h = quietly_never t s k f h
 rule_never t s k Write f h = locating_never t s k f h
 rule_never t s k m f h = running_never t s k m f h

@@ -24,12 +24,12 @@ use Rattle.scope_names.specs.Imports.{OfFunction}
 use Rattle.php_meaning.specs.names.Tables.{Tables}
 use Rattle.php_meaning.specs.names.Tables as table
 use Rattle.php_meaning.specs.runs.Stores.{cells_of}
-use Rattle.php_meaning.specs.runs.Script.{Return, Throw, Break, Continue, Out, At, Jump, Mode, Read, Quiet, Write, Unset, Name, Later, Left, Behind, Against, Into, Given, Handed, Entered, Item, InProperty, InCell, File, Script, Give, Stop, Finish, Look, Put, Echo, Run, Kid, give, child_value, given, asking, comes, value_then, throws, Top}
+use Rattle.php_meaning.specs.runs.Script.{Return, Throw, Break, Continue, Out, At, Jump, Mode, Read, Quiet, Write, Unset, Name, Later, Left, Behind, Against, Into, Given, Handed, Entered, Item, InProperty, InCell, File, Script, Give, Stop, Finish, Look, Put, Echo, Run, Kid, give, child_value, given, asking, comes, value_then, throws, Top, Unchanged, Standing, Location, stands}
 use Rattle.php_meaning.specs.expressions.Operators.{operation, binary, of_values, signs, prefix}
 use Rattle.php_meaning.specs.expressions.Assigning.{numbered, Properties, kept_then, unset}
-use Rattle.php_meaning.specs.expressions.Expressions.{plain_name, in_variable, variable_value, read_offset, offset_location, with_array, item, array_literal, variable_quietly, assign, assign_reference, operator_of, stepped, isset, empty_test, coalesce, both, either, unset_all, one_alone, compound_by}
+use Rattle.php_meaning.specs.expressions.Expressions.{plain_name, in_variable, variable_value, read_offset, offset_location, with_array, item, array_literal, variable_quietly, assign, assign_reference, operator_of, stepped, isset, empty_test, coalesce, both, either, unset_all, one_alone, compound_by, variable_still, offset_standing, property_standing}
 use Rattle.php_meaning.specs.literals.Nowdocs.{is_blank}
-use Rattle.php_meaning.specs.expressions.QuotedTexts.{quoted_text}
+use Rattle.php_meaning.specs.expressions.QuotedTexts.{quoted_text, is_outside_variable}
 use Rattle.php_meaning.specs.statements.Loops.{while_pass, do_pass, for_first, for_later, foreach, foreach_pass, foreach_behind, switch, case_against, case_statements}
 use Rattle.php_meaning.specs.calls.Bodies.{function_named, declared_function, function_name, is_function, reach_function, call, arguments, body_script, parameter, global_all, statics, declare}
 use Rattle.php_meaning.specs.classes.Lines.{is_early_class}
@@ -37,7 +37,11 @@ use Rattle.php_meaning.specs.classes.Declaring.{is_class_fit, reach_class}
 use Rattle.php_meaning.specs.classes.Types.{type_against}
 use Rattle.php_meaning.specs.names.Reserved.{is_function_taken}
 use Rattle.php_meaning.specs.values.Bits.{complement}
-use Rattle.php_meaning.specs.classes.Objects.{property_value, property_quietly, member_word, new_object, method_call, static_call, throw_value, try_script, class_constant, instance_of, properties_at, unset_property, static_value, static_quietly, static_location}
+use Rattle.php_meaning.specs.classes.Properties.{property_value, property_quietly, member_word, properties_at, unset_property}
+use Rattle.php_meaning.specs.classes.Making.{new_object}
+use Rattle.php_meaning.specs.classes.Methods.{method_call, static_call}
+use Rattle.php_meaning.specs.classes.Statics.{class_constant, instance_of, static_value, static_quietly, static_location}
+use Rattle.php_meaning.specs.classes.Exceptions.{throw_value, try_script}
 use Rattle.php_meaning.specs.names.Constants.{constant_value, define_all}
 use Rattle.php_meaning.specs.builtins.Calls.{handed, builtin_named, call_builtin}
 
@@ -133,10 +137,16 @@ constant_of_place s name =
     else (if bytes_eq name (codes "__class__") then Some (Text (or_nothing s.class))
     else (if bytes_eq name (codes "__namespace__") then Some (Text s.space) else None))
 
+-- the others that are known from their place have no meaning here (PHP manual, "Magic constants")
+abbrev pub is_other_magic : Bytes → Bool
+is_other_magic name =
+    bytes_eq name (codes "__line__") || bytes_eq name (codes "__file__") || bytes_eq name (codes "__function__")
+    || bytes_eq name (codes "__method__") || bytes_eq name (codes "__trait__")
+
 abbrev pub other_constant : Site → Bytes → Script
 other_constant s name = elim (constant_of_place s (str_to_ascii_lowercase name)) [
   | Some v ↦ give v
-  | None ↦ constant_value s name
+  | None ↦ if is_other_magic (str_to_ascii_lowercase name) then Stop NoRule else constant_value s name
 ]
 
 -- the value of a constant
@@ -211,6 +221,11 @@ casts =
 abbrev pub cast : Option (Value → Script) → Script
 cast None = Stop NoRule
 cast (Some k) = child_value 0 k
+
+-- a cast that gave a value
+abbrev pub cast_again : Option (Value → Script) → Script
+cast_again None = Stop NoRule
+cast_again (Some k) = Give stands
 
 abbrev pub exit_with : Value → Script
 exit_with (Int i) = Finish i
@@ -365,7 +380,7 @@ reading_quietly t s k f = reading t s k f
 -- as a location
 abbrev pub locating : Tables → Site → NodeKind → Form → Script
 locating t s kind.Variable f =
-    cond (nat_eq (kids f) 0 && not (bytes_eq (first_text (texts f)) (codes "$this"))) (Give (At (in_variable (plain_name (first_text (texts f)))))) (Stop NoRule)
+    cond (nat_eq (kids f) 0 && not (bytes_eq (first_text (texts f)) (codes "$this")) && not (is_outside_variable (plain_name (first_text (texts f))))) (Give (At (in_variable (plain_name (first_text (texts f)))))) (Stop NoRule)
 locating t s kind.Offset f = offset_location f (λ l. Give (At l))
 locating t s kind.BraceOffset f = offset_location f (λ l. Give (At l))
 locating t s kind.Prop f = child_value 0 (λ v. Give (At (record { root = InProperty v (member_word 1 f); offsets = [] })))
@@ -374,8 +389,8 @@ locating t s k f = Stop NoRule
 
 -- in all the other modes
 abbrev pub running : Tables → Site → NodeKind → Mode → Form → Script
-running t s kind.Variable Name f = cond (nat_eq (kids f) 0) (give (Text (plain_name (first_text (texts f))))) (Stop NoRule)
-running t s kind.Variable Unset f = unset (properties_at t s) s (in_variable (plain_name (first_text (texts f)))) (give Null)
+running t s kind.Variable Name f = cond (nat_eq (kids f) 0 && not (is_outside_variable (plain_name (first_text (texts f))))) (give (Text (plain_name (first_text (texts f))))) (Stop NoRule)
+running t s kind.Variable Unset f = cond (is_outside_variable (plain_name (first_text (texts f)))) (Stop NoRule) (unset (properties_at t s) s (in_variable (plain_name (first_text (texts f)))) (give Null))
 running t s kind.Constant Name f = give (Text (name_of (texts f)))
 running t s kind.Prop Unset f = child_value 0 (λ v. unset_property t s v (member_word 1 f))
 running t s kind.Offset Unset f = offset_location f (λ l. unset (properties_at t s) s l (give Null))
@@ -405,11 +420,34 @@ at_top t s kind.Use f = give Null
 at_top t s kind.Declare f = declared (texts f) 0 (kids f)
 at_top t s k f = reading t s k f
 
+-- What gave a value before. A plain variable has to hold it still, and what has no rule has none here either.
+abbrev pub held_again : NodeKind → Value → Form → Script
+held_again kind.Variable v f = cond (nat_eq (kids f) 0) (variable_still (plain_name (first_text (texts f))) v) (Stop NoRule)
+held_again kind.Cast v f = cast_again (found casts (cast_word (first_text (texts f))))
+held_again kind.Float v f = Stop NoRule
+held_again kind.List v f = Stop NoRule
+held_again kind.Closure v f = Stop NoRule
+held_again kind.Arrow v f = Stop NoRule
+held_again kind.EvalTest v f = Stop NoRule
+held_again kind.Yield v f = Stop NoRule
+held_again k v f = Give stands
+
+-- what came to a location before: the plain variables among its keys, and one that it is a property of, hold what they held
+abbrev pub standing_still : NodeKind → Location → Form → Script
+standing_still kind.Variable l f = Give (At l)
+standing_still kind.StaticProp l f = Give (At l)
+standing_still kind.Offset l f = offset_standing l
+standing_still kind.BraceOffset l f = offset_standing l
+standing_still kind.Prop l f = property_standing l l.root
+standing_still k l f = Stop NoRule
+
 -- Parentheses are what stands in them, however they are evaluated.
 abbrev pub rule : Tables → Site → NodeKind → Mode → Form → Script
 rule t s kind.Paren m f = Run (Kid 0 m) Give
 rule t s k Read f = reading t s k f
 rule t s k Top f = at_top t s k f
+rule t s k (Unchanged v) f = held_again k v f
+rule t s k (Standing l) f = standing_still k l f
 rule t s k Quiet f = reading_quietly t s k f
 rule t s k Write f = locating t s k f
 rule t s k m f = running t s k m f

@@ -3,4 +3,8 @@ pub mod Lines
 pub mod Members
 pub mod Declaring
 pub mod Types
-pub mod Objects
+pub mod Properties
+pub mod Making
+pub mod Methods
+pub mod Statics
+pub mod Exceptions

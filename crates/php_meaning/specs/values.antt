@@ -13,3 +13,4 @@ pub mod Arrays
 pub mod Copies
 pub mod Arithmetic
 pub mod Offsets
+pub mod Same

@@ -17,7 +17,7 @@ use Rattle.php_meaning.specs.expressions.Expressions.{offset_of}
 use Rattle.scope_names.specs.Form.{Form, Word, Child, Part, word, child, part_of, part_before, parts, bits, form, joins, is_name_part, is_namespace, first_is, is_backslash}
 use Rattle.php_meaning.specs.runs.Stores.{cells_of, held_or_null, variable_cell}
 use Rattle.php_meaning.specs.runs.Script.{Throw, Jump, Out, Val, Fresh, At, Mode, Read, Target, Kid, Script, Give, Stop, Look, Run, give, value_then, child_value, given, came_then, throws}
-use Rattle.php_meaning.specs.expressions.QuotedTexts.{object_then, variable_read, Style, piece, ends_line, Standing, InText, InCode, BeforeBrace, BehindDollar, BehindName, InBrackets, BeforeBracket, text_then, text_at, quoted, ends_here}
+use Rattle.php_meaning.specs.expressions.QuotedTexts.{object_then, variable_read, Style, piece, ends_line, Standing, InText, InCode, BeforeBrace, BehindDollar, BehindName, InBrackets, BeforeBracket, text_then, text_at, quoted, ends_here, object_of, is_filled}
 use Rattle.php_meaning.specs.runs.Run.{Result, Done, Over, then_do, play, Entry, going, place_in, told, left}
 use Rattle.php_meaning.specs.laws.Following.{Same}
 use Rattle.php_meaning.specs.laws.Across.{Claim, world_in, Grown, Meets, FollowsAcross, Across}
@@ -103,11 +103,11 @@ module _ (claim : Claim) (here : Place) (go to : Target → World → Result) (s
 
   variable_follows : (b : Bool) (w u : World) → Same w u
       → FollowsAcross claim
-      (play false here go (if b then Look (λ st. object_then st.here.this m) else Look (λ st. m (held_or_null st (variable_cell name st)))) w)
-      (then_do (left s id (play true (place_in s id) to (if b then Look (λ st. object_then st.here.this give) else Look (λ st. give (held_or_null st (variable_cell name st)))) (told s id Before None u))) onward)
+      (play false here go (if b then Look (λ st. object_then (object_of name st) m) else Look (λ st. m (held_or_null st (variable_cell name st)))) w)
+      (then_do (left s id (play true (place_in s id) to (if b then Look (λ st. object_then (object_of name st) give) else Look (λ st. give (held_or_null st (variable_cell name st)))) (told s id Before None u))) onward)
   variable_follows true w u e =
-      subst (λ st. FollowsAcross claim (play false here go (object_then w.store.here.this m) w) (then_do (left s id (play true (place_in s id) to (object_then st.here.this give) (told s id Before None u))) onward))
-      (sym e.store) (object_follows w.store.here.this w u e)
+      subst (λ st. FollowsAcross claim (play false here go (object_then (object_of name w.store) m) w) (then_do (left s id (play true (place_in s id) to (object_then (object_of name st) give) (told s id Before None u))) onward))
+      (sym e.store) (object_follows (object_of name w.store) w u e)
   variable_follows false w u e =
       let v : Store → Value = λ st. held_or_null st (variable_cell name st) in
       subst (λ st. FollowsAcross claim (play false here go (m (v w.store)) w) (onward (Val (v st)) (told s id After (Some (v st)) (told s id Before None u))))
@@ -115,15 +115,15 @@ module _ (claim : Claim) (here : Place) (go to : Target → World → Result) (s
       ((h (v w.store)).follows w (told s id After (Some (v w.store)) (told s id Before None u)) (same_told s id After (Some (v w.store)) (same_told s id Before None e)))
 
   variable_grows : (b : Bool) (w : World)
-      → Grown (world_in (play false here go (if b then Look (λ st. object_then st.here.this m) else Look (λ st. m (held_or_null st (variable_cell name st)))) w)) w
-  variable_grows true w = object_grows w.store.here.this w
+      → Grown (world_in (play false here go (if b then Look (λ st. object_then (object_of name st) m) else Look (λ st. m (held_or_null st (variable_cell name st)))) w)) w
+  variable_grows true w = object_grows (object_of name w.store) w
   variable_grows false w = (h (held_or_null w.store (variable_cell name w.store))).grows w
 
   -- a variable is read where its name stands, and in 8.3 at a node of its own
   pub variable_across : Across claim (play false here go (variable_read name m)) (λ u. then_do (variable_node s id to name u) onward)
   variable_across = record {
-    grows = λ w. variable_grows (bytes_eq name (codes "this")) w;
-    follows = λ w u e. variable_follows (bytes_eq name (codes "this")) w u e;
+    grows = λ w. variable_grows (is_filled name) w;
+    follows = λ w u e. variable_follows (is_filled name) w u e;
   }
 
 -- ---- offsets

@@ -16,12 +16,12 @@ use Rattle.scope_names.specs.Form.{Form, Word, Child, form}
 use Rattle.scope_names.specs.Sites.{Site, is_declaration, declarations, one_if, within, beside}
 use Rattle.php_meaning.specs.runs.Kinds.{is_expression, is_statement}
 use Rattle.php_meaning.specs.names.Tables.{Tables}
-use Rattle.php_meaning.specs.runs.Script.{Out, Val, Mode, Read, Quiet, Write, Unset, Name, Later, Left, Behind, Against, Into, Given, Entered, Item, Target, Kid, Script, Give, Stop, Run, give, given, value_then, child_value, Top}
+use Rattle.php_meaning.specs.runs.Script.{Out, Val, Mode, Read, Quiet, Write, Unset, Name, Later, Left, Behind, Against, Into, Given, Entered, Item, Target, Kid, Script, Give, Stop, Run, give, given, value_then, child_value, Top, Unchanged, stands}
 use Rattle.php_meaning.specs.values.Offsets.{Strict}
 use Rattle.php_meaning.specs.expressions.Expressions.{plain_name, offset_of}
 use Rattle.php_meaning.specs.expressions.QuotedTexts.{variable_read, Style, InQuotes, InHeredoc, piece, ends_line, InText, InCode, BeforeBrace, InBrackets, BeforeBracket, text_then, text_at, quoted, quoted_by, quoted_text, closing_word, ends_here, begins_dollar}
 use Rattle.php_meaning.specs.expressions.QuotedTexts as texts
-use Rattle.php_meaning.specs.Rules.{rule, cast, casts, cast_word}
+use Rattle.php_meaning.specs.Rules.{rule, cast, casts, cast_word, cast_again}
 use Rattle.php_meaning.specs.runs.Run.{Mark, Result, then_do, play, Entry, is_stopped, place_in, told, left, going, passes, at_node, step, declared_in}
 use Rattle.php_meaning.specs.laws.SameScripts.{HasScriptOf}
 use Rattle.php_meaning.specs.laws.Across.{Claim, world_in, Grown, FollowsAcross, Across, DoesAcross, IsRewritten, nothing, token_before, token_behind, same, replaced, kept, wrapped}
@@ -62,6 +62,7 @@ float_script : (t : Tables) (s : Site) (a b : TokenKind) (w v : Bytes) → cast_
 float_script t s a b w v e d Read = ap (λ x. cast (found casts (cast_word x))) d ∙ sym (ap (λ x. cast (found casts x)) e)
 float_script t s a b w v e d Quiet = ap (λ x. cast (found casts (cast_word x))) d ∙ sym (ap (λ x. cast (found casts x)) e)
 float_script t s a b w v e d Top = ap (λ x. cast (found casts (cast_word x))) d ∙ sym (ap (λ x. cast (found casts x)) e)
+float_script t s a b w v e d (Unchanged y) = ap (λ x. cast_again (found casts (cast_word x))) d ∙ sym (ap (λ x. cast_again (found casts x)) e)
 float_script t s a b w v e d m = refl
 
 -- ---- opening tokens
@@ -118,6 +119,7 @@ module _ (claim : Claim) (t : Tables) where
       by_mode Read = opened
       by_mode Quiet = opened
       by_mode Top = opened
+      by_mode (Unchanged v) = gives_alike claim (place_in s id) (place_in s jd) (going lower kid again) (going low lid anew) stands
       by_mode m = stops_alike claim (place_in s id) (place_in s jd) (going lower kid again) (going low lid anew) NoRule (Stop NoRule)
 
   quoted_at : {f g : Forest} (x y : Token) → y.kind ≡ x.kind → Curled f g → PartsAcross f g → (s : Site) (marks : List Mark) (lower low : Entry → World → Result)

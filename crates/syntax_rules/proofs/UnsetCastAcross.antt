@@ -13,10 +13,10 @@ use Rattle.php_meaning.specs.names.Tables.{Tables}
 use Rattle.php_meaning.specs.literals.Literals.{found}
 use Rattle.php_meaning.specs.runs.Stores.{held_or_null, variable_cell}
 use Rattle.php_meaning.specs.runs.World.{Bytes, Store, Place, Outside, Before, After, World}
-use Rattle.php_meaning.specs.runs.Script.{Val, Mode, Read, Quiet, Target, Stop, Look, give, value_then, child_value, Top}
-use Rattle.php_meaning.specs.expressions.QuotedTexts.{object_then, variable_read}
+use Rattle.php_meaning.specs.runs.Script.{Val, Mode, Read, Quiet, Target, Stop, Look, give, value_then, child_value, Top, Unchanged, stands}
+use Rattle.php_meaning.specs.expressions.QuotedTexts.{object_then, variable_read, object_of, is_filled}
 use Rattle.php_meaning.specs.expressions.Expressions.{plain_name}
-use Rattle.php_meaning.specs.Rules.{rule, cast, casts, cast_word}
+use Rattle.php_meaning.specs.Rules.{rule, cast, casts, cast_word, cast_again}
 use Rattle.php_meaning.specs.runs.Run.{Mark, Result, Done, Over, then_do, play, Entry, is_stopped, place_in, told, left, unless_stopped, going, passes, at_node, step}
 use Rattle.php_meaning.specs.laws.Following.{Same}
 use Rattle.php_meaning.specs.laws.Across.{Claim, world_in, Grown, FollowsAcross, Across, DoesAcross}
@@ -46,9 +46,9 @@ reading_harmless : (stop : Bool) (s : Site) (id : ℕ) (go : Target → World �
     → Harmless u (unless_stopped stop (place_in s id) u (left s id (play false (place_in s id) go (variable_read name give) (told s id Before None u))))
 reading_harmless true s id go name u = out (grown u)
 reading_harmless false s id go name u =
-    elim (bytes_eq name (codes "this"))
-    as (λ b. Harmless u (left s id (play false (place_in s id) go (if b then Look (λ st. object_then st.here.this give) else Look (λ st. give (held_or_null st (variable_cell name st)))) (told s id Before None u)))) [
-      | true ↦ object_harmless u.store.here.this s id go u
+    elim (is_filled name)
+    as (λ b. Harmless u (left s id (play false (place_in s id) go (if b then Look (λ st. object_then (object_of name st) give) else Look (λ st. give (held_or_null st (variable_cell name st)))) (told s id Before None u)))) [
+      | true ↦ object_harmless (object_of name u.store) s id go u
       | false ↦ value_harmless s id (held_or_null u.store (variable_cell name u.store)) u
     ]
 
@@ -133,11 +133,28 @@ module _ (claim : Claim) (t t' : Tables) (s : Site) (u x o n p : Token) (is_unse
       onward : World → Target → World → Result
       onward a = going lower (step false t marks lower s (cast_of u x) (suc id)) (passes (place_in s id) (λ again i b. play false (place_in s id) (going lower (step false t marks lower s (cast_of u x) (suc id)) again) (rule t s kind.Cast i (form (cast_of u x))) b) a.turns)
 
+  -- what gave a value gives it again
+  again_across : (marks : List Mark) (lower low : Entry → World → Result) (id jd : ℕ) (v : Value)
+      → Across claim (step false t marks lower s (node kind.Cast (cast_of u x) none) id 0 (Unchanged v)) (step true t' [] low s (node kind.Paren (null_of o n p) none) jd 0 (Unchanged v))
+  again_across marks lower low id jd v =
+      dropped_across claim (is_stopped marks s.file id) s id (at_node false t lower s kind.Cast (cast_of u x) id (step false t marks lower s (cast_of u x) (suc id)) (Unchanged v)) (step true t' [] low s (node kind.Paren (null_of o n p) none) jd 0 (Unchanged v))
+      (λ w. subst (λ r. Grown (world_in (left s id r)) w) (sym (gives_again (told s id Before None w)))
+      (grown_more (told s id After None (told s id Before None w)) (told s id Before None w) w (told_grown s id After None (told s id Before None w)) (told_grown s id Before None w)))
+      (λ w a z. subst (λ r. FollowsAcross claim (left s id r) (step true t' [] low s (node kind.Paren (null_of o n p) none) jd 0 (Unchanged v) a)) (sym (gives_again (told s id Before None w)))
+      (λ b. (refl, record { store = z.store; echo = z.echo; turns = z.turns })))
+    where
+      onward : World → Target → World → Result
+      onward a = going lower (step false t marks lower s (cast_of u x) (suc id)) (passes (place_in s id) (λ again i b. play false (place_in s id) (going lower (step false t marks lower s (cast_of u x) (suc id)) again) (rule t s kind.Cast i (form (cast_of u x))) b) a.turns)
+
+      gives_again : (a : World) → at_node false t lower s kind.Cast (cast_of u x) id (step false t marks lower s (cast_of u x) (suc id)) (Unchanged v) a ≡ Done stands a
+      gives_again a = ap (λ w. play false (place_in s id) (onward a) (cast_again (found casts w)) a) is_unset
+
   unset_modes : (marks : List Mark) (lower low : Entry → World → Result) → ((e : Entry) → Across claim (lower e) (low e)) → (id jd : ℕ) (m : Mode)
       → Across claim (step false t marks lower s (node kind.Cast (cast_of u x) none) id 0 m) (step true t' [] low s (node kind.Paren (null_of o n p) none) jd 0 m)
   unset_modes marks lower low h id jd Read = reads_across marks lower low id jd Read refl refl
   unset_modes marks lower low h id jd Quiet = reads_across marks lower low id jd Quiet refl refl
   unset_modes marks lower low h id jd Top = reads_across marks lower low id jd Top refl refl
+  unset_modes marks lower low h id jd (Unchanged v) = again_across marks lower low id jd v
   unset_modes marks lower low h id jd m = stops_across marks lower low h id jd m (λ w. refl)
 
   -- the law of the rule, at its node

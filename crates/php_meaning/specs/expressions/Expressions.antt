@@ -3,12 +3,14 @@
 use Rattle.std.specs.Prelude.{ℕ, zero, suc, Bool, true, false, not, cond, if◌then◌else◌, List, [], ◌∷◌, ◌++◌, codes, Option, Some, None}
 use Rattle.std.specs.Str.{bytes_eq}
 use Rattle.php_meaning.specs.values.Value.{Value, Null, Truth, Text, Object, Arr}
-use Rattle.php_meaning.specs.Cause.{NoRule, Outcome}
+use Rattle.php_meaning.specs.Cause.{NoRule, Outcome, Reference}
 use Rattle.php_meaning.specs.values.Convert.{to_text, to_truth}
 use Rattle.php_meaning.specs.values.Keys.{to_key}
 use Rattle.php_meaning.specs.values.Arrays.{Own, Shared, Array, array, empty_array, with_element, appended}
 use Rattle.php_meaning.specs.values.Offsets.{Reading, at_offset}
 use Rattle.php_meaning.specs.expressions.QuotedTexts.{variable_read}
+use Rattle.php_meaning.specs.values.Same.{is_same}
+use Rattle.php_meaning.specs.runs.Locations.{front, last_of}
 use Rattle.php_meaning.specs.expressions.Operators.{Operation, operation}
 use Rattle.php_meaning.specs.runs.World.{Bytes}
 use Rattle.scope_names.specs.Form.{Form, Word, Child, texts}
@@ -16,7 +18,7 @@ use Rattle.scope_names.specs.Words.{has_word}
 use Rattle.scope_names.specs.Sites.{Site}
 use Rattle.php_meaning.specs.runs.Stores.{cells_of, held_or_null, variable_cell}
 use Rattle.php_meaning.specs.expressions.Assigning.{Properties, numbered, kept_then, write, read, bind, cell_then, read_quietly}
-use Rattle.php_meaning.specs.runs.Script.{InVariable, Location, Out, Val, Fresh, At, Jump, Mode, Read, Quiet, Unset, Into, Kid, Script, Give, Stop, Look, Put, Run, give, value_then, child_value, child_location, given, asking, came_then, comes, Write}
+use Rattle.php_meaning.specs.runs.Script.{InVariable, Location, Out, Val, Fresh, At, Jump, Mode, Read, Quiet, Unset, Into, Kid, Script, Give, Stop, Look, Put, Run, give, value_then, child_value, child_location, given, asking, came_then, comes, Write, still, standing, Root, InProperty, stands}
 
 -- ---- variables
 
@@ -39,6 +41,12 @@ this_quietly (Some n) = give (Object n)
 abbrev pub variable_quietly : Bytes → Script
 variable_quietly name =
     if bytes_eq name (codes "this") then Look (λ s. this_quietly s.here.this) else variable_value name
+
+-- a variable whose value was read: it still holds it, or it is outside
+abbrev pub variable_still : Bytes → Value → Script
+variable_still name v =
+    if bytes_eq name (codes "this") then Give stands
+    else Look (λ s. cond (is_same (held_or_null s (variable_cell name s)) v) (Give stands) (Stop Reference))
 
 -- ---- offsets
 
@@ -72,6 +80,20 @@ offset_location (Child ∷ Word _ o ∷ Child ∷ f) k =
 offset_location (Child ∷ Word _ o ∷ Word _ c ∷ []) k = child_location 0 (λ l. k (behind_offset l None))
 offset_location f k = Stop NoRule
 
+-- a location's key, and what it is a key of
+abbrev pub key_still : Location → Option (Option Value) → Script
+key_still l (Some (Some k)) = still 1 k (standing 0 (record l { offsets = front l.offsets }) (Give (At l)))
+key_still l o = standing 0 (record l { offsets = front l.offsets }) (Give (At l))
+
+-- an offset that came to a location: its key and its base stand
+abbrev pub offset_standing : Location → Script
+offset_standing l = key_still l (last_of l.offsets)
+
+-- a property that came to a location: the object that it is of is the same
+abbrev pub property_standing : Location → Root → Script
+property_standing l (InProperty v name) = still 0 v (Give (At l))
+property_standing l root = Give (At l)
+
 -- ---- array literals
 
 -- the array so far, of a mode
@@ -93,8 +115,8 @@ item properties s f a =
     else (if has_word (codes "=>") (texts f)
     then child_value 0 (λ v. given (to_key v) (λ key.
     (if has_word (codes "&") (texts f)
-    then child_location 1 (λ l. cell_then properties s l (λ c. fresh (with_element key (Shared c) a)))
-    else Run (Kid 1 Read) (kept_then (λ w. fresh (with_element key (Own w) a))))))
+    then child_location 1 (λ l. still 0 v (cell_then properties s l (λ c. fresh (with_element key (Shared c) a))))
+    else Run (Kid 1 Read) (kept_then (λ w. still 0 v (fresh (with_element key (Own w) a)))))))
     else (if has_word (codes "&") (texts f)
     then child_location 0 (λ l. cell_then properties s l (λ c. asking (appended (Shared c) a) (λ o. given o fresh)))
     else Run (Kid 0 Read) (kept_then (λ w. asking (appended (Own w) a) (λ o. given o fresh)))))
@@ -116,7 +138,7 @@ array_literal n = Look (λ s. Put (numbered n s) (items 0 n (array (empty_array 
 
 abbrev pub assign : Properties → Site → Script
 assign properties s =
-    child_location 0 (λ l. Run (Kid 1 Read) (kept_then (λ v. write properties s l v (give v))))
+    child_location 0 (λ l. Run (Kid 1 Read) (kept_then (λ v. standing 0 l (write properties s l v (give v)))))
 
 -- by reference; an element to an element is outside
 abbrev pub has_offsets : Location → Bool
@@ -124,9 +146,9 @@ has_offsets l = elim l.offsets [ [] ↦ false | k ∷ ks ↦ true ]
 
 abbrev pub assign_reference : Properties → Site → Script
 assign_reference properties s =
-    child_location 0 (λ l. child_location 1 (λ m.
+    child_location 0 (λ l. child_location 1 (λ m. standing 0 l (
     if has_offsets l then cond (has_offsets m) (Stop NoRule) (cell_then properties s m (λ c. bind properties s l c (Look (λ st. give (st.held c)))))
-    else cell_then properties s m (λ c. bind properties s l c (Look (λ st. give (st.held c))))))
+    else cell_then properties s m (λ c. bind properties s l c (Look (λ st. give (st.held c)))))))
 
 -- the operator of a compound assignment, without its `=`
 abbrev pub operator_of : Bytes → Bytes
@@ -138,8 +160,8 @@ operator_of (b ∷ c ∷ bs) = b ∷ operator_of (c ∷ bs)
 abbrev pub compound : Properties → Site → Option Operation → Script
 compound properties s None = Stop NoRule
 compound properties s (Some o) =
-    child_location 0 (λ l. child_value 1 (λ b. read properties s l (λ a.
-    given (o.left a) (λ left. asking (o.answer left b) (λ r. given r (came_then (λ v. write properties s l v (give v))))))))
+    child_location 0 (λ l. child_value 1 (λ b. standing 0 l (read properties s l (λ a.
+    given (o.left a) (λ left. asking (o.answer left b) (λ r. given r (came_then (λ v. write properties s l v (give v)))))))))
 
 -- `??=`: the target is read first, and where it is null the right side is written. What PHP throws while it finds the target
 -- comes after the right side, so that is outside.
@@ -150,7 +172,7 @@ found_quietly k o = Stop NoRule
 
 abbrev pub assign_if_null : Properties → Site → Script
 assign_if_null properties s = Run (Kid 0 Write) (found_quietly (λ l. read_quietly properties l (elim [
-  | Null ↦ Run (Kid 1 Read) (kept_then (λ v. write properties s l v (give v)))
+  | Null ↦ Run (Kid 1 Read) (kept_then (λ v. standing 0 l (write properties s l v (give v))))
   | w ↦ give w
 ])))
 
@@ -185,7 +207,8 @@ either = child_value 0 (λ a. cond (to_truth a) (give (Truth true)) (child_value
 
 -- `xor`: both operands are evaluated
 abbrev pub one_alone : Script
-one_alone = child_value 0 (λ a. child_value 1 (λ b. give (Truth (cond (to_truth a) (not (to_truth b)) (to_truth b)))))
+one_alone =
+    child_value 0 (λ a. child_value 1 (λ b. still 0 a (give (Truth (cond (to_truth a) (not (to_truth b)) (to_truth b))))))
 
 -- ---- unset
 

@@ -11,7 +11,7 @@ use Rattle.php_meaning.specs.values.Identical.{is_identical}
 use Rattle.php_meaning.specs.values.Copies.{copied}
 use Rattle.php_meaning.specs.values.Cells.{Cells}
 use Rattle.php_meaning.specs.literals.Literals.{found}
-use Rattle.php_meaning.specs.runs.Script.{Script, Stop, child_value, given, asking, comes}
+use Rattle.php_meaning.specs.runs.Script.{Script, Stop, child_value, given, asking, comes, still}
 
 -- ---- two operands
 
@@ -64,7 +64,7 @@ operations cells serials =
 abbrev pub binary : Option Operation → Script
 binary None = Stop NoRule
 binary (Some o) =
-    child_value 0 (λ a. given (o.left a) (λ left. child_value 1 (λ b. asking (o.answer left b) (λ r. given r comes))))
+    child_value 0 (λ a. given (o.left a) (λ left. child_value 1 (λ b. still 0 a (asking (o.answer left b) (λ r. given r comes)))))
 
 -- the operation of an operator, in a store
 abbrev pub operation : Cells → ℕ → List ℕ → Option Operation

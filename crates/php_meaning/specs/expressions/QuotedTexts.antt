@@ -9,7 +9,7 @@ use Rattle.php_meaning.specs.values.Convert.{to_text}
 use Rattle.php_meaning.specs.literals.Escapes.{unescaped, kept_quotes}
 use Rattle.php_meaning.specs.literals.Nowdocs.{is_blank, is_line_end, blanks}
 use Rattle.php_meaning.specs.values.Offsets.{Strict, at_offset}
-use Rattle.php_meaning.specs.runs.World.{Bytes}
+use Rattle.php_meaning.specs.runs.World.{Bytes, Store}
 use Rattle.scope_names.specs.Form.{Form, Word, Child}
 use Rattle.php_meaning.specs.runs.Stores.{cells_of, held_or_null, variable_cell}
 use Rattle.php_meaning.specs.runs.Script.{Script, Stop, Look, give, child_value, given, came_then}
@@ -21,10 +21,25 @@ abbrev pub object_then : Option ℕ → (Value → Script) → Script
 object_then None k = Stop NoRule
 object_then (Some n) k = k (Object n)
 
+-- The variables that PHP fills by itself and that have no meaning here. (PHP manual, "Predefined Variables"; writing to
+-- `$GLOBALS` as a whole, and a reference to it, is refused from 8.1 on.)
+abbrev pub is_outside_variable : Bytes → Bool
+is_outside_variable name =
+    bytes_eq name (codes "GLOBALS") || bytes_eq name (codes "_SERVER") || bytes_eq name (codes "_COOKIE")
+    || bytes_eq name (codes "_FILES") || bytes_eq name (codes "_ENV") || bytes_eq name (codes "_REQUEST")
+    || bytes_eq name (codes "_SESSION")
+
+-- the variables that PHP fills by itself, and the object that one of them holds
+abbrev pub is_filled : Bytes → Bool
+is_filled name = bytes_eq name (codes "this") || is_outside_variable name
+
+abbrev pub object_of : Bytes → Store → Option ℕ
+object_of name s = if bytes_eq name (codes "this") then s.here.this else None
+
 -- the value of a variable, null where there is none
 abbrev pub variable_read : Bytes → (Value → Script) → Script
 variable_read name k =
-    if bytes_eq name (codes "this") then Look (λ s. object_then s.here.this k)
+    if is_filled name then Look (λ s. object_then (object_of name s) k)
     else Look (λ s. k (held_or_null s (variable_cell name s)))
 
 -- ---- pieces

@@ -1,6 +1,6 @@
 -- What a node does, as steps over the store and over its children. The steps are the same in both versions, but
 -- where they ask.
-use Rattle.std.specs.Prelude.{ℕ, ℤ, Bool, cond, List, length, Option}
+use Rattle.std.specs.Prelude.{ℕ, ℤ, Bool, cond, List, [], length, Option}
 use Rattle.scope_names.specs.Slot.{Declared}
 use Rattle.php_meaning.specs.values.Value.{Value, Cell, Entries}
 use Rattle.php_meaning.specs.Cause.{Cause, NoRule, Outcome, Gives, Outside, ExceptionClass, exception_name, Came, Returns, Throws}
@@ -69,6 +69,9 @@ pub data Mode : Type 0 where
   Entered : Mode
   -- a declaration's item with this index: its value
   Item : ℕ → Mode
+  -- what gave a value, or came to a location, before: to see that the plain variables in it still hold what they held
+  Unchanged : Value → Mode
+  Standing : Location → Mode
 
 -- what a node runs: a child by its index, a further pass of itself, a declaration elsewhere, or a file
 pub data Target : Type 0 where
@@ -124,6 +127,19 @@ child_value i k = Run (Kid i Read) (value_then k)
 -- a child as location, and what then comes
 abbrev pub child_location : ℕ → (Location → Script) → Script
 child_location i k = Run (Kid i Write) (location_then k)
+
+-- A child that gave a value, once what stands behind it was evaluated. PHP reads a plain variable only then, so one that
+-- holds another value by now is outside.
+abbrev pub still : ℕ → Value → Script → Script
+still i v k = Run (Kid i (Unchanged v)) (location_then (λ l. k))
+
+-- what such a child comes to, where nothing changed: no value, since it was evaluated before
+abbrev pub stands : Out
+stands = At (record { root = InVariable []; offsets = [] })
+
+-- the same of a child that came to a location, and the plain variables among its keys
+abbrev pub standing : ℕ → Location → Script → Script
+standing i l k = Run (Kid i (Standing l)) (location_then (λ m. k))
 
 -- goes on with what an operation gives
 abbrev pub given : {A : Type 0} → Outcome A → (A → Script) → Script

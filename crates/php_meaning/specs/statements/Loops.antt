@@ -12,7 +12,7 @@ use Rattle.scope_names.specs.Words.{has_word, has_keyword}
 use Rattle.scope_names.specs.Sites.{Site}
 use Rattle.php_meaning.specs.runs.Locations.{shared_element}
 use Rattle.php_meaning.specs.expressions.Assigning.{Properties, kept_then, after_change, write, bind, cell_then}
-use Rattle.php_meaning.specs.runs.Script.{Untyped, Way, Break, Continue, Out, Val, Fresh, At, Jump, Read, Later, Left, Behind, Against, Kid, Again, Script, Give, Stop, Look, Turn, Run, give, value_then, child_value, child_location, given, asking}
+use Rattle.php_meaning.specs.runs.Script.{Untyped, Way, Break, Continue, Out, Val, Fresh, At, Jump, Read, Later, Left, Behind, Against, Kid, Again, Script, Give, Stop, Look, Turn, Run, give, value_then, child_value, child_location, given, asking, still}
 
 -- ---- statements in order
 
@@ -155,11 +155,11 @@ run_default (Some d) = run_cases d.0 d.1
 abbrev pub choose : Value → ℕ → ℕ → Option (ℕ × ℕ) → Script
 choose v i zero d = run_default d
 choose v i (suc n) d =
-    Run (Kid i (Against v)) (value_then (elim [
+    Run (Kid i (Against v)) (value_then (λ chosen. still 0 v (elim chosen [
       | Truth true ↦ run_cases i (suc n)
       | Null ↦ choose v (suc i) n (Some (i, suc n))
       | _ ↦ choose v (suc i) n d
-    ]))
+    ])))
 
 abbrev pub switch : ℕ → Script
 switch n = child_value 0 (λ v. choose v 1 (n - 1) None)

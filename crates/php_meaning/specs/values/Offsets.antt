@@ -40,10 +40,10 @@ abbrev pub byte_at : List ℕ → Option ℕ → Option ℕ
 byte_at t None = None
 byte_at t (Some n) = slice_get t n
 
--- the byte that an int names, if it names one
-abbrev pub byte_named : List ℕ → Option ℤ → Option ℕ
-byte_named t None = None
-byte_named t (Some i) = byte_at t (place_in (length t) i)
+-- the byte that an int names; any other key of a text is outside, since the versions and the kinds of keys differ there
+abbrev pub byte_named : Reading → List ℕ → Option ℤ → Outcome Came
+byte_named reading t None = Outside Offset
+byte_named reading t (Some i) = byte_or_missing reading (byte_at t (place_in (length t) i))
 
 -- ---- of any value
 
@@ -57,7 +57,7 @@ abbrev pub at_key : Cells → Reading → Value → Value → Key → Outcome Ca
 at_key cells reading Null k key = Gives (Returns Null)
 at_key cells reading (Truth b) k key = Gives (Returns Null)
 at_key cells reading (Int i) k key = Gives (Returns Null)
-at_key cells reading (Text t) k key = byte_or_missing reading (byte_named t (text_offset k))
+at_key cells reading (Text t) k key = byte_named reading t (text_offset k)
 at_key cells reading (Object n) k key = Gives (Throws Error)
 at_key cells reading (Arr largest next es) k key = Gives (Returns (value_or_null cells (element_at key es)))
 
