@@ -33,3 +33,8 @@ pub forest_assoc : (f g h : Forest) → (f +++ g) +++ h ≡ f +++ (g +++ h)
 forest_assoc none g h = refl
 forest_assoc (leaf t f) g h = ap (leaf t) (forest_assoc f g h)
 forest_assoc (node k c f) g h = ap (node k c) (forest_assoc f g h)
+
+pub append_none : (f : Forest) → f +++ none ≡ f
+append_none none = refl
+append_none (leaf t f) = ap (leaf t) (append_none f)
+append_none (node k c f) = ap (node k c) (append_none f)

@@ -1,10 +1,9 @@
 -- Statements one after another, beside the parser on lists.
-use Rattle.std.proofs.Common.{◌≡◌, ℕ, ◌+◌, ◌<◌, ◌≤◌, List, [], ◌∷◌, ◌++◌, length, Option, Some, None, Result, Ok, Err, Bor, refl, sym, ap, ◌∙◌, subst, arith}
+use Rattle.std.proofs.Common.{◌≡◌, ℕ, ◌+◌, ◌<◌, ◌≤◌, List, [], ◌∷◌, ◌++◌, length, drop, Option, Some, None, Result, Ok, Err, refl, sym, ap, ◌∙◌, subst, arith}
 use Rattle.std.specs.Prelude.{IfOk}
 use Rattle.php_tree.specs.declared.token.Token.{Token}
-use Rattle.php_tree.specs.declared.node.Node.{Node as TheNode}
 use Rattle.php_tree.specs.declared.version.Version.{Version}
-use Rattle.php_tree.specs.Tree.{Forest, Tree, none, leaf, node, ◌+++◌, leaves, depth, nodes_forest}
+use Rattle.php_tree.specs.Tree.{Forest, Tree, none, leaf, node, ◌+++◌, leaves, depth}
 use Rattle.php_terminals.specs.declared.terminal.Terminal.{Terminal}
 use Rattle.php_terminals.specs.declared.terminal.Terminal.TheVariants as t
 use Rattle.php_forms.specs.declared.item.Sort.{Sort}
@@ -19,15 +18,19 @@ use Rattle.php_grammar.proofs.Ranks.{rank, php_ranked}
 use Rattle.php_exprs.specs.declared.fault.ParseFault.{ParseFault}
 use Rattle.php_exprs.specs.declared.fault.ParseFault.TheVariants.{NotInGrammar, Memory}
 use Rattle.php_exprs.specs.Parsing.{◌>>=◌, Read, Steps, items_at, turns_at, walk, under, parse}
-use Rattle.php_exprs.specs.Parsed.{Extends, GivesStatements, node_at, inner_at, parts_at, turned_at}
-use Rattle.php_exprs.specs.Reading.{ReadsStatements, AnswersStatements}
-use Rattle.php_exprs.proofs.Forests.{some_is}
+use Rattle.php_exprs.specs.Parsed.{Extends, node_at, inner_at, parts_at, turned_at}
+use Rattle.php_rows.specs.declared.row.Row.{Row}
+use Rattle.php_rows.specs.Flatten.{flatten}
+use Rattle.php_rows.specs.Rows.{Grew, IsRowOf}
+use Rattle.php_exprs.specs.Built.{Added, State, behind}
+use Rattle.php_exprs.specs.Reading.{ReadsStatements, IsListed, AnswersStatements}
+use Rattle.php_exprs.proofs.Forests.{append_none, some_is}
 use Rattle.php_exprs.proofs.Sound.{Took, parse_sound, walk_sound}
 use Rattle.php_exprs.proofs.Complete.{parse_complete, walk_reads, walk_is}
-use Rattle.php_exprs.proofs.Steps.{append_none, inner_is, to_part}
+use Rattle.php_exprs.proofs.Steps.{inner_is, to_part}
 
 -- a turn of statements is one statement
-statement_items : (x : Terminal) → 0 < length (statements x) → statements x ≡ Node s.Statement ∷ []
+pub statement_items : (x : Terminal) → 0 < length (statements x) → statements x ≡ Node s.Statement ∷ []
 statement_items t.CloseBrace lt = absurd (omega arith)
 statement_items t.End lt = absurd (omega arith)
 statement_items t.Case lt = absurd (omega arith)
@@ -81,16 +84,37 @@ drop_none (Some x) y e = ap (λ (f : Forest). read f x.1) (sym (append_none x.0)
     read : Forest → List Token → Read Forest
     read f ts = Some (f, ts)
 
-pub statements_found : (v : Version) (d : ℕ) (ts : List Token) (r : Result (List TheNode × Bor (List Token)) ParseFault) → GivesStatements r d (turned_at (php v) d 7 (length ts) Statements ts) → IfOk r (λ x. ReadsStatements v d ts (nodes_forest x.0) x.1.now)
-statements_found v d ts (Err e) g = tt
-statements_found v d ts (Ok x) g = go (turned_at (php v) d 7 (length ts) Statements ts) refl g
+-- the row of a file's statements
+listed : (v : Version) (all : List Token) (old new : State) (f : Forest) (rest : List Token) → old.0.nodes.items ≡ [] → old.0.at ≡ 0 → old.1.deep ≡ 0 → Added v all old new f → behind all new.0 ≡ rest → IsListed all new.0 new.1.deep f rest
+listed v all old new f rest n at d a e =
+    let deep = a.deep in
+    record {
+      made = a.grew.nodes ∙ rw (n, at) refl;
+      depth_is = omega arith;
+      left = e;
+    }
+
+-- nothing was read
+pub record IsFirst (old : State) : Type 0 where
+  pub nodes : old.0.nodes.items ≡ []
+  pub at : old.0.at ≡ 0
+  pub deep : old.1.deep ≡ 0
+
+abbrev Listed : Version → ℕ → List Token → State → Type 0
+Listed v d all new = (f : Forest) × ((rest : List Token) × ReadsStatements v d all f rest × IsListed all new.0 new.1.deep f rest)
+
+pub statements_found : (v : Version) (d : ℕ) (all : List Token) (old new : State) → IsFirst old → Extends (Ok tt) v all old new d (turned_at (php v) d 7 (length (behind all old.0)) Statements (behind all old.0)) → Listed v d all new
+statements_found v d all old new o g = go (turned_at (php v) d 7 (length (behind all old.0)) Statements (behind all old.0)) refl g
   where
-    go : (o : Read Forest) → turned_at (php v) d 7 (length ts) Statements ts ≡ o → Extends (Ok x.1) none (nodes_forest x.0) d o → ReadsStatements v d ts (nodes_forest x.0) x.1.now
+    whole : behind all old.0 ≡ all
+    whole = ap (λ (n : ℕ). drop n all) o.at
+
+    go : (r : Read Forest) → turned_at (php v) d 7 (length (behind all old.0)) Statements (behind all old.0) ≡ r → Extends (Ok tt) v all old new d r → Listed v d all new
     go None e g = absurd g
     go (Some y) e g =
-        let w = walk_sound (php v) d (parse (php v) 7 d) (parse_sound (php v) 7 d) 7 (Turns Statements ∷ []) ts y (as_items v d ts ∙ take_none (turned_at (php v) d 7 (length ts) Statements ts) y e) in
-        let P : Forest → List Token → Type 0 = λ f rest. ReadsStatements v d ts f rest in
-        subst (λ (f : Forest). P f x.1.now) (sym g.1) (subst (λ (rest : List Token). P y.0 rest) (sym g.0) (record { walks = w.walks; text = w.text; low = w.low }))
+        let same : turned_at (php v) d 7 (length all) Statements all ≡ Some y = ap (λ (ts : List Token). turned_at (php v) d 7 (length ts) Statements ts) (sym whole) ∙ e in
+        let w = walk_sound (php v) d (parse (php v) 7 d) (parse_sound (php v) 7 d) 7 (Turns Statements ∷ []) all y (as_items v d all ∙ take_none (turned_at (php v) d 7 (length all) Statements all) y same) in
+        (y.0, (y.1, record { walks = w.walks; text = w.text; low = w.low }, listed v all old new y.0 y.1 o.nodes o.at o.deep g.0 g.1))
 
 pub turned_is : (v : Version) (d : ℕ) (ts : List Token) (f : Forest) (rest : List Token) → ReadsStatements v d ts f rest → turned_at (php v) d 7 (length ts) Statements ts ≡ Some (f, rest)
 turned_is v d ts f rest p =
@@ -98,13 +122,18 @@ turned_is v d ts f rest p =
     drop_none (turned_at (php v) d 7 (length ts) Statements ts) (f, rest)
     (sym (as_items v d ts) ∙ ap (walk (php v) (parse (php v) 7 d) 7 (Turns Statements ∷ [])) p.text ∙ w)
 
-pub statements_only : (v : Version) (d : ℕ) (ts : List Token) (r : Result (List TheNode × Bor (List Token)) ParseFault) → GivesStatements r d (turned_at (php v) d 7 (length ts) Statements ts) → (f : Forest) (rest : List Token) → ReadsStatements v d ts f rest → AnswersStatements r f rest
-statements_only v d ts (Err Memory) g f rest p = tt
-statements_only v d ts (Err NotInGrammar) g f rest p = let e = sym (turned_is v d ts f rest p) ∙ g in absurd cc
-statements_only v d ts (Ok x) g f rest p = go (turned_at (php v) d 7 (length ts) Statements ts) refl g
-  where
-    go : (o : Read Forest) → turned_at (php v) d 7 (length ts) Statements ts ≡ o → Extends (Ok x.1) none (nodes_forest x.0) d o → AnswersStatements (Ok x) f rest
-    go None e g = absurd g
-    go (Some y) e g =
-        let same = some_is y (f, rest) (sym e ∙ turned_is v d ts f rest p) in
-        (g.1 ∙ ap (λ (y : Forest × List Token). y.0) same, g.0 ∙ ap (λ (y : Forest × List Token). y.1) same)
+pub statements_only : (v : Version) (d : ℕ) (all : List Token) (old new : State) → IsFirst old → Extends (Ok tt) v all old new d (turned_at (php v) d 7 (length (behind all old.0)) Statements (behind all old.0)) → (f : Forest) (rest : List Token) → ReadsStatements v d all f rest → IsListed all new.0 new.1.deep f rest
+statements_only v d all old new o g f rest p =
+    let l = statements_found v d all old new o g in
+    let one = turned_is v d all l.0 l.1.0 l.1.1 in
+    let other = turned_is v d all f rest p in
+    let same = some_is (l.0, l.1.0) (f, rest) (sym one ∙ other) in
+    let P : Forest × List Token → Type 0 = λ y. IsListed all new.0 new.1.deep y.0 y.1 in
+    subst P same l.1.2
+
+pub statements_none : (v : Version) (d : ℕ) (all : List Token) (old new : State) → IsFirst old → (e : ParseFault) → Extends (Err e) v all old new d (turned_at (php v) d 7 (length (behind all old.0)) Statements (behind all old.0)) → (f : Forest) (rest : List Token) → ReadsStatements v d all f rest → AnswersStatements (Err e) all f rest
+statements_none v d all old new o Memory g f rest p = tt
+statements_none v d all old new o NotInGrammar g f rest p =
+    let whole : behind all old.0 ≡ all = ap (λ (n : ℕ). drop n all) o.at in
+    let e = sym (turned_is v d all f rest p) ∙ ap (λ (ts : List Token). turned_at (php v) d 7 (length ts) Statements ts) (sym whole) ∙ g in
+    absurd cc

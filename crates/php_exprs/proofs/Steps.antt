@@ -1,28 +1,33 @@
 -- The steps of the parser's functions, beside the parser on lists.
-use Rattle.std.proofs.Common.{◌≡◌, ℕ, zero, suc, ◌+◌, ◌-◌, ◌<◌, ◌≤◌, max, Bool, true, false, List, [], ◌∷◌, ◌++◌, length, get_or, take, drop, Option, Some, None, Result, Ok, Err, Bor, nat_lt, refl, sym, ap, ◌∙◌, subst, append_assoc, arith, add-one, drop-cons}
+use Rattle.std.proofs.Common.{◌≡◌, ℕ, zero, suc, ◌+◌, ◌-◌, ◌<◌, ◌≤◌, max, Bool, true, false, List, [], ◌∷◌, ◌++◌, length, get_or, take, drop, Option, Some, None, Result, Ok, Err, nat_lt, refl, sym, ap, ◌∙◌, subst, append_assoc, arith, add-one, drop-cons}
 use Rattle.std.proofs.lemmas.Bool.{lt-ltb, le-ltb}
+use Rattle.std.proofs.lemmas.List.{append-nil, length-drop}
 use Rattle.php_tree.specs.declared.token.Token.{Token}
+use Rattle.php_tree.specs.declared.version.Version.{Version}
 use Rattle.php_terminals.specs.declared.terminal.Terminal.{Terminal}
 use Rattle.php_tree.specs.declared.kind.NodeKind.{NodeKind}
-use Rattle.php_exprs.specs.declared.build.Built.{Built}
-use Rattle.php_exprs.specs.Built.{tree_in}
-use Rattle.php_tree.specs.Tree.{Forest, Tree, none, leaf, node, ◌+++◌, depth}
+use Rattle.php_tree.specs.Tree.{Forest, Tree, none, leaf, node, ◌+++◌, leaves, depth}
 use Rattle.php_forms.specs.declared.item.Sort.{Sort}
 use Rattle.php_forms.specs.declared.item.Group.{Group}
 use Rattle.php_forms.specs.declared.item.Item.{Item}
 use Rattle.php_forms.specs.declared.item.Item.TheVariants.{Word, Node, Part, Turns, Span}
+use Rattle.php_grammar.specs.Edges.{edge, edge_from}
+use Rattle.php_grammar.specs.Tables.{php, tail, tail_by}
+use Rattle.php_grammar.proofs.EdgeLemmas.{edge_alone}
+use Rattle.php_rows.specs.declared.row.Row.{Row}
+use Rattle.php_rows.specs.Flatten.{leafed}
+use Rattle.php_rows.specs.Rows.{Grew, IsOpen}
+use Rattle.php_exprs.specs.declared.build.Closed.{Closed}
+use Rattle.php_exprs.specs.declared.build.Reach.{Reach}
 use Rattle.php_exprs.specs.declared.fault.ParseFault.{ParseFault}
 use Rattle.php_exprs.specs.declared.fault.ParseFault.TheVariants.{NotInGrammar, Memory}
 use Rattle.php_forms.specs.Grammar.{Form, Tables}
+use Rattle.php_exprs.specs.Built.{Added, AddedNode, IsClosed, IsReady, State, behind}
 use Rattle.php_exprs.specs.Parsing.{◌>>=◌, given, Read, Steps, items_at, run_at, turn_at, turns_at, walk, under, begin, grown, grow, parse}
 use Rattle.php_exprs.specs.Parsed.{run_read, Extends, GivesTree, node_at, inner_at, parts_at, turned_at, grown_at, item_at, word_at, as_part, with_front, Walked, Turned}
-use Rattle.php_exprs.proofs.Forests.{depth_append, forest_assoc}
+use Rattle.php_exprs.proofs.Forests.{append_none, depth_append, forest_assoc}
 use Rattle.php_exprs.proofs.Complete.{walk_is}
-
-pub append_none : (f : Forest) → f +++ none ≡ f
-append_none none = refl
-append_none (leaf t f) = ap (leaf t) (append_none f)
-append_none (node k c f) = ap (node k c) (append_none f)
+use Rattle.php_exprs.proofs.Grown.{added_join, added_none, leaf_added, leaves_added, node_added, ready, closed_node}
 
 front_none : (r : Read Forest) → r ≡ with_front none r
 front_none None = refl
@@ -40,15 +45,27 @@ front_front f g (Some y) = ap (λ (h : Forest). read h y.1) (sym (forest_assoc f
 abbrev pub to_part : Tree × List Token → Read Forest
 to_part x = Some (as_part x)
 
-pub child_extends : (x : Built × Bor (List Token)) (old new : Forest) (d : ℕ) (r : Read Tree) → GivesTree (Ok x) d r → new ≡ old +++ node (tree_in x.0).0 (tree_in x.0).1 none → Extends (Ok x.1) old new d (r >>= to_part)
-child_extends x old new d None g e = g
-child_extends x old new d (Some y) g e =
-    let low = g.2 in
-    (g.1, e ∙ ap (λ (t : Tree). old +++ node t.0 t.1 none) g.0, omega arith)
+pub child_extends : (v : Version) (all : List Token) (c : Closed) (old new : State) (d : ℕ) (r : Read Tree) → GivesTree (Ok c) v all old.0 new.0 d r → new.1.deep ≡ max old.1.deep c.deep → new.1.edge ≡ c.edge → Extends (Ok tt) v all old new d (r >>= to_part)
+child_extends v all c old new d None g p q = g
+child_extends v all c old new d (Some y) g p q =
+    let low = g.3 in
+    (node_added v all old new c y.0 g.0 g.1 p q, g.2, omega arith)
 
-pub child_fails : (e : ParseFault) (old new : Forest) (d : ℕ) (r : Read Tree) → GivesTree (Err e) d r → Extends (Err e) old new d (r >>= to_part)
-child_fails NotInGrammar old new d r g = ap (λ (o : Read Tree). o >>= to_part) g
-child_fails Memory old new d r g = tt
+pub child_fails : (v : Version) (all : List Token) (e : ParseFault) (old new : State) (d : ℕ) (r : Read Tree) → GivesTree (Err e) v all old.0 new.0 d r → Extends (Err e) v all old new d (r >>= to_part)
+child_fails v all NotInGrammar old new d r g = ap (λ (o : Read Tree). o >>= to_part) g
+child_fails v all Memory old new d r g = tt
+
+pub word_none : (T : Tables) (c : Terminal) (ts : List Token) → ts ≡ [] → word_at T c ts ≡ None
+word_none T c ts e = ap (word_at T c) e
+
+pub word_other : (T : Tables) (c : Terminal) (ts us : List Token) (t : Token) → ts ≡ t ∷ us → T.accepts c t ≡ false → word_at T c ts ≡ None
+word_other T c ts us t e p = ap (word_at T c) e ∙ rw p refl
+
+pub word_extends : (v : Version) (all : List Token) (c : Terminal) (old new : State) (d : ℕ) (t : Token) (us : List Token) → behind all old.0 ≡ t ∷ us → (php v).accepts c t ≡ true → Grew old.0 new.0 (leaf t none) → new.0.at ≡ old.0.at + 1 → new.1.deep ≡ old.1.deep → new.1.edge ≡ 0 → Extends (Ok tt) v all old new d (word_at (php v) c (behind all old.0))
+word_extends v all c old new d t us e p g at deep z =
+    let a = leaf_added v all old new t us e g at deep z in
+    let is : word_at (php v) c (behind all old.0) ≡ Some (leaf t none, us) = ap (word_at (php v) c) e ∙ rw p refl in
+    subst (λ (r : Read Forest). Extends (Ok tt) v all old new d r) (sym is) (a.0, a.1, omega arith)
 
 -- ---- the items
 
@@ -78,36 +95,44 @@ first_item T d n (Part g) is ts = refl
 first_item T d n (Turns g) is ts = refl
 first_item T d n Span is ts = refl
 
-pub walked_first : (T : Tables) (d n : ℕ) (form : List Item) (whole : List Token) (old : Forest) → Walked T d n form form whole whole old old
-walked_first T d n form whole old = record { parts = none; grew = sym (append_none old); low = omega arith; same = front_none (parts_at T d n form whole) }
+pub walked_first : (v : Version) (all : List Token) (d n : ℕ) (form : List Item) (old : State) → old.0.at ≤ length all → Walked v all d n form form old old
+walked_first v all d n form old w = record { parts = none; added = added_none v all old w; low = omega arith; same = front_none (parts_at (php v) d n form (behind all old.0)) }
 
-pub walked_more : (T : Tables) (d n : ℕ) (form is : List Item) (i : Item) (whole rest : List Token) (old mid new : Forest) (after : Bor (List Token)) (r : Read Forest) → item_at T d n i rest ≡ r → Extends (Ok after) mid new d r → Walked T d n form (i ∷ is) whole rest old mid → Walked T d n form is whole after.now old new
-walked_more T d n form is i whole rest old mid new after None e x w = absurd x
-walked_more T d n form is i whole rest old mid new after (Some y) e x w =
+pub walked_more : (v : Version) (all : List Token) (d n : ℕ) (form is : List Item) (i : Item) (old mid new : State) (r : Read Forest) → item_at (php v) d n i (behind all mid.0) ≡ r → Extends (Ok tt) v all mid new d r → Walked v all d n form (i ∷ is) old mid → Walked v all d n form is old new
+walked_more v all d n form is i old mid new None e x w = absurd x
+walked_more v all d n form is i old mid new (Some y) e x w =
+    let T = php v in
+    let rest = behind all mid.0 in
     let step : parts_at T d n (i ∷ is) rest ≡ with_front y.0 (parts_at T d n is y.1) = first_item T d n i is rest ∙ ap (then_parts T d n is) e in
     let low1 = w.low in
     let low2 = x.2 in
     record {
       parts = w.parts +++ y.0;
-      grew = x.1 ∙ ap (λ (f : Forest). f +++ y.0) w.grew ∙ forest_assoc old w.parts y.0;
+      added = added_join v all old mid new w.parts y.0 w.added x.0;
       low = omega (arith, depth_append w.parts y.0);
-      same = w.same ∙ ap (with_front w.parts) step ∙ front_front w.parts y.0 (parts_at T d n is y.1) ∙ ap (λ (ts : List Token). with_front (w.parts +++ y.0) (parts_at T d n is ts)) (sym x.0);
+      same = w.same ∙ ap (with_front w.parts) step ∙ front_front w.parts y.0 (parts_at T d n is y.1) ∙ ap (λ (ts : List Token). with_front (w.parts +++ y.0) (parts_at T d n is ts)) (sym x.1);
     }
 
-pub walked_fails : (T : Tables) (d n : ℕ) (form is : List Item) (i : Item) (whole rest : List Token) (old mid new : Forest) (e : ParseFault) → Extends (Err e) mid new d (item_at T d n i rest) → Walked T d n form (i ∷ is) whole rest old mid → Extends (Err e) old new d (parts_at T d n form whole)
-walked_fails T d n form is i whole rest old mid new NotInGrammar x w = w.same ∙ ap (with_front w.parts) (first_item T d n i is rest ∙ ap (then_parts T d n is) x)
-walked_fails T d n form is i whole rest old mid new Memory x w = tt
+pub walked_fails : (v : Version) (all : List Token) (d n : ℕ) (form is : List Item) (i : Item) (old mid new : State) (e : ParseFault) → Extends (Err e) v all mid new d (item_at (php v) d n i (behind all mid.0)) → Walked v all d n form (i ∷ is) old mid → Extends (Err e) v all old new d (parts_at (php v) d n form (behind all old.0))
+walked_fails v all d n form is i old mid new NotInGrammar x w = w.same ∙ ap (with_front w.parts) (first_item (php v) d n i is (behind all mid.0) ∙ ap (then_parts (php v) d n is) x)
+walked_fails v all d n form is i old mid new Memory x w = tt
 
-pub walked_ends : (T : Tables) (d n : ℕ) (form : List Item) (whole : List Token) (old new : Forest) (rest : Bor (List Token)) → Walked T d n form [] whole rest.now old new → Extends (Ok rest) old new d (parts_at T d n form whole)
+low_none : (f : Forest) (d : ℕ) → depth f ≤ d → depth (f +++ none) ≤ d
+low_none f d h = subst (λ (g : Forest). depth g ≤ d) (sym (append_none f)) h
+
+added_as : (v : Version) (all : List Token) (old new : State) (f : Forest) → Added v all old new f → Added v all old new (f +++ none)
+added_as v all old new f a = subst (λ (g : Forest). Added v all old new g) (sym (append_none f)) a
+
+pub walked_ends : (v : Version) (all : List Token) (d n : ℕ) (form : List Item) (old new : State) → Walked v all d n form [] old new → Extends (Ok tt) v all old new d (parts_at (php v) d n form (behind all old.0))
 unfolding parts_at
-walked_ends T d n form whole old new rest w =
-    let e : parts_at T d n form whole ≡ Some (w.parts +++ none, rest.now) = w.same in
-    rw e (refl, w.grew ∙ ap (λ (f : Forest). old +++ f) (sym (append_none w.parts)), subst (λ (f : Forest). depth f ≤ d) (sym (append_none w.parts)) w.low)
+walked_ends v all d n form old new w =
+    let e : parts_at (php v) d n form (behind all old.0) ≡ Some (w.parts +++ none, behind all new.0) = w.same in
+    subst (λ (r : Read Forest). Extends (Ok tt) v all old new d r) (sym e) (added_as v all old new w.parts w.added, refl, low_none w.parts d w.low)
 
 -- ---- the turns of a group
 
-pub turned_first : (T : Tables) (d n : ℕ) (g : Group) (whole : List Token) (old : Forest) → Turned T d n g whole whole old old
-turned_first T d n g whole old = record { parts = none; fuel = length whole; grew = sym (append_none old); low = omega arith; enough = omega arith; same = front_none (turned_at T d n (length whole) g whole) }
+pub turned_first : (v : Version) (all : List Token) (d n : ℕ) (g : Group) (old : State) → old.0.at ≤ length all → Turned v all d n g old old
+turned_first v all d n g old w = record { parts = none; fuel = length (behind all old.0); added = added_none v all old w; low = omega arith; enough = omega arith; same = front_none (turned_at (php v) d n (length (behind all old.0)) g (behind all old.0)) }
 
 no_turn : (T : Tables) (d n m : ℕ) (g : Group) (rest : List Token) → T.parts g rest ≡ [] → turned_at T d n m g rest ≡ Some (none, rest)
 unfolding turned_at
@@ -137,43 +162,45 @@ turn_fails : (more : List Token → Read Forest) (ts : List Token) → turn_then
 unfolding turn_then
 turn_fails more ts = refl
 
-pub turned_ends : (T : Tables) (d n : ℕ) (g : Group) (whole : List Token) (old new : Forest) (rest : Bor (List Token)) → T.parts g rest.now ≡ [] → Turned T d n g whole rest.now old new → Extends (Ok rest) old new d (turned_at T d n (length whole) g whole)
-turned_ends T d n g whole old new rest e w =
-    let same = w.same ∙ ap (with_front w.parts) (no_turn T d n w.fuel g rest.now e) in
-    rw same (refl, w.grew ∙ ap (λ (f : Forest). old +++ f) (sym (append_none w.parts)), subst (λ (f : Forest). depth f ≤ d) (sym (append_none w.parts)) w.low)
+pub turned_ends : (v : Version) (all : List Token) (d n : ℕ) (g : Group) (old new : State) → (php v).parts g (behind all new.0) ≡ [] → Turned v all d n g old new → Extends (Ok tt) v all old new d (turned_at (php v) d n (length (behind all old.0)) g (behind all old.0))
+turned_ends v all d n g old new e w =
+    let same = w.same ∙ ap (with_front w.parts) (no_turn (php v) d n w.fuel g (behind all new.0) e) in
+    subst (λ (r : Read Forest). Extends (Ok tt) v all old new d r) (sym same) (added_as v all old new w.parts w.added, refl, low_none w.parts d w.low)
 
-pub turned_fails : (T : Tables) (d n : ℕ) (g : Group) (i : Item) (is : List Item) (whole rest : List Token) (old mid : Forest) → T.parts g rest ≡ i ∷ is → inner_at T d n (T.parts g rest) rest ≡ None → Turned T d n g whole rest old mid → turned_at T d n (length whole) g whole ≡ None
-turned_fails T d n g i is whole rest old mid e x w = w.same ∙ ap (with_front w.parts) (go w.fuel)
+turned_fails : (v : Version) (all : List Token) (d n : ℕ) (g : Group) (i : Item) (is : List Item) (old mid : State) → (php v).parts g (behind all mid.0) ≡ i ∷ is → inner_at (php v) d n ((php v).parts g (behind all mid.0)) (behind all mid.0) ≡ None → Turned v all d n g old mid → turned_at (php v) d n (length (behind all old.0)) g (behind all old.0) ≡ None
+turned_fails v all d n g i is old mid e x w = w.same ∙ ap (with_front w.parts) (go w.fuel)
   where
-    go : (m : ℕ) → turned_at T d n m g rest ≡ None
-    go zero = last_turn T d n g i is rest e ∙ ap (turn_then (λ _. None) rest) x ∙ turn_fails (λ _. None) rest
-    go (suc m) = one_turn T d n m g i is rest e ∙ ap (turn_then (turned_at T d n m g) rest) x ∙ turn_fails (turned_at T d n m g) rest
+    go : (m : ℕ) → turned_at (php v) d n m g (behind all mid.0) ≡ None
+    go zero = last_turn (php v) d n g i is (behind all mid.0) e ∙ ap (turn_then (λ _. None) (behind all mid.0)) x ∙ turn_fails (λ _. None) (behind all mid.0)
+    go (suc m) = one_turn (php v) d n m g i is (behind all mid.0) e ∙ ap (turn_then (turned_at (php v) d n m g) (behind all mid.0)) x ∙ turn_fails (turned_at (php v) d n m g) (behind all mid.0)
 
-pub turned_stays : (T : Tables) (d n : ℕ) (g : Group) (i : Item) (is : List Item) (whole rest : List Token) (old mid : Forest) (y : Forest × List Token) → T.parts g rest ≡ i ∷ is → inner_at T d n (T.parts g rest) rest ≡ Some y → length rest ≤ length y.1 → Turned T d n g whole rest old mid → turned_at T d n (length whole) g whole ≡ None
-turned_stays T d n g i is whole rest old mid y e x le w = w.same ∙ ap (with_front w.parts) (go w.fuel)
+turned_stays : (v : Version) (all : List Token) (d n : ℕ) (g : Group) (i : Item) (is : List Item) (old mid : State) (y : Forest × List Token) → (php v).parts g (behind all mid.0) ≡ i ∷ is → inner_at (php v) d n ((php v).parts g (behind all mid.0)) (behind all mid.0) ≡ Some y → length (behind all mid.0) ≤ length y.1 → Turned v all d n g old mid → turned_at (php v) d n (length (behind all old.0)) g (behind all old.0) ≡ None
+turned_stays v all d n g i is old mid y e x le w = w.same ∙ ap (with_front w.parts) (go w.fuel)
   where
-    go : (m : ℕ) → turned_at T d n m g rest ≡ None
-    go zero = last_turn T d n g i is rest e ∙ ap (turn_then (λ _. None) rest) x ∙ turn_stays (λ _. None) rest y le
-    go (suc m) = one_turn T d n m g i is rest e ∙ ap (turn_then (turned_at T d n m g) rest) x ∙ turn_stays (turned_at T d n m g) rest y le
+    go : (m : ℕ) → turned_at (php v) d n m g (behind all mid.0) ≡ None
+    go zero = last_turn (php v) d n g i is (behind all mid.0) e ∙ ap (turn_then (λ _. None) (behind all mid.0)) x ∙ turn_stays (λ _. None) (behind all mid.0) y le
+    go (suc m) = one_turn (php v) d n m g i is (behind all mid.0) e ∙ ap (turn_then (turned_at (php v) d n m g) (behind all mid.0)) x ∙ turn_stays (turned_at (php v) d n m g) (behind all mid.0) y le
 
-pub turned_more : (T : Tables) (d n : ℕ) (g : Group) (i : Item) (is : List Item) (whole rest : List Token) (old mid new : Forest) (after : Bor (List Token)) (r : Read Forest) → T.parts g rest ≡ i ∷ is → inner_at T d n (T.parts g rest) rest ≡ r → Extends (Ok after) mid new d r → length after.now < length rest → Turned T d n g whole rest old mid → Turned T d n g whole after.now old new
-turned_more T d n g i is whole rest old mid new after None e p x lt w = absurd x
-turned_more T d n g i is whole rest old mid new after (Some y) e p x lt w = go w.fuel w.enough w.same
+turned_more : (v : Version) (all : List Token) (d n : ℕ) (g : Group) (i : Item) (is : List Item) (old mid new : State) (r : Read Forest) → (php v).parts g (behind all mid.0) ≡ i ∷ is → inner_at (php v) d n ((php v).parts g (behind all mid.0)) (behind all mid.0) ≡ r → Extends (Ok tt) v all mid new d r → length (behind all new.0) < length (behind all mid.0) → Turned v all d n g old mid → Turned v all d n g old new
+turned_more v all d n g i is old mid new None e p x lt w = absurd x
+turned_more v all d n g i is old mid new (Some y) e p x lt w = go w.fuel w.enough w.same
   where
-    go : (m : ℕ) → length rest ≤ m → turned_at T d n (length whole) g whole ≡ with_front w.parts (turned_at T d n m g rest) → Turned T d n g whole after.now old new
+    go : (m : ℕ) → length (behind all mid.0) ≤ m → turned_at (php v) d n (length (behind all old.0)) g (behind all old.0) ≡ with_front w.parts (turned_at (php v) d n m g (behind all mid.0)) → Turned v all d n g old new
     go zero le same = absurd (omega arith)
     go (suc m) le same =
+        let T = php v in
+        let rest = behind all mid.0 in
         let low1 = w.low in
         let low2 = x.2 in
-        let len : length after.now ≡ length y.1 = ap length x.0 in
+        let len : length (behind all new.0) ≡ length y.1 = ap length x.1 in
         let step : turned_at T d n (suc m) g rest ≡ with_front y.0 (turned_at T d n m g y.1) = one_turn T d n m g i is rest e ∙ ap (turn_then (turned_at T d n m g) rest) p ∙ turn_goes (turned_at T d n m g) rest y (omega arith) in
         record {
           parts = w.parts +++ y.0;
           fuel = m;
-          grew = x.1 ∙ ap (λ (f : Forest). f +++ y.0) w.grew ∙ forest_assoc old w.parts y.0;
+          added = added_join v all old mid new w.parts y.0 w.added x.0;
           low = omega (arith, depth_append w.parts y.0);
           enough = omega arith;
-          same = same ∙ ap (with_front w.parts) step ∙ front_front w.parts y.0 (turned_at T d n m g y.1) ∙ ap (λ (ts : List Token). with_front (w.parts +++ y.0) (turned_at T d n m g ts)) (sym x.0);
+          same = same ∙ ap (with_front w.parts) step ∙ front_front w.parts y.0 (turned_at T d n m g y.1) ∙ ap (λ (ts : List Token). with_front (w.parts +++ y.0) (turned_at T d n m g ts)) (sym x.1);
         }
 
 -- ---- groups in groups
@@ -209,24 +236,38 @@ node_none T (suc d) s ts e = absurd (omega arith)
 pub node_no_form : (T : Tables) (d e : ℕ) (s : Sort) (ts : List Token) → d ≡ e + 1 → T.form s ts ≡ None → node_at T d s ts ≡ None
 node_no_form T d e s ts p q = node_starts T d e s ts p ∙ ap (λ (o : Option Form). start T e o s ts) q
 
-pub node_fails : (T : Tables) (d e : ℕ) (s : Sort) (ts : List Token) (k : NodeKind) (is : List Item) (old new : Forest) (f : ParseFault) → d ≡ e + 1 → T.form s ts ≡ Some (k, is) → Extends (Err f) old new e (parts_at T e 7 is ts) → GivesTree (Err f) d (node_at T d s ts)
-node_fails T d e s ts k is old new NotInGrammar p q x = node_starts T d e s ts p ∙ ap (λ (o : Option Form). start T e o s ts) q ∙ ap (λ (o : Read Forest). (o >>= λ c. read k c) >>= λ t. grown_at T e (suc e) s t.0 t.1) x
+pub node_fails : (v : Version) (all : List Token) (d e : ℕ) (s : Sort) (first now new : Row) (k : NodeKind) (is : List Item) (old later : State) (f : ParseFault) → d ≡ e + 1 → (php v).form s (behind all first) ≡ Some (k, is) → old.0.at ≡ first.at → Extends (Err f) v all old later e (parts_at (php v) e 7 is (behind all old.0)) → GivesTree (Err f) v all first new d (node_at (php v) d s (behind all first))
+node_fails v all d e s first now new k is old later NotInGrammar p q at x =
+    let T = php v in
+    let ts = behind all first in
+    let none : parts_at T e 7 is ts ≡ None = ap (λ (n : ℕ). parts_at T e 7 is (drop n all)) (sym at) ∙ x in
+    node_starts T d e s ts p ∙ ap (λ (o : Option Form). start T e o s ts) q ∙ ap (λ (o : Read Forest). (o >>= λ c. read k c) >>= λ t. grown_at T e (suc e) s t.0 t.1) none
   where
     read : NodeKind → Forest × List Token → Read Tree
     read k c = Some ((k, c.0), c.1)
-node_fails T d e s ts k is old new Memory p q x = tt
+node_fails v all d e s first now new k is old later Memory p q at x = tt
 
-pub node_grows : (T : Tables) (d e : ℕ) (s : Sort) (ts : List Token) (k : NodeKind) (is : List Item) (old new : Forest) (after : Bor (List Token)) (t : Tree) (result : Result (Built × Bor (List Token)) ParseFault) (r : Read Forest) → d ≡ e + 1 → T.form s ts ≡ Some (k, is) → parts_at T e 7 is ts ≡ r → Extends (Ok after) old new e r → old ≡ none → t ≡ (k, new) → ((m : ℕ) → e + 1 ≤ m + depth t.1 → GivesTree result (e + 1) (grown_at T e m s t after.now)) → GivesTree result d (node_at T d s ts)
-node_grows T d e s ts k is old new after t result None p q w x empty t_is g = absurd x
-node_grows T d e s ts k is old new after t result (Some y) p q w x empty t_is g =
-    let begun : node_at T d s ts ≡ grown_at T e (suc e) s (k, y.0) y.1 = node_starts T d e s ts p ∙ ap (λ (o : Option Form). start T e o s ts) q ∙ rw w refl in
-    let new_is : new ≡ y.0 = x.1 ∙ ap (λ (f : Forest). f +++ y.0) empty in
-    let t_y : t ≡ (k, y.0) = t_is ∙ ap (λ (f : Forest). with_kind k f) new_is in
-    let got = g (suc e) (omega arith) in
-    rw (begun, p) (subst (λ (ts : List Token). GivesTree result (e + 1) (grown_at T e (suc e) s (k, y.0) ts)) x.0 (subst (λ (u : Tree). GivesTree result (e + 1) (grown_at T e (suc e) s u after.now)) t_y got))
-  where
-    with_kind : NodeKind → Forest → Tree
-    with_kind k f = (k, f)
+-- what an opened node has, behind whose opening parts were read
+pub opened_ready : (v : Version) (all : List Token) (first : Row) (old new : State) (from e : ℕ) (r : Read Forest) → IsOpen first old.0 from none → old.0.at ≡ first.at → old.1.deep ≡ 0 → old.1.edge ≡ 0 → Extends (Ok tt) v all old new e r → (f : Forest) × IsReady v all first new.0 from new.1 f
+opened_ready v all first old new from e None o at d z x = absurd x
+opened_ready v all first old new from e (Some y) o at d z x = (y.0, ready v all first old new from none y.0 o (ap (λ (n : ℕ). drop n all) (sym at)) d z x.0)
+
+pub node_grows : (v : Version) (all : List Token) (d e : ℕ) (s : Sort) (first : Row) (k : NodeKind) (is : List Item) (old new : State) (whole last : Row) (from : ℕ) (c : Closed) (result : Result Closed ParseFault) (r : Read Forest) → d ≡ e + 1 → (php v).form s (behind all first) ≡ Some (k, is) → IsOpen first old.0 from none → old.0.at ≡ first.at → old.1.deep ≡ 0 → old.1.edge ≡ 0 → parts_at (php v) e 7 is (behind all old.0) ≡ r → Extends (Ok tt) v all old new e r
+    → ((f : Forest) → IsReady v all first new.0 from new.1 f → Grew first whole (node k f none)) → ((f : Forest) → IsReady v all first new.0 from new.1 f → IsClosed v c (k, f)) → whole.at ≡ new.0.at
+    → ((x : Tree) (m : ℕ) → length first.nodes.items ≡ from → AddedNode all first whole x → IsClosed v c x → e + 1 ≤ m + depth x.1 → GivesTree result v all first last (e + 1) (grown_at (php v) e m s x (behind all whole)))
+    → GivesTree result v all first last d (node_at (php v) d s (behind all first))
+node_grows v all d e s first k is old new whole last from c result None p q o at d0 z w x gr cl wat g = absurd x
+node_grows v all d e s first k is old new whole last from c result (Some y) p q o at d0 z w x gr cl wat g =
+    let T = php v in
+    let ts = behind all first in
+    let here : behind all old.0 ≡ ts = ap (λ (n : ℕ). drop n all) at in
+    let parts : parts_at T e 7 is ts ≡ Some y = ap (parts_at T e 7 is) (sym here) ∙ w in
+    let begun : node_at T d s ts ≡ grown_at T e (suc e) s (k, y.0) y.1 = node_starts T d e s ts p ∙ ap (λ (o : Option Form). start T e o s ts) q ∙ rw parts refl in
+    let is_ready = ready v all first old new from none y.0 o (sym here) d0 z x.0 in
+    let added = closed_node v all first new.0 whole from new.1 k y.0 is_ready wat (gr y.0 is_ready) in
+    let got = g (k, y.0) (suc e) o.place added (cl y.0 is_ready) (omega arith) in
+    let rest : behind all whole ≡ y.1 = ap (λ (n : ℕ). drop n all) wat ∙ x.1 in
+    rw (begun, p) (subst (λ (us : List Token). GivesTree result v all first last (e + 1) (grown_at T e (suc e) s (k, y.0) us)) rest got)
 
 -- ---- a node that goes on
 
@@ -239,38 +280,92 @@ unfolding grown_at grown_steps
 grow_is T d zero s t ts = refl
 grow_is T d (suc m) s t ts = refl
 
-pub grow_ends : (T : Tables) (d fuel : ℕ) (s : Sort) (b : Built) (rest : Bor (List Token)) → T.tail s (tree_in b) rest.now ≡ None → depth (tree_in b).1 ≤ d → GivesTree (Ok (b, rest)) (d + 1) (grown_at T d fuel s (tree_in b) rest.now)
-grow_ends T d fuel s b rest e low = rw (grow_is T d fuel s (tree_in b) rest.now, e) (refl, refl, omega arith)
+-- how a node goes on, by what the grammar asks of it
+abbrev pub tail_with : Version → Sort → Closed → List Token → Option Form
+tail_with v s c ts = tail_by v s c.kind c.edge c.misindented ts
 
-pub grow_deep : (T : Tables) (d fuel : ℕ) (s : Sort) (t : Tree) (ts : List Token) (f : Form) → T.tail s t ts ≡ Some f → d < depth t.1 + 1 → grown_at T d fuel s t ts ≡ None
-grow_deep T d fuel s t ts f e deep = rw (grow_is T d fuel s t ts, e, le-ltb (depth t.1 + 1) (suc d) (omega arith)) refl
+closed_tail : (v : Version) (s : Sort) (c : Closed) (x : Tree) (ts : List Token) → IsClosed v c x → tail_with v s c ts ≡ tail v s x ts
+closed_tail v s c x ts i = ap (λ (k : NodeKind). tail_by v s k c.edge c.misindented ts) i.kind ∙ ap (λ (n : ℕ). tail_by v s x.0 n c.misindented ts) i.edge ∙ ap (λ (b : Bool). tail_by v s x.0 (edge v x) b ts) i.misindented
 
-pub grow_fails : (T : Tables) (d fuel : ℕ) (s : Sort) (t : Tree) (ts : List Token) (k : NodeKind) (is : List Item) (old new : Forest) (f : ParseFault) → T.tail s t ts ≡ Some (k, is) → depth t.1 + 1 ≤ d → Extends (Err f) old new d (parts_at T d 7 is ts) → GivesTree (Err f) (d + 1) (grown_at T d fuel s t ts)
-grow_fails T d fuel s t ts k is old new NotInGrammar e low x = rw (grow_is T d fuel s t ts, e, lt-ltb (depth t.1 + 1) (suc d) (omega arith), x) refl
-grow_fails T d fuel s t ts k is old new Memory e low x = tt
+pub grow_ends : (v : Version) (all : List Token) (d fuel : ℕ) (s : Sort) (before now : Row) (c : Closed) (x : Tree) → AddedNode all before now x → IsClosed v c x → tail_with v s c (behind all now) ≡ None → c.deep ≤ d + 1 → GivesTree (Ok c) v all before now (d + 1) (grown_at (php v) d fuel s x (behind all now))
+grow_ends v all d fuel s before now c x a i e low =
+    let deep = i.deep in
+    let ends : grown_at (php v) d fuel s x (behind all now) ≡ Some (x, behind all now) = grow_is (php v) d fuel s x (behind all now) ∙ rw (sym (closed_tail v s c x (behind all now) i) ∙ e) refl in
+    subst (λ (r : Read Tree). GivesTree (Ok c) v all before now (d + 1) r) (sym ends) (a, i, refl, omega arith)
 
-pub grow_goes : (T : Tables) (d fuel : ℕ) (s : Sort) (t : Tree) (ts : List Token) (k : NodeKind) (is : List Item) (old new : Forest) (after : Bor (List Token)) (u : Tree) (result : Result (Built × Bor (List Token)) ParseFault) (r : Read Forest) → T.tail s t ts ≡ Some (k, is) → depth t.1 + 1 ≤ d → parts_at T d 7 is ts ≡ r → Extends (Ok after) old new d r → old ≡ node t.0 t.1 none → u ≡ (k, new) → ((m : ℕ) → d + 1 ≤ m + depth u.1 → GivesTree result (d + 1) (grown_at T d m s u after.now)) → d + 1 ≤ fuel + depth t.1 → GivesTree result (d + 1) (grown_at T d fuel s t ts)
-grow_goes T d fuel s t ts k is old new after u result None e low w x first u_is g enough = absurd x
-grow_goes T d zero s t ts k is old new after u result (Some y) e low w x first u_is g enough = absurd (omega arith)
-grow_goes T d (suc m) s t ts k is old new after u result (Some y) e low w x first u_is g enough =
-    let goes : grown_at T d (suc m) s t ts ≡ grown_at T d m s (k, node t.0 t.1 y.0) y.1 = grow_is T d (suc m) s t ts ∙ rw (e, lt-ltb (depth t.1 + 1) (suc d) (omega arith), w) (unfold grown_steps in refl) in
-    let new_is : new ≡ node t.0 t.1 y.0 = x.1 ∙ ap (λ (f : Forest). f +++ y.0) first in
-    let u_y : u ≡ (k, node t.0 t.1 y.0) = u_is ∙ ap (λ (f : Forest). with_kind k f) new_is in
-    let got = subst (λ (u : Tree). d + 1 ≤ m + depth u.1 → GivesTree result (d + 1) (grown_at T d m s u after.now)) u_y (g m) in
-    rw goes (subst (λ (ts : List Token). GivesTree result (d + 1) (grown_at T d m s (k, node t.0 t.1 y.0) ts)) x.0 (got (omega arith)))
-  where
-    with_kind : NodeKind → Forest → Tree
-    with_kind k f = (k, f)
+pub grow_deep : (v : Version) (d fuel : ℕ) (s : Sort) (c : Closed) (x : Tree) (ts : List Token) (f : Form) → IsClosed v c x → tail_with v s c ts ≡ Some f → d < c.deep → grown_at (php v) d fuel s x ts ≡ None
+grow_deep v d fuel s c x ts f i e lt =
+    let deep = i.deep in
+    let t : (php v).tail s x ts ≡ Some f = sym (closed_tail v s c x ts i) ∙ e in
+    rw (grow_is (php v) d fuel s x ts, t, le-ltb (depth x.1 + 1) (suc d) (omega arith)) refl
+
+pub grow_fails : (v : Version) (all : List Token) (d fuel : ℕ) (s : Sort) (before now last : Row) (c : Closed) (x : Tree) (k : NodeKind) (is : List Item) (old later : State) (f : ParseFault) → IsClosed v c x → tail_with v s c (behind all now) ≡ Some (k, is) → c.deep ≤ d → old.0.at ≡ now.at → Extends (Err f) v all old later d (parts_at (php v) d 7 is (behind all old.0)) → GivesTree (Err f) v all before last (d + 1) (grown_at (php v) d fuel s x (behind all now))
+grow_fails v all d fuel s before now last c x k is old later NotInGrammar i e low at g =
+    let deep = i.deep in
+    let ts = behind all now in
+    let t : (php v).tail s x ts ≡ Some (k, is) = sym (closed_tail v s c x ts i) ∙ e in
+    let none : parts_at (php v) d 7 is ts ≡ None = ap (λ (n : ℕ). parts_at (php v) d 7 is (drop n all)) (sym at) ∙ g in
+    rw (grow_is (php v) d fuel s x ts, t, lt-ltb (depth x.1 + 1) (suc d) (omega arith), none) refl
+grow_fails v all d fuel s before now last c x k is old later Memory i e low at g = tt
+
+-- a node that was wrapped, behind which parts were read
+wrapped_ready : (v : Version) (all : List Token) (before now : Row) (old new : State) (from : ℕ) (c : Closed) (x : Tree) (f : Forest) → AddedNode all before now x → IsClosed v c x → IsOpen before old.0 from (node x.0 x.1 none) → old.0.at ≡ now.at → old.1.deep ≡ c.deep → old.1.edge ≡ c.edge → Added v all old new f → IsReady v all before new.0 from new.1 (node x.0 x.1 f)
+wrapped_ready v all before now old new from c x f a i o at d z g =
+    let deep = i.deep in
+    let text : behind all before ≡ leaves (node x.0 x.1 none) ++ behind all old.0 = a.text ∙ rw (at, append-nil (leaves x.1)) refl in
+    ready v all before old new from (node x.0 x.1 none) f o text (omega arith) (z ∙ i.edge ∙ sym (edge_alone v x 0)) g
+
+pub extends_ready : (v : Version) (all : List Token) (before now : Row) (old new : State) (from d : ℕ) (c : Closed) (x : Tree) (r : Read Forest) → AddedNode all before now x → IsClosed v c x → IsOpen before old.0 from (node x.0 x.1 none) → old.0.at ≡ now.at → old.1.deep ≡ c.deep → old.1.edge ≡ c.edge → Extends (Ok tt) v all old new d r → (f : Forest) × IsReady v all before new.0 from new.1 f
+extends_ready v all before now old new from d c x None a i o at e z g = absurd g
+extends_ready v all before now old new from d c x (Some y) a i o at e z g = (node x.0 x.1 y.0, wrapped_ready v all before now old new from c x y.0 a i o at e z g.0)
+
+pub grow_goes : (v : Version) (all : List Token) (d fuel : ℕ) (s : Sort) (before now : Row) (c : Closed) (x : Tree) (k : NodeKind) (is : List Item) (old new : State) (whole last : Row) (from : ℕ) (b : Closed) (result : Result Closed ParseFault) (r : Read Forest) → length before.nodes.items ≡ from → AddedNode all before now x → IsClosed v c x → tail_with v s c (behind all now) ≡ Some (k, is) → c.deep ≤ d
+    → IsOpen before old.0 from (node x.0 x.1 none) → old.0.at ≡ now.at → old.1.deep ≡ c.deep → old.1.edge ≡ c.edge → parts_at (php v) d 7 is (behind all old.0) ≡ r → Extends (Ok tt) v all old new d r
+    → ((f : Forest) → IsReady v all before new.0 from new.1 f → Grew before whole (node k f none)) → ((f : Forest) → IsReady v all before new.0 from new.1 f → IsClosed v b (k, f)) → whole.at ≡ new.0.at
+    → ((u : Tree) (m : ℕ) → length before.nodes.items ≡ from → AddedNode all before whole u → IsClosed v b u → d + 1 ≤ m + depth u.1 → GivesTree result v all before last (d + 1) (grown_at (php v) d m s u (behind all whole)))
+    → d + 1 ≤ fuel + depth x.1 → GivesTree result v all before last (d + 1) (grown_at (php v) d fuel s x (behind all now))
+grow_goes v all d fuel s before now c x k is old new whole last from b result None pl a i e low o at de z w g gr cl wat go enough = absurd g
+grow_goes v all d zero s before now c x k is old new whole last from b result (Some y) pl a i e low o at de z w g gr cl wat go enough = let deep = i.deep in absurd (omega arith)
+grow_goes v all d (suc m) s before now c x k is old new whole last from b result (Some y) pl a i e low o at de z w g gr cl wat go enough =
+    let T = php v in
+    let deep = i.deep in
+    let ts = behind all now in
+    let t : T.tail s x ts ≡ Some (k, is) = sym (closed_tail v s c x ts i) ∙ e in
+    let here : behind all old.0 ≡ ts = ap (λ (n : ℕ). drop n all) at in
+    let parts : parts_at T d 7 is ts ≡ Some y = ap (parts_at T d 7 is) (sym here) ∙ w in
+    let u : Tree = (k, node x.0 x.1 y.0) in
+    let goes : grown_at T d (suc m) s x ts ≡ grown_at T d m s u y.1 = grow_is T d (suc m) s x ts ∙ rw (t, lt-ltb (depth x.1 + 1) (suc d) (omega arith), parts) (unfold grown_steps in refl) in
+    let is_ready = wrapped_ready v all before now old new from c x y.0 a i o at de z g.0 in
+    let added = closed_node v all before new.0 whole from new.1 k (node x.0 x.1 y.0) is_ready wat (gr (node x.0 x.1 y.0) is_ready) in
+    let got = go u m pl added (cl (node x.0 x.1 y.0) is_ready) (omega arith) in
+    let rest : behind all whole ≡ y.1 = ap (λ (n : ℕ). drop n all) wat ∙ g.1 in
+    rw goes (subst (λ (us : List Token). GivesTree result v all before last (d + 1) (grown_at T d m s u us)) rest got)
 
 -- ---- heights, and lists that are not empty
 
-pub extends_low : (after : Bor (List Token)) (old new : Forest) (d : ℕ) (r : Read Forest) → Extends (Ok after) old new d r → depth old ≤ d → depth new ≤ d
-extends_low after old new d None x low = absurd x
-extends_low after old new d (Some y) x low = let a = x.2 in let b = depth_append old y.0 in let c = ap depth x.1 in omega arith
+pub extends_deep : (v : Version) (all : List Token) (old new : State) (d : ℕ) (r : Read Forest) → Extends (Ok tt) v all old new d r → old.1.deep ≤ d → new.1.deep ≤ d
+extends_deep v all old new d None x low = absurd x
+extends_deep v all old new d (Some y) x low = let a = x.0.deep in let b = x.2 in omega arith
 
-pub extends_high : (after : Bor (List Token)) (old new : Forest) (d : ℕ) (r : Read Forest) → Extends (Ok after) old new d r → depth old ≤ depth new
-extends_high after old new d None x = absurd x
-extends_high after old new d (Some y) x = let b = depth_append old y.0 in let c = ap depth x.1 in omega arith
+pub extends_high : (v : Version) (all : List Token) (old new : State) (d : ℕ) (r : Read Forest) → Extends (Ok tt) v all old new d r → old.1.deep ≤ new.1.deep
+extends_high v all old new d None x = absurd x
+extends_high v all old new d (Some y) x = let a = x.0.deep in omega arith
+
+pub extends_within : (v : Version) (all : List Token) (old new : State) (d : ℕ) (r : Read Forest) → Extends (Ok tt) v all old new d r → new.0.at ≤ length all
+extends_within v all old new d None x = absurd x
+extends_within v all old new d (Some y) x = x.0.within
+
+pub gives_within : (v : Version) (all : List Token) (old new : Row) (c : Closed) (d : ℕ) (r : Read Tree) → GivesTree (Ok c) v all old new d r → new.at ≤ length all
+gives_within v all old new c d None x = absurd x
+gives_within v all old new c d (Some y) x = x.0.within
+
+-- fewer tokens are left
+pub fewer : (all : List Token) (old new : Row) → new.at ≤ length all → old.at < new.at → length (behind all new) < length (behind all old)
+fewer all old new w lt = let a = length-drop old.at all in let b = length-drop new.at all in omega arith
+
+-- no fewer tokens are left
+pub no_fewer : (all : List Token) (old new : Row) → new.at ≤ old.at → length (behind all old) ≤ length (behind all new)
+no_fewer all old new le = let a = length-drop old.at all in let b = length-drop new.at all in omega arith
 
 pub cons_of : (is : List Item) → 0 < length is → (i : Item) × (js : List Item) × (is ≡ i ∷ js)
 cons_of [] lt = absurd (omega arith)
@@ -282,26 +377,25 @@ drop_past [] (suc n) le = refl
 drop_past (i ∷ is) zero le = absurd (omega arith)
 drop_past (i ∷ is) (suc n) le = drop_past is n (omega arith)
 
-pub stays_none : (T : Tables) (d n : ℕ) (g : Group) (whole rest : List Token) (old mid new : Forest) (after : Bor (List Token)) (r : Read Forest) → 0 < length (T.parts g rest) → inner_at T d n (T.parts g rest) rest ≡ r → Extends (Ok after) mid new d r → length rest ≤ length after.now → Turned T d n g whole rest old mid → turned_at T d n (length whole) g whole ≡ None
-stays_none T d n g whole rest old mid new after None has e x le w = absurd x
-stays_none T d n g whole rest old mid new after (Some y) has e x le w =
-    let c = cons_of (T.parts g rest) has in
-    let len = ap length x.0 in
-    turned_stays T d n g c.0 c.1 whole rest old mid y c.2 e (omega arith) w
+pub stays_none : (v : Version) (all : List Token) (d n : ℕ) (g : Group) (old mid new : State) (r : Read Forest) → 0 < length ((php v).parts g (behind all mid.0)) → inner_at (php v) d n ((php v).parts g (behind all mid.0)) (behind all mid.0) ≡ r → Extends (Ok tt) v all mid new d r → new.0.at ≤ mid.0.at → Turned v all d n g old mid → turned_at (php v) d n (length (behind all old.0)) g (behind all old.0) ≡ None
+stays_none v all d n g old mid new None has e x le w = absurd x
+stays_none v all d n g old mid new (Some y) has e x le w =
+    let c = cons_of ((php v).parts g (behind all mid.0)) has in
+    let len = ap length x.1 in
+    let more = no_fewer all mid.0 new.0 le in
+    turned_stays v all d n g c.0 c.1 old mid y c.2 e (omega arith) w
 
-pub turned_breaks : (T : Tables) (d n : ℕ) (g : Group) (whole rest : List Token) (old mid new : Forest) (e : ParseFault) → 0 < length (T.parts g rest) → Extends (Err e) mid new d (inner_at T d n (T.parts g rest) rest) → Turned T d n g whole rest old mid → Extends (Err e) old new d (turned_at T d n (length whole) g whole)
-turned_breaks T d n g whole rest old mid new NotInGrammar has x w = let c = cons_of (T.parts g rest) has in turned_fails T d n g c.0 c.1 whole rest old mid c.2 x w
-turned_breaks T d n g whole rest old mid new Memory has x w = tt
+pub turned_breaks : (v : Version) (all : List Token) (d n : ℕ) (g : Group) (old mid new : State) (e : ParseFault) → 0 < length ((php v).parts g (behind all mid.0)) → Extends (Err e) v all mid new d (inner_at (php v) d n ((php v).parts g (behind all mid.0)) (behind all mid.0)) → Turned v all d n g old mid → Extends (Err e) v all old new d (turned_at (php v) d n (length (behind all old.0)) g (behind all old.0))
+turned_breaks v all d n g old mid new NotInGrammar has x w = let c = cons_of ((php v).parts g (behind all mid.0)) has in turned_fails v all d n g c.0 c.1 old mid c.2 x w
+turned_breaks v all d n g old mid new Memory has x w = tt
 
-pub turned_on : (T : Tables) (d n : ℕ) (g : Group) (whole rest : List Token) (old mid new : Forest) (after : Bor (List Token)) → 0 < length (T.parts g rest) → Extends (Ok after) mid new d (inner_at T d n (T.parts g rest) rest) → length after.now < length rest → Turned T d n g whole rest old mid → Turned T d n g whole after.now old new
-turned_on T d n g whole rest old mid new after has x lt w = let c = cons_of (T.parts g rest) has in turned_more T d n g c.0 c.1 whole rest old mid new after _ c.2 refl x lt w
+pub turned_on : (v : Version) (all : List Token) (d n : ℕ) (g : Group) (old mid new : State) → 0 < length ((php v).parts g (behind all mid.0)) → Extends (Ok tt) v all mid new d (inner_at (php v) d n ((php v).parts g (behind all mid.0)) (behind all mid.0)) → mid.0.at < new.0.at → Turned v all d n g old mid → Turned v all d n g old new
+turned_on v all d n g old mid new has x lt w =
+    let c = cons_of ((php v).parts g (behind all mid.0)) has in
+    let less = fewer all mid.0 new.0 (extends_within v all mid new d _ x) lt in
+    turned_more v all d n g c.0 c.1 old mid new _ c.2 refl x less w
 
 -- ---- runs of tokens
-
--- tokens alone, in front of a forest
-abbrev pub flat : List Token → Forest
-flat [] = none
-flat (t ∷ ts) = leaf t (flat ts)
 
 pub run_short : (n : ℕ) (ts : List Token) → length ts < n → run_read n ts ≡ None
 unfolding run_read
@@ -309,31 +403,17 @@ run_short zero ts lt = absurd (omega arith)
 run_short (suc n) [] lt = refl
 run_short (suc n) (t ∷ ts) lt = let e : run_read n ts ≡ None = run_short n ts (omega arith) in rw e refl
 
-pub run_takes : (n : ℕ) (ts : List Token) → n ≤ length ts → run_read n ts ≡ Some (flat (take n ts), drop n ts)
+run_takes : (n : ℕ) (ts : List Token) → n ≤ length ts → run_read n ts ≡ Some (leafed (take n ts) none, drop n ts)
 unfolding run_read
 run_takes zero ts le = refl
 run_takes (suc n) [] le = absurd (omega arith)
-run_takes (suc n) (t ∷ ts) le = let e : run_read n ts ≡ Some (flat (take n ts), drop n ts) = run_takes n ts (omega arith) in rw e refl
+run_takes (suc n) (t ∷ ts) le = let e : run_read n ts ≡ Some (leafed (take n ts) none, drop n ts) = run_takes n ts (omega arith) in rw e refl
 
-pub flat_low : (ts : List Token) → depth (flat ts) ≡ 0
-flat_low [] = refl
-flat_low (t ∷ ts) = flat_low ts
+leafed_low : (ts : List Token) → depth (leafed ts none) ≡ 0
+leafed_low [] = refl
+leafed_low (t ∷ ts) = leafed_low ts
 
--- what stands in front, the tokens that are there, and those that are still to come
-pub flat_more : (old now new : Forest) (ts : List Token) (i : ℕ) (t : Token) → i < length ts → new ≡ now +++ leaf (get_or ts i t) none → now +++ flat (drop i ts) ≡ old → new +++ flat (drop (i + 1) ts) ≡ old
-flat_more old now new ts i t lt e h =
-    let here : drop i ts ≡ get_or ts i t ∷ drop (i + 1) ts = rw add-one (drop-cons ts i t lt) in
-    ap (λ (f : Forest). f +++ flat (drop (i + 1) ts)) e ∙ forest_assoc now (leaf (get_or ts i t) none) (flat (drop (i + 1) ts)) ∙ ap (λ (us : List Token). now +++ flat us) (sym here) ∙ h
-
-pub run_done : (old now : Forest) (n d : ℕ) (ts us : List Token) (after : Bor (List Token)) → n ≤ length ts → us ≡ take n ts → after.now ≡ drop n ts → now ≡ old +++ flat us → Extends (Ok after) old now d (run_read n ts)
-run_done old now n d ts us after le front back grew =
-    rw (run_takes n ts le) (back, grew ∙ ap (λ (us : List Token). old +++ flat us) front, omega (arith, flat_low (take n ts)))
-
-pub flat_ends : (old now : Forest) (ts : List Token) (i : ℕ) → length ts ≤ i → now +++ flat (drop i ts) ≡ old → now ≡ old
-flat_ends old now ts i le h = sym (append_none now) ∙ ap (λ (us : List Token). now +++ flat us) (sym (past ts i le)) ∙ h
-  where
-    past : (ts : List Token) (n : ℕ) → length ts ≤ n → drop n ts ≡ []
-    past [] zero le = refl
-    past [] (suc n) le = refl
-    past (t ∷ ts) zero le = absurd (omega arith)
-    past (t ∷ ts) (suc n) le = past ts n (omega arith)
+pub run_done : (v : Version) (all : List Token) (old new : State) (n d : ℕ) → n ≤ length (behind all old.0) → old.0.at ≤ length all → Grew old.0 new.0 (leafed (take n (behind all old.0)) none) → new.0.at ≡ old.0.at + n → new.1.deep ≡ old.1.deep → (0 < n → new.1.edge ≡ 0) → (n ≡ 0 → new.1.edge ≡ old.1.edge) → Extends (Ok tt) v all old new d (run_read n (behind all old.0))
+run_done v all old new n d le w g at deep many empty =
+    let a = leaves_added v all old new n le w g at deep many empty in
+    subst (λ (r : Read Forest). Extends (Ok tt) v all old new d r) (sym (run_takes n (behind all old.0) le)) (a.0, a.1, omega (arith, leafed_low (take n (behind all old.0))))

@@ -1,10 +1,11 @@
 -- What the parser's functions answer, beside the parser on lists.
 use Rattle.std.specs.Prelude.{length, ◌+◌, ◌≡◌, ℕ, zero, suc, ◌≤◌, ◌<◌, List, [], ◌∷◌, Option, Some, None, Result, Ok, Err}
-use Rattle.std.specs.Borrow.{Bor}
 use Rattle.php_tree.specs.declared.token.Token.{Token}
-use Rattle.php_exprs.specs.declared.build.Built.{Built}
-use Rattle.php_exprs.specs.Built.{tree_in}
-use Rattle.php_tree.specs.declared.node.Node.{Node as TheNode}
+use Rattle.php_tree.specs.declared.version.Version.{Version}
+use Rattle.php_rows.specs.declared.row.Row.{Row}
+use Rattle.php_grammar.specs.Tables.{php}
+use Rattle.php_exprs.specs.declared.build.Closed.{Closed}
+use Rattle.php_exprs.specs.Built.{Added, AddedNode, IsClosed, State, behind}
 use Rattle.php_tree.specs.Tree.{Forest, Tree, ◌+++◌, depth}
 use Rattle.php_forms.specs.declared.item.Sort.{Sort}
 use Rattle.php_forms.specs.declared.item.Group.{Group}
@@ -13,22 +14,23 @@ use Rattle.php_exprs.specs.declared.fault.ParseFault.{ParseFault}
 use Rattle.php_exprs.specs.declared.fault.ParseFault.TheVariants.{NotInGrammar, Memory}
 use Rattle.php_forms.specs.Grammar.{Tables}
 use Rattle.php_exprs.specs.Parsing.{◌>>=◌, given, Read, Steps, items_at, run_at, turns_at, walk, under, grow, parse}
-use Rattle.php_tree.specs.Tree.{none, leaf, node, nodes_forest}
+use Rattle.php_tree.specs.Tree.{none, leaf, node}
 use Rattle.php_terminals.specs.declared.terminal.Terminal.{Terminal}
 use Rattle.php_forms.specs.declared.item.Item.TheVariants.{Word, Node, Part, Turns, Span}
 
--- The parts grew by what was read.
-abbrev pub Extends : Result (Bor (List Token)) ParseFault → Forest → Forest → ℕ → Read Forest → Type 0
-Extends (Ok rest) old new d (Some y) = (rest.now ≡ y.1) × (new ≡ old +++ y.0) × (depth y.0 ≤ d)
-Extends (Ok rest) old new d None = ⊥
-Extends (Err NotInGrammar) old new d read = read ≡ None
-Extends (Err Memory) old new d read = Unit {0}
+-- Parts were added by what was read.
+abbrev pub Extends : Result (Unit {0}) ParseFault → Version → List Token → State → State → ℕ → Read Forest → Type 0
+Extends (Ok x) v all old new d (Some y) = Added v all old new y.0 × (behind all new.0 ≡ y.1) × (depth y.0 ≤ d)
+Extends (Ok x) v all old new d None = ⊥
+Extends (Err NotInGrammar) v all old new d read = read ≡ None
+Extends (Err Memory) v all old new d read = Unit {0}
 
-abbrev pub GivesTree : Result (Built × Bor (List Token)) ParseFault → ℕ → Read Tree → Type 0
-GivesTree (Ok x) d (Some y) = (tree_in x.0 ≡ y.0) × (x.1.now ≡ y.1) × (depth y.0.1 < d)
-GivesTree (Ok x) d None = ⊥
-GivesTree (Err NotInGrammar) d read = read ≡ None
-GivesTree (Err Memory) d read = Unit {0}
+-- A node was added by what was read.
+abbrev pub GivesTree : Result Closed ParseFault → Version → List Token → Row → Row → ℕ → Read Tree → Type 0
+GivesTree (Ok c) v all old new d (Some y) = AddedNode all old new y.0 × IsClosed v c y.0 × (behind all new ≡ y.1) × (depth y.0.1 < d)
+GivesTree (Ok c) v all old new d None = ⊥
+GivesTree (Err NotInGrammar) v all old new d read = read ≡ None
+GivesTree (Err Memory) v all old new d read = Unit {0}
 
 unfoldable pub node_at : Tables → ℕ → Sort → List Token → Read Tree
 node_at T d = parse T 7 d
@@ -65,26 +67,21 @@ abbrev pub with_front : Forest → Read Forest → Read Forest
 with_front f read = read >>= λ y. Some (f +++ y.0, y.1)
 
 -- the first items were read, and the others are still to come
-pub record Walked (T : Tables) (d n : ℕ) (form items : List Item) (whole rest : List Token) (old new : Forest) : Type 0 where
+pub record Walked (v : Version) (all : List Token) (d n : ℕ) (form items : List Item) (old new : State) : Type 0 where
   pub parts : Forest
-  pub grew : new ≡ old +++ parts
+  pub added : Added v all old new parts
   pub low : depth parts ≤ d
-  pub same : parts_at T d n form whole ≡ with_front parts (parts_at T d n items rest)
+  pub same : parts_at (php v) d n form (behind all old.0) ≡ with_front parts (parts_at (php v) d n items (behind all new.0))
 
 -- some turns of a group were read, and the others are still to come
-pub record Turned (T : Tables) (d n : ℕ) (g : Group) (whole rest : List Token) (old new : Forest) : Type 0 where
+pub record Turned (v : Version) (all : List Token) (d n : ℕ) (g : Group) (old new : State) : Type 0 where
   pub parts : Forest
   pub fuel : ℕ
-  pub grew : new ≡ old +++ parts
+  pub added : Added v all old new parts
   pub low : depth parts ≤ d
-  pub enough : length rest ≤ fuel
-  pub same : turned_at T d n (length whole) g whole ≡ with_front parts (turned_at T d n fuel g rest)
+  pub enough : length (behind all new.0) ≤ fuel
+  pub same : turned_at (php v) d n (length (behind all old.0)) g (behind all old.0) ≡ with_front parts (turned_at (php v) d n fuel g (behind all new.0))
 
 -- so many tokens
 unfoldable pub run_read : ℕ → List Token → Read Forest
 run_read n ts = run_at n ts
-
--- Statements are what was read.
-abbrev pub GivesStatements : Result (List TheNode × Bor (List Token)) ParseFault → ℕ → Read Forest → Type 0
-GivesStatements (Ok x) d read = Extends (Ok x.1) none (nodes_forest x.0) d read
-GivesStatements (Err e) d read = Extends (Err e) none none d read

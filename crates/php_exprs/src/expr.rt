@@ -1,13 +1,18 @@
 // The longest expression from a place on.
 ghost use Rattle.std.specs.Prelude.{◌≡◌, ◌≤◌, length, IfOk, Err};
 ghost use Rattle.php_tree.specs.Tree.{tree};
+ghost use Rattle.php_terminals.specs.Marked.{all_placeless};
+ghost use Rattle.php_terminals.specs.Tokens.{tokens_in};
 ghost use Rattle.php_exprs.specs.Expr.{HasNoExpression, IsExpression, IsLongest, IsNone};
 
 use crate::fault::ParseFault;
 use crate::read::read_node;
 use php_grammar::{ANY, Sort};
+use php_rows::{Row, node_with};
+use php_terminals::marking::marks_of;
+use php_terminals::tokens::Tokens;
 use php_tree::{Node, Token, Version};
-use std::alloc::Global;
+use std::alloc::{AllocError, Global};
 
 /// Why no expression was read.
 #[derive(Clone, Copy, Debug, PartialEq, Eq)]
@@ -18,24 +23,37 @@ pub enum ExprFault {
     Memory,
 }
 
-// The expression that all of the tokens are.
+impl From<AllocError> for ExprFault {
+    ghost use Rattle.std.specs.Prelude.{◌≡◌};
+    ghost use Rattle.php_exprs.specs.declared.expr.ExprFault.TheVariants.{Memory};
+
+    ghost from_gives = { λ _ e. e ≡ Memory };
+
+    fn from(_error: AllocError) -> ExprFault {
+        ExprFault::Memory
+    }
+}
+
+// The expression that all of the tokens are; they are those of a row, other than by their places.
 fn whole_expr(
     alloc: Global,
     version: Version,
     depth: u32,
     tokens: &[Token],
+    placed: Tokens<'_>,
 ) -> Result<Node, ExprFault>
-    requires { depth ≤ 1500 }
+    requires depth { depth ≤ 1500 }
+    requires same { all_placeless tokens.now ≡ all_placeless (tokens_in placed) }
     ensures found { IfOk result (λ node. IsExpression version depth tokens.now (tree node)) }
     ensures none { result ≡ Err ExprFault.NotAnExpression → IsNone version depth tokens.now }
 {
-    match read_node(alloc, version, Sort::Operand(ANY), depth, tokens) {
-        Ok((built, rest)) => {
-            if rest.is_empty() {
-                Ok(built.into_node())
-            } else {
-                Err(ExprFault::NotAnExpression)
+    let mut row = Row::new(alloc);
+    match read_node(version, Sort::Operand(ANY), depth, placed, &mut row) {
+        Ok(closed) => {
+            if placed.len() > row.at() as usize {
+                return Err(ExprFault::NotAnExpression);
             }
+            Ok(node_with(alloc, closed.kind, row.inner(0, placed), tokens)?)
         }
         Err(ParseFault::NotInGrammar) => Err(ExprFault::NotAnExpression),
         Err(ParseFault::Memory) => Err(ExprFault::Memory),
@@ -57,9 +75,12 @@ pub fn parse_expr(
     ensures found { IfOk result (λ x. IsLongest version depth tokens.now at (tree x.0) x.1) }
     ensures none { result ≡ Err ExprFault.NotAnExpression → HasNoExpression version depth tokens.now at }
 {
+    let (bytes, marks) = marks_of(alloc, tokens)?;
+    let placed = Tokens::new(bytes.as_slice(), marks.as_slice());
     let mut end = tokens.len();
     'ends: loop {
-        match whole_expr(alloc, version, depth, &tokens[at..end]) {
+        let front = placed.front(end).behind(at);
+        match whole_expr(alloc, version, depth, &tokens[at..end], front) {
             Ok(node) => return Ok((node, end)),
             Err(ExprFault::Memory) => return Err(ExprFault::Memory),
             Err(ExprFault::NotAnExpression) => {}

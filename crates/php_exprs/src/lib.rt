@@ -5,11 +5,10 @@ mod build;
 mod engine;
 mod expr;
 mod fault;
-mod nodes;
 mod read;
 mod statements;
 
-pub use build::{Built, Parts};
+pub use build::{Closed, Reach};
 pub use expr::{ExprFault, parse_expr};
 pub use fault::ParseFault;
 pub use read::read_node;

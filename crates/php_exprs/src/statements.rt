@@ -1,60 +1,68 @@
 // The statements at the front of some tokens.
-ghost use Rattle.std.specs.Prelude.{◌≡◌, ◌≤◌, ◌<◌, ◌^◌, List, IfOk, length};
+ghost use Rattle.std.specs.Prelude.{◌≡◌, ◌≤◌, List, IfOk, length};
 ghost use Rattle.php_tree.specs.declared.token.Token.{Token};
-ghost use Rattle.php_tree.specs.Tree.{Forest, count, nodes_forest};
+ghost use Rattle.php_tree.specs.Tree.{Forest};
+ghost use Rattle.php_terminals.specs.Tokens.{tokens_in};
 ghost use Rattle.php_forms.specs.declared.item.Group.TheVariants.{Statements};
 ghost use Rattle.php_grammar.specs.Tables.{php};
-ghost use Rattle.php_exprs.specs.Parsed.{GivesStatements, turned_at};
-ghost use Rattle.php_exprs.specs.Reading.{AnswersStatements, ReadsStatements};
+ghost use Rattle.php_exprs.specs.Built.{behind};
+ghost use Rattle.php_exprs.specs.Parsed.{Extends, turned_at};
+ghost use Rattle.php_exprs.specs.Reading.{AnswersStatements, IsListed, ReadsStatements};
 
-use crate::engine::node;
+use crate::build::Reach;
+use crate::engine::{node, rest};
 use crate::fault::ParseFault;
-use crate::nodes::Nodes;
 use php_grammar::{Group, Sort, parts_of};
-use php_tree::{Node, Token, Version};
-use sqlite_items::Items;
+use php_rows::Row;
+use php_terminals::tokens::Tokens;
+use php_tree::Version;
 use std::alloc::Global;
 
-// The statements at the front of the tokens, and the tokens behind them.
+// The statements at the front of the tokens that are still to be read.
 fn statements(
-    alloc: Global,
     version: Version,
     limit: u32,
-    tokens: &[Token],
-) -> Result<(Items<Node>, &[Token]), ParseFault>
-    requires { limit ≤ 1500 }
-    ensures given { GivesStatements result limit (turned_at (php version) limit 7 (length tokens.now) Statements tokens.now) }
-    ensures few { IfOk result (λ x. count (nodes_forest x.0) < 2 ^ 32) }
+    tokens: Tokens<'_>,
+    row: &mut Row,
+    reach: &mut Reach,
+) -> Result<(), ParseFault>
+    requires bound { limit ≤ 1500 }
+    requires within { row.old.at ≤ length (tokens_in tokens) }
+    ensures { Extends result version (tokens_in tokens.entry) (row.old, reach.old) (row.new, reach.new) limit
+        (turned_at (php version) limit 7 (length (behind (tokens_in tokens.entry) row.old)) Statements
+            (behind (tokens_in tokens.entry) row.old)) }
 {
-    let mut nodes = Nodes::new(alloc);
-    let mut rest = tokens;
     'turns: loop {
-        if parts_of(version, Group::Statements, rest).is_empty() {
-            return Ok((nodes.into_items(), rest));
+        if parts_of(version, Group::Statements, rest(tokens, row)).is_empty() {
+            return Ok(());
         }
-        let (built, after) = node(alloc, version, Sort::Statement, limit, rest)?;
-        if after.len() >= rest.len() {
+        let before = row.at();
+        let closed = node(version, Sort::Statement, limit, tokens, row)?;
+        reach.child(closed);
+        if row.at() <= before {
             return Err(ParseFault::NotInGrammar);
         }
-        nodes.push(built)?;
-        rest = after;
     }
 }
 
-/// The statements at the front of the tokens, at most `limit` deep, and the tokens behind them: those that begin no
-/// statement. 2^32 nodes and more count as want of memory.
+/// The statements at the front of the tokens, at most `limit` deep, as a row, and how deep they are. Those behind them,
+/// from the row's number of tokens on, begin no statement. 2^32 nodes and more count as want of memory.
 pub fn read_statements(
     alloc: Global,
     version: Version,
     limit: u32,
-    tokens: &[Token],
-) -> Result<(Items<Node>, &[Token]), ParseFault>
+    tokens: Tokens<'_>,
+) -> Result<(Row, u32), ParseFault>
     requires { limit ≤ 1500 }
     // What is read are statements of the grammar.
-    ensures found { IfOk result (λ x. ReadsStatements version limit tokens.now (nodes_forest x.0) x.1.now) }
+    ensures found { IfOk result (λ x. (f : Forest) × ((rest : List Token) ×
+        ReadsStatements version limit (tokens_in tokens.entry) f rest × IsListed (tokens_in tokens.entry) x.0 x.1 f rest)) }
     // Statements of the grammar are what is read.
-    ensures only { (f : Forest) (rest : List Token) → ReadsStatements version limit tokens.now f rest → AnswersStatements result f rest }
-    ensures few { IfOk result (λ x. count (nodes_forest x.0) < 2 ^ 32) }
+    ensures only { (f : Forest) (rest : List Token) → ReadsStatements version limit (tokens_in tokens.entry) f rest →
+        AnswersStatements result (tokens_in tokens.entry) f rest }
 {
-    statements(alloc, version, limit, tokens)
+    let mut row = Row::new(alloc);
+    let mut reach = Reach::new();
+    statements(version, limit, tokens, &mut row, &mut reach)?;
+    Ok((row, reach.deep))
 }

@@ -1,8 +1,9 @@
 // How statements and members begin.
-ghost use Rattle.std.specs.Prelude.{◌≡◌};
+ghost use Rattle.std.specs.Prelude.{◌≡◌, drop};
 ghost use Rattle.php_terminals.specs.Ahead.{first_of, second_of, third_of};
+ghost use Rattle.php_terminals.specs.Tokens.{tokens_in};
 ghost use Rattle.php_forms.specs.Forms.{form_view};
-ghost use Rattle.php_forms.specs.Heads.{attribute, behind_modifiers, case_form, chosen_form, function_form, if_form, is_some_modifier, label_form, member_form, modified_form, modifiers_len, namespace_form, statement_form, static_form, trait_use_form};
+ghost use Rattle.php_forms.specs.Heads.{attribute, behind_modifiers, case_form, chosen_form, function_form, if_form, label_form, member_form, modified_form, modifiers_len, namespace_form, statement_form, static_form, trait_use_form};
 
 use crate::declarations::{ATTRIBUTE, CLASS_CONST, METHOD, PROPERTY, TRAIT_USE};
 use crate::forms::or_else;
@@ -10,10 +11,10 @@ use crate::item::{Form, Item, NOTHING};
 use crate::statements::{
     CASE, DEFAULT, EXPR_STMT, FUNCTION, IF, IF_ALT, LABEL, NAMESPACE, STATICS, simple_form,
 };
-use php_terminals::ahead::{behind, first, past_group, second, third};
-use php_terminals::classify::{is_any_label, is_modifier, terminal};
+use php_terminals::classify::{is_any_label, is_modifier};
 use php_terminals::terminal::Terminal;
-use php_tree::{NodeKind, Token, Version};
+use php_terminals::tokens::Tokens;
+use php_tree::{NodeKind, Version};
 
 // An `if`, by what stands behind its condition.
 fn if_form(behind_condition: Terminal) -> Form
@@ -71,27 +72,27 @@ fn label_form(second: Terminal) -> Form
 }
 
 // The form of a statement that its first token doesn't settle.
-fn chosen_form(tokens: &[Token]) -> Option<Form>
-    ensures { form_view result ≡ chosen_form tokens.now }
+fn chosen_form(tokens: Tokens<'_>) -> Option<Form>
+    ensures { form_view result ≡ chosen_form (tokens_in tokens.entry) }
 {
-    match first(tokens) {
-        Terminal::If => Some(if_form(past_group(behind(tokens, 1)))),
-        Terminal::Static => Some(static_form(second(tokens))),
-        Terminal::Function => Some(function_form(second(tokens), third(tokens))),
-        Terminal::Namespace => Some(namespace_form(second(tokens))),
-        Terminal::Label => Some(label_form(second(tokens))),
-        Terminal::Match => Some(label_form(second(tokens))),
-        Terminal::Readonly => Some(label_form(second(tokens))),
-        Terminal::MixedOrNever => Some(label_form(second(tokens))),
+    match tokens.first() {
+        Terminal::If => Some(if_form(tokens.behind(1).past_group())),
+        Terminal::Static => Some(static_form(tokens.second())),
+        Terminal::Function => Some(function_form(tokens.second(), tokens.third())),
+        Terminal::Namespace => Some(namespace_form(tokens.second())),
+        Terminal::Label => Some(label_form(tokens.second())),
+        Terminal::Match => Some(label_form(tokens.second())),
+        Terminal::Readonly => Some(label_form(tokens.second())),
+        Terminal::MixedOrNever => Some(label_form(tokens.second())),
         _ => None,
     }
 }
 
 /// The form of the statement that begins here.
-pub fn statement_form(tokens: &[Token]) -> Option<Form>
-    ensures { form_view result ≡ statement_form tokens.now }
+pub fn statement_form(tokens: Tokens<'_>) -> Option<Form>
+    ensures { form_view result ≡ statement_form (tokens_in tokens.entry) }
 {
-    or_else(chosen_form(tokens), Some(simple_form(first(tokens))))
+    or_else(chosen_form(tokens), Some(simple_form(tokens.first())))
 }
 
 /// The form of a case.
@@ -105,28 +106,23 @@ pub fn case_form(first: Terminal) -> Option<Form>
     }
 }
 
-// Whether the token is a modifier.
-fn is_some_modifier(token: &Token) -> bool
-    ensures { result ≡ is_some_modifier token.now }
-{
-    is_modifier(terminal(token))
-}
-
 // How many modifiers there are here.
-fn modifiers_len(tokens: &[Token]) -> usize
-    ensures { result ≡ modifiers_len tokens.now }
+fn modifiers_len(tokens: Tokens<'_>) -> usize
+    ensures { result ≡ modifiers_len (tokens_in tokens.entry) }
 {
-    tokens
-        .iter()
-        .take_while(|token| is_some_modifier(token))
-        .count()
+    for i in 0..tokens.len() {
+        if !is_modifier(tokens.class(i)) {
+            return i;
+        }
+    }
+    tokens.len()
 }
 
 // The class of the token behind the modifiers.
-fn behind_modifiers(tokens: &[Token]) -> Terminal
-    ensures { result ≡ behind_modifiers tokens.now }
+fn behind_modifiers(tokens: Tokens<'_>) -> Terminal
+    ensures { result ≡ behind_modifiers (tokens_in tokens.entry) }
 {
-    first(behind(tokens, modifiers_len(tokens)))
+    tokens.behind(modifiers_len(tokens)).first()
 }
 
 // A member with modifiers, by what stands behind them.
@@ -151,11 +147,11 @@ fn trait_use_form(first: Terminal) -> Option<Form>
 }
 
 /// The form of the member that begins here.
-pub fn member_form(tokens: &[Token]) -> Option<Form>
-    ensures { form_view result ≡ member_form tokens.now }
+pub fn member_form(tokens: Tokens<'_>) -> Option<Form>
+    ensures { form_view result ≡ member_form (tokens_in tokens.entry) }
 {
     or_else(
-        trait_use_form(first(tokens)),
+        trait_use_form(tokens.first()),
         Some(modified_form(behind_modifiers(tokens))),
     )
 }

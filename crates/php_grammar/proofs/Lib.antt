@@ -1,2 +1,4 @@
 pub mod EdgeLemmas
+pub mod PartLemmas
 pub mod Ranks
+pub mod Placeless

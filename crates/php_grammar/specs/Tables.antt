@@ -1,5 +1,6 @@
 -- The tables of the grammar of both versions.
-use Rattle.std.specs.Prelude.{ℕ, List, [], ◌∷◌, Option, Some, None}
+use Rattle.std.specs.Prelude.{ℕ, Bool, List, [], ◌∷◌, Option, Some, None}
+use Rattle.php_tree.specs.declared.kind.NodeKind.{NodeKind}
 use Rattle.php_tree.specs.declared.kind.NodeKind.TheVariants as k
 use Rattle.php_tree.specs.declared.token.Token.{Token}
 use Rattle.php_tree.specs.declared.version.Version.{Version}
@@ -23,7 +24,9 @@ use Rattle.php_forms.specs.Atoms.{closure_use, ctor_args, exit_code, exit_value,
 use Rattle.php_forms.specs.Grammar.{Form, Tables}
 use Rattle.php_forms.specs.Heads.{attribute, case_form, member_form, statement_form}
 use Rattle.php_grammar.specs.Operands.{class_ref_form, created, entry_form, instance_ref, operand_form, place_form, simple_variable_form, target_form, yield_value}
-use Rattle.php_grammar.specs.Tails.{class_ref_tail, entry_tail, interpolated_tail, place_tail, read_tail, target_tail}
+use Rattle.php_grammar.specs.Edges.{edge}
+use Rattle.php_grammar.specs.Tails.{class_ref_tail, entry_by, interpolated_tail, place_by, read_by, target_by}
+use Rattle.php_terminals.specs.Indents.{is_misindented}
 
 -- a variable alone
 abbrev pub plain_variable_form : Terminal → Option Form
@@ -150,15 +153,19 @@ parts v g.Created ts = created ts
 parts v g.InstanceRef ts = instance_ref ts
 parts v g.Attribute ts = attribute v (first_of ts)
 
+-- the form that goes on behind a node of a kind, which has an edge and may be misindented
+abbrev pub tail_by : Version → Sort → NodeKind → ℕ → Bool → List Token → Option Form
+tail_by v (s.Operand limit) kind own misindented ts = read_by v limit kind own misindented ts
+tail_by v s.Entry kind own misindented ts = entry_by v kind own misindented ts
+tail_by v s.Target kind own misindented ts = target_by v kind misindented ts
+tail_by v s.Place kind own misindented ts = place_by v kind misindented ts
+tail_by v s.ClassRef kind own misindented ts = class_ref_tail v kind ts
+tail_by v s.Interpolated kind own misindented ts = interpolated_tail kind ts
+tail_by v _ kind own misindented ts = None
+
 -- the form that goes on behind a node, or none where the node ends
 abbrev pub tail : Version → Sort → Tree → List Token → Option Form
-tail v (s.Operand limit) x ts = read_tail v limit x ts
-tail v s.Entry x ts = entry_tail v x ts
-tail v s.Target x ts = target_tail v x ts
-tail v s.Place x ts = place_tail v x ts
-tail v s.ClassRef x ts = class_ref_tail v x.0 ts
-tail v s.Interpolated x ts = interpolated_tail x.0 ts
-tail v _ x ts = None
+tail v sort x ts = tail_by v sort x.0 (edge v x) (is_misindented x) ts
 
 -- how many tokens a span takes: those before the brace that closes none among them
 abbrev pub span : List Token → ℕ

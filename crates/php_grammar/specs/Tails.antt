@@ -103,39 +103,55 @@ chosen_tail v limit left kind ts = operator_by v limit left kind (first_of ts) t
 abbrev pub operator_tail : Version → ℕ → ℕ → NodeKind → List Token → Option Form
 operator_tail v limit left kind ts = or_else (chosen_tail v limit left kind ts) (binary_tail v limit left (first_of ts))
 
--- the edge of a left operand: a list form is none, since it must be assigned to
+-- the edge of a left operand of a kind, which is of an edge: a list form is none, since it must be assigned to
+abbrev pub left_by : NodeKind → ℕ → ℕ
+left_by kind own = cond (is_list kind) 25 own
+
 abbrev pub left_edge : Version → Tree → ℕ
-left_edge v x = cond (is_list x.0) 25 (edge v x)
+left_edge v x = left_by x.0 (edge v x)
+
+abbrev pub operand_by : Version → ℕ → NodeKind → ℕ → List Token → Option Form
+operand_by v limit kind own ts = or_else (postfix_tail v kind ts) (operator_tail v limit (left_by kind own) kind ts)
 
 -- what goes on behind an operand, where operators of a level and tighter ones may stand
 abbrev pub operand_tail : Version → ℕ → Tree → List Token → Option Form
-operand_tail v limit x ts = or_else (postfix_tail v x.0 ts) (operator_tail v limit (left_edge v x) x.0 ts)
+operand_tail v limit x ts = operand_by v limit x.0 (edge v x) ts
 
 -- the node ends here where a test holds, and else is none
 abbrev pub refused_unless : Bool → Option Form
 refused_unless test = cond test None refused
 
+abbrev pub read_by : Version → ℕ → NodeKind → ℕ → Bool → List Token → Option Form
+read_by v limit kind own misindented ts = cond misindented refused (or_else (operand_by v limit kind own ts) (refused_unless (not (is_list kind))))
+
 -- how an operand goes on; a list form must be assigned to
 abbrev pub read_tail : Version → ℕ → Tree → List Token → Option Form
-read_tail v limit x ts = cond (is_misindented x) refused (or_else (operand_tail v limit x ts) (refused_unless (not (is_list x.0))))
+read_tail v limit x ts = read_by v limit x.0 (edge v x) (is_misindented x) ts
 
 -- the end of the first expression of an item of a list form
 abbrev pub entry_end : NodeKind → Terminal → Option Form
 entry_end kind following = cond (is_double_arrow following) (refused_unless (not (is_list kind))) (refused_unless (is_target kind || is_list kind))
 
+abbrev pub entry_by : Version → NodeKind → ℕ → Bool → List Token → Option Form
+entry_by v kind own misindented ts = cond misindented refused (or_else (operand_by v 24 kind own ts) (entry_end kind (first_of ts)))
+
 -- how the first expression of an item of a list form goes on: it ends as a key before `=>`, or as a target
 abbrev pub entry_tail : Version → Tree → List Token → Option Form
-entry_tail v x ts =
-    cond (is_misindented x) refused
-    (or_else (operand_tail v 24 x ts) (entry_end x.0 (first_of ts)))
+entry_tail v x ts = entry_by v x.0 (edge v x) (is_misindented x) ts
+
+abbrev pub place_by : Version → NodeKind → Bool → List Token → Option Form
+place_by v kind misindented ts = cond misindented refused (or_else (postfix_tail v kind ts) (refused_unless (is_target kind)))
 
 -- how a variable expression goes on
 abbrev pub place_tail : Version → Tree → List Token → Option Form
-place_tail v x ts = cond (is_misindented x) refused (or_else (postfix_tail v x.0 ts) (refused_unless (is_target x.0)))
+place_tail v x ts = place_by v x.0 (is_misindented x) ts
+
+abbrev pub target_by : Version → NodeKind → Bool → List Token → Option Form
+target_by v kind misindented ts = cond (is_list kind) None (place_by v kind misindented ts)
 
 -- how a target goes on: a list form ends
 abbrev pub target_tail : Version → Tree → List Token → Option Form
-target_tail v x ts = cond (is_list x.0) None (place_tail v x ts)
+target_tail v x ts = target_by v x.0 (is_misindented x) ts
 
 abbrev pub class_ref_by : Version → NodeKind → Terminal → List Token → Option Form
 class_ref_by v kind t.OpenBracket ts = Some offset_form

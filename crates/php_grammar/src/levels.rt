@@ -1,13 +1,13 @@
 // The levels of operators: 1 is the tightest, 24 the loosest. The only place that has them.
 ghost use Rattle.std.specs.Prelude.{◌≡◌};
-ghost use Rattle.php_tree.specs.Tree.{tree};
+ghost use Rattle.php_rows.specs.Reading.{forest_in};
 ghost use Rattle.php_grammar.specs.Levels.{binary_items, binary_level, dot_items, dot_level, first_leaf, is_alone, left_limit, level, middle_leaf, prefix_level};
 
 use php_forms::item::Item::{self, Node as Operand, Word};
 use php_forms::item::{NOTHING, Sort};
-use php_terminals::classify::terminal;
+use php_rows::{Parts, Step};
 use php_terminals::terminal::Terminal;
-use php_tree::{Node, NodeKind, Part, Version};
+use php_tree::{NodeKind, Version};
 
 // The level of `.`: 7.4 has it with `+` and `-`, 8.3 behind the shifts.
 fn dot_level(version: Version) -> u8
@@ -141,40 +141,47 @@ pub fn binary_items(version: Version, operator: Terminal) -> &'static [Item]
     }
 }
 
-// The class of the first part, where that is a token.
-fn first_leaf(node: &Node) -> Terminal
-    ensures { result ≡ first_leaf (tree node.now) }
+// The class of the first part of a node of the kind, where that is a token.
+fn first_leaf(kind: NodeKind, parts: Parts<'_>) -> Terminal
+    ensures { result ≡ first_leaf (kind, forest_in parts.entry) }
 {
-    match node.parts.as_slice() {
-        [] => Terminal::End,
-        [Part::Leaf(token), ..] => terminal(token),
-        [Part::Child(_), ..] => Terminal::End,
+    let mut left = parts;
+    match left.next() {
+        None => Terminal::End,
+        Some(Step::Leaf(mark)) => mark.class,
+        Some(Step::Child(_, _, _)) => Terminal::End,
     }
 }
 
 // The class of the second part, where that is a token behind a node.
-fn middle_leaf(node: &Node) -> Terminal
-    ensures { result ≡ middle_leaf (tree node.now) }
+fn middle_leaf(kind: NodeKind, parts: Parts<'_>) -> Terminal
+    ensures { result ≡ middle_leaf (kind, forest_in parts.entry) }
 {
-    match node.parts.as_slice() {
-        [] => Terminal::End,
-        [Part::Leaf(_), ..] => Terminal::End,
-        [Part::Child(_)] => Terminal::End,
-        [Part::Child(_), Part::Leaf(token), ..] => terminal(token),
-        [Part::Child(_), Part::Child(_), ..] => Terminal::End,
+    let mut left = parts;
+    match left.next() {
+        None => Terminal::End,
+        Some(Step::Leaf(_)) => Terminal::End,
+        Some(Step::Child(_, _, _)) => match left.next() {
+            None => Terminal::End,
+            Some(Step::Leaf(mark)) => mark.class,
+            Some(Step::Child(_, _, _)) => Terminal::End,
+        },
     }
 }
 
-// Whether the node is one token.
-fn is_alone(node: &Node) -> bool
-    ensures { result ≡ is_alone (tree node.now) }
+// Whether a node of the kind is one token.
+fn is_alone(kind: NodeKind, parts: Parts<'_>) -> bool
+    ensures { result ≡ is_alone (kind, forest_in parts.entry) }
 {
-    match node.parts.as_slice() {
-        [] => false,
-        [Part::Leaf(_)] => true,
-        [Part::Leaf(_), Part::Leaf(_), ..] => false,
-        [Part::Leaf(_), Part::Child(_), ..] => false,
-        [Part::Child(_), ..] => false,
+    let mut left = parts;
+    match left.next() {
+        None => false,
+        Some(Step::Leaf(_)) => match left.next() {
+            None => true,
+            Some(Step::Leaf(_)) => false,
+            Some(Step::Child(_, _, _)) => false,
+        },
+        Some(Step::Child(_, _, _)) => false,
     }
 }
 
@@ -194,12 +201,12 @@ fn prefix_level(operator: Terminal) -> u8
 
 /// The level of an expression: that of its outermost operator, or 0. A bare `yield` is looser than all, so that it is
 /// no left operand.
-pub fn level(version: Version, node: &Node) -> u8
-    ensures { result ≡ level version (tree node.now) }
+pub fn level(version: Version, kind: NodeKind, parts: Parts<'_>) -> u8
+    ensures { result ≡ level version (kind, forest_in parts.entry) }
 {
-    match node.kind {
-        NodeKind::Binary => binary_level(version, middle_leaf(node)),
-        NodeKind::Prefix => prefix_level(first_leaf(node)),
+    match kind {
+        NodeKind::Binary => binary_level(version, middle_leaf(kind, parts)),
+        NodeKind::Prefix => prefix_level(first_leaf(kind, parts)),
         NodeKind::Cast => 3,
         NodeKind::InstanceOf => 4,
         NodeKind::Ternary => 18,
@@ -208,7 +215,7 @@ pub fn level(version: Version, node: &Node) -> u8
         NodeKind::AssignRef => 19,
         NodeKind::CompoundAssign => 19,
         NodeKind::Print => 20,
-        NodeKind::Yield => { if is_alone(node) { 25 } else { 20 } }
+        NodeKind::Yield => { if is_alone(kind, parts) { 25 } else { 20 } }
         NodeKind::Include => 24,
         NodeKind::Arrow => 24,
         NodeKind::Block => 0,

@@ -5,6 +5,7 @@
 mod asks;
 mod bases;
 mod edges;
+mod indents;
 mod levels;
 mod operands;
 mod tables;
@@ -12,7 +13,7 @@ mod tails;
 
 pub use asks::accepts;
 pub use edges::edge;
+pub use indents::is_misindented;
 pub use php_forms::item::{ANY, Form, Group, Item, Sort};
-pub use php_terminals::ahead::spanned;
 pub use php_terminals::terminal::Terminal;
 pub use tables::{form_of, parts_of, tail_of};

@@ -1,10 +1,9 @@
 // The tables of the grammar: which form, which parts of a group, and which form behind a node.
 ghost use Rattle.std.specs.Prelude.{◌≡◌};
-ghost use Rattle.php_tree.specs.Tree.{tree};
 ghost use Rattle.php_terminals.specs.Ahead.{first_of};
+ghost use Rattle.php_terminals.specs.Tokens.{tokens_in};
 ghost use Rattle.php_forms.specs.Forms.{form_view};
-ghost use Rattle.php_grammar.specs.Edges.{edge};
-ghost use Rattle.php_grammar.specs.Tables.{form, parts, plain_variable_form, tail};
+ghost use Rattle.php_grammar.specs.Tables.{form, parts, plain_variable_form, tail_by};
 
 use crate::operands::class_ref_form;
 use crate::operands::created;
@@ -129,12 +128,9 @@ use php_forms::statements::return_value;
 use php_forms::statements::statements;
 use php_forms::statements::switch_body;
 use php_forms::statements::while_body;
-use php_terminals::ahead::first;
-use php_terminals::ahead::second;
 use php_terminals::terminal::Terminal;
-use php_tree::Node;
+use php_terminals::tokens::Tokens;
 use php_tree::NodeKind;
-use php_tree::Token;
 use php_tree::Version;
 
 // A variable alone.
@@ -148,149 +144,156 @@ fn plain_variable_form(first: Terminal) -> Option<Form>
 }
 
 /// The form with which a node of the sort begins, or none where the tokens begin none.
-pub fn form_of(version: Version, sort: Sort, tokens: &[Token]) -> Option<Form>
-    ensures { form_view result ≡ form version sort tokens.now }
+pub fn form_of(version: Version, sort: Sort, tokens: Tokens<'_>) -> Option<Form>
+    ensures { form_view result ≡ form version sort (tokens_in tokens.entry) }
 {
     match sort {
         Sort::Statement => statement_form(tokens),
         Sort::Block => Some((NodeKind::Block, &BLOCK)),
-        Sort::Case => case_form(first(tokens)),
+        Sort::Case => case_form(tokens.first()),
         Sort::Member => member_form(tokens),
         Sort::Param => Some((NodeKind::Param, &PARAM)),
         Sort::TypeName => Some((NodeKind::TypeName, &TYPE_NAME)),
         Sort::Args => Some((NodeKind::Args, &ARGS)),
-        Sort::Item => Some(item_form(first(tokens))),
-        Sort::ListItem => Some(list_item_form(first(tokens))),
+        Sort::Item => Some(item_form(tokens.first())),
+        Sort::ListItem => Some(list_item_form(tokens.first())),
         Sort::Operand(_) => operand_form(version, tokens),
         Sort::Entry => entry_form(version, tokens),
         Sort::Target => target_form(version, tokens),
         Sort::Place => place_form(version, tokens),
         Sort::SimpleVariable => simple_variable_form(tokens),
-        Sort::PlainVariable => plain_variable_form(first(tokens)),
+        Sort::PlainVariable => plain_variable_form(tokens.first()),
         Sort::ClassRef => class_ref_form(tokens),
-        Sort::Interpolated => plain_variable_form(first(tokens)),
+        Sort::Interpolated => plain_variable_form(tokens.first()),
     }
 }
 
 /// The items of the group, or none where it isn't there.
-pub fn parts_of(version: Version, group: Group, tokens: &[Token]) -> &'static [Item]
-    ensures { result.now ≡ parts version group tokens.now }
+pub fn parts_of(version: Version, group: Group, tokens: Tokens<'_>) -> &'static [Item]
+    ensures { result.now ≡ parts version group (tokens_in tokens.entry) }
 {
     match group {
         Group::Name => name(version),
         Group::CalledName => called_name(version),
         Group::NamespaceName => namespace_name(version),
-        Group::NameLead => name_lead(first(tokens)),
-        Group::NameMore => name_more(first(tokens), second(tokens)),
-        Group::MoreNames => more_names(first(tokens)),
+        Group::NameLead => name_lead(tokens.first()),
+        Group::NameMore => name_more(tokens.first(), tokens.second()),
+        Group::MoreNames => more_names(tokens.first()),
         Group::ImportedName => imported_name(version),
         Group::ImportedClass => imported_class(version),
         Group::GroupedName => grouped_name(version),
         Group::GroupedClass => grouped_class(version),
-        Group::RootLead => root_lead(first(tokens)),
-        Group::Statements => statements(first(tokens)),
-        Group::ElseIfs => else_ifs(first(tokens)),
-        Group::ElsePart => else_part(first(tokens)),
-        Group::AltElseIfs => alt_else_ifs(first(tokens)),
-        Group::AltElse => alt_else(first(tokens)),
-        Group::WhileBody => while_body(first(tokens)),
-        Group::ForBody => for_body(first(tokens)),
-        Group::ForeachBody => foreach_body(first(tokens)),
-        Group::DeclareBody => declare_body(first(tokens)),
-        Group::SwitchBody => switch_body(first(tokens)),
-        Group::FirstSemi => first_semi(first(tokens)),
-        Group::Cases => cases(first(tokens)),
-        Group::CaseMark => case_mark(first(tokens)),
-        Group::MoreExprs => more_exprs(first(tokens)),
-        Group::ReturnValue => return_value(first(tokens)),
-        Group::Exprs => exprs(first(tokens)),
-        Group::ForeachTarget => foreach_target(first(tokens)),
-        Group::ForeachValue => foreach_value(first(tokens)),
-        Group::LoopCount => loop_count(first(tokens)),
-        Group::MoreGlobals => more_globals(first(tokens)),
-        Group::Handlers => handlers(first(tokens)),
-        Group::Catches => catches(first(tokens)),
-        Group::CaughtNames => caught_names(first(tokens)),
-        Group::FinallyPart => finally_part(first(tokens)),
-        Group::MoreDirectives => more_directives(first(tokens)),
-        Group::MoreUnset => more_unset(first(tokens), second(tokens)),
-        Group::ByRef => by_ref(first(tokens)),
-        Group::FirstValue => first_value(first(tokens)),
-        Group::MoreVariables => more_variables(first(tokens)),
-        Group::Params => params(first(tokens)),
-        Group::MoreParams => more_params(first(tokens)),
-        Group::ParamType => param_type(first(tokens)),
-        Group::Variadic => variadic(first(tokens)),
-        Group::ReturnType => return_type(first(tokens)),
-        Group::Nullable => nullable(first(tokens)),
-        Group::TypeWord => type_word(first(tokens)),
-        Group::ClassModifiers => class_modifiers(first(tokens)),
-        Group::Extends => extends(first(tokens)),
-        Group::Parents => parents(first(tokens)),
-        Group::Implements => implements(first(tokens)),
-        Group::Members => members(first(tokens)),
-        Group::Modifiers => modifiers(first(tokens)),
-        Group::PropertyType => property_type(first(tokens)),
-        Group::MethodBody => method_body(first(tokens)),
-        Group::MoreClassConsts => more_class_consts(first(tokens)),
-        Group::TraitRules => trait_rules(first(tokens)),
-        Group::MoreConsts => more_consts(first(tokens)),
-        Group::NamespaceBody => namespace_body(first(tokens)),
-        Group::NamespaceRest => namespace_rest(first(tokens)),
-        Group::UseBody => use_body(first(tokens)),
-        Group::UseRest => use_rest(first(tokens)),
-        Group::MoreUses => more_uses(first(tokens)),
-        Group::Alias => alias(first(tokens)),
-        Group::Grouped => grouped(first(tokens)),
-        Group::MoreGrouped => more_grouped(first(tokens), second(tokens)),
-        Group::ClassUseRest => class_use_rest(first(tokens)),
-        Group::MoreClassUses => more_class_uses(first(tokens)),
-        Group::ClassAlias => class_alias(first(tokens)),
-        Group::ClassGrouped => class_grouped(first(tokens)),
-        Group::MoreClassGrouped => more_class_grouped(first(tokens), second(tokens)),
-        Group::UsedClass => used_class(second(tokens)),
-        Group::UsedGrouped => used_grouped(second(tokens)),
-        Group::ArgList => arg_list(first(tokens)),
-        Group::MoreArgs => more_args(first(tokens), second(tokens)),
-        Group::ArrayItems => array_items(first(tokens)),
-        Group::MoreItems => more_items(first(tokens), second(tokens)),
-        Group::ItemValue => item_value(first(tokens)),
-        Group::ListHead => list_head(first(tokens)),
-        Group::ListMore => list_more(first(tokens)),
-        Group::EntryValue => entry_value(first(tokens)),
-        Group::QuotedParts => quoted_parts(first(tokens), second(tokens)),
-        Group::NamedKey => named_key(first(tokens)),
-        Group::SimpleKey => simple_key(first(tokens)),
-        Group::ExitValue => exit_value(first(tokens)),
-        Group::ExitCode => exit_code(first(tokens)),
-        Group::YieldTo => yield_to(first(tokens)),
-        Group::ClosureUse => closure_use(first(tokens)),
-        Group::MoreUsed => more_used(first(tokens)),
-        Group::CtorArgs => ctor_args(first(tokens)),
-        Group::OffsetKey => offset_key(first(tokens)),
-        Group::Member => member(first(tokens)),
-        Group::StaticMember => static_member(first(tokens)),
+        Group::RootLead => root_lead(tokens.first()),
+        Group::Statements => statements(tokens.first()),
+        Group::ElseIfs => else_ifs(tokens.first()),
+        Group::ElsePart => else_part(tokens.first()),
+        Group::AltElseIfs => alt_else_ifs(tokens.first()),
+        Group::AltElse => alt_else(tokens.first()),
+        Group::WhileBody => while_body(tokens.first()),
+        Group::ForBody => for_body(tokens.first()),
+        Group::ForeachBody => foreach_body(tokens.first()),
+        Group::DeclareBody => declare_body(tokens.first()),
+        Group::SwitchBody => switch_body(tokens.first()),
+        Group::FirstSemi => first_semi(tokens.first()),
+        Group::Cases => cases(tokens.first()),
+        Group::CaseMark => case_mark(tokens.first()),
+        Group::MoreExprs => more_exprs(tokens.first()),
+        Group::ReturnValue => return_value(tokens.first()),
+        Group::Exprs => exprs(tokens.first()),
+        Group::ForeachTarget => foreach_target(tokens.first()),
+        Group::ForeachValue => foreach_value(tokens.first()),
+        Group::LoopCount => loop_count(tokens.first()),
+        Group::MoreGlobals => more_globals(tokens.first()),
+        Group::Handlers => handlers(tokens.first()),
+        Group::Catches => catches(tokens.first()),
+        Group::CaughtNames => caught_names(tokens.first()),
+        Group::FinallyPart => finally_part(tokens.first()),
+        Group::MoreDirectives => more_directives(tokens.first()),
+        Group::MoreUnset => more_unset(tokens.first(), tokens.second()),
+        Group::ByRef => by_ref(tokens.first()),
+        Group::FirstValue => first_value(tokens.first()),
+        Group::MoreVariables => more_variables(tokens.first()),
+        Group::Params => params(tokens.first()),
+        Group::MoreParams => more_params(tokens.first()),
+        Group::ParamType => param_type(tokens.first()),
+        Group::Variadic => variadic(tokens.first()),
+        Group::ReturnType => return_type(tokens.first()),
+        Group::Nullable => nullable(tokens.first()),
+        Group::TypeWord => type_word(tokens.first()),
+        Group::ClassModifiers => class_modifiers(tokens.first()),
+        Group::Extends => extends(tokens.first()),
+        Group::Parents => parents(tokens.first()),
+        Group::Implements => implements(tokens.first()),
+        Group::Members => members(tokens.first()),
+        Group::Modifiers => modifiers(tokens.first()),
+        Group::PropertyType => property_type(tokens.first()),
+        Group::MethodBody => method_body(tokens.first()),
+        Group::MoreClassConsts => more_class_consts(tokens.first()),
+        Group::TraitRules => trait_rules(tokens.first()),
+        Group::MoreConsts => more_consts(tokens.first()),
+        Group::NamespaceBody => namespace_body(tokens.first()),
+        Group::NamespaceRest => namespace_rest(tokens.first()),
+        Group::UseBody => use_body(tokens.first()),
+        Group::UseRest => use_rest(tokens.first()),
+        Group::MoreUses => more_uses(tokens.first()),
+        Group::Alias => alias(tokens.first()),
+        Group::Grouped => grouped(tokens.first()),
+        Group::MoreGrouped => more_grouped(tokens.first(), tokens.second()),
+        Group::ClassUseRest => class_use_rest(tokens.first()),
+        Group::MoreClassUses => more_class_uses(tokens.first()),
+        Group::ClassAlias => class_alias(tokens.first()),
+        Group::ClassGrouped => class_grouped(tokens.first()),
+        Group::MoreClassGrouped => more_class_grouped(tokens.first(), tokens.second()),
+        Group::UsedClass => used_class(tokens.second()),
+        Group::UsedGrouped => used_grouped(tokens.second()),
+        Group::ArgList => arg_list(tokens.first()),
+        Group::MoreArgs => more_args(tokens.first(), tokens.second()),
+        Group::ArrayItems => array_items(tokens.first()),
+        Group::MoreItems => more_items(tokens.first(), tokens.second()),
+        Group::ItemValue => item_value(tokens.first()),
+        Group::ListHead => list_head(tokens.first()),
+        Group::ListMore => list_more(tokens.first()),
+        Group::EntryValue => entry_value(tokens.first()),
+        Group::QuotedParts => quoted_parts(tokens.first(), tokens.second()),
+        Group::NamedKey => named_key(tokens.first()),
+        Group::SimpleKey => simple_key(tokens.first()),
+        Group::ExitValue => exit_value(tokens.first()),
+        Group::ExitCode => exit_code(tokens.first()),
+        Group::YieldTo => yield_to(tokens.first()),
+        Group::ClosureUse => closure_use(tokens.first()),
+        Group::MoreUsed => more_used(tokens.first()),
+        Group::CtorArgs => ctor_args(tokens.first()),
+        Group::OffsetKey => offset_key(tokens.first()),
+        Group::Member => member(tokens.first()),
+        Group::StaticMember => static_member(tokens.first()),
         Group::YieldValue => yield_value(version, tokens),
         Group::Created => created(tokens),
         Group::InstanceRef => instance_ref(tokens),
-        Group::Attribute => attribute(version, first(tokens)),
+        Group::Attribute => attribute(version, tokens.first()),
     }
 }
 
-/// The form that goes on behind the node, which is of this edge, or none where the node ends.
-pub fn tail_of(version: Version, sort: Sort, node: &Node, own: u8, tokens: &[Token]) -> Option<Form>
-    requires { own ≡ edge version (tree node.now) }
-    ensures { form_view result ≡ tail version sort (tree node.now) tokens.now }
+/// The form that goes on behind a node of the kind, which has this edge and may be misindented, or none where the node
+/// ends.
+pub fn tail_of(
+    version: Version,
+    sort: Sort,
+    kind: NodeKind,
+    own: u8,
+    misindented: bool,
+    tokens: Tokens<'_>,
+) -> Option<Form>
+    ensures { form_view result ≡ tail_by version sort kind own misindented (tokens_in tokens.entry) }
 {
     match sort {
         Sort::Statement | Sort::Block | Sort::Case | Sort::Member | Sort::Param => None,
         Sort::TypeName | Sort::Args | Sort::Item | Sort::ListItem => None,
-        Sort::Operand(limit) => read_tail(version, limit, node, own, tokens),
-        Sort::Entry => entry_tail(version, node, own, tokens),
-        Sort::Target => target_tail(version, node, tokens),
-        Sort::Place => place_tail(version, node, tokens),
+        Sort::Operand(limit) => read_tail(version, limit, kind, own, misindented, tokens),
+        Sort::Entry => entry_tail(version, kind, own, misindented, tokens),
+        Sort::Target => target_tail(version, kind, misindented, tokens),
+        Sort::Place => place_tail(version, kind, misindented, tokens),
         Sort::SimpleVariable | Sort::PlainVariable => None,
-        Sort::ClassRef => class_ref_tail(version, node.kind, tokens),
-        Sort::Interpolated => interpolated_tail(node.kind, tokens),
+        Sort::ClassRef => class_ref_tail(version, kind, tokens),
+        Sort::Interpolated => interpolated_tail(kind, tokens),
     }
 }

@@ -1,9 +1,8 @@
 // How expressions go on.
 ghost use Rattle.std.specs.Prelude.{◌≡◌};
-ghost use Rattle.php_tree.specs.Tree.{tree};
+ghost use Rattle.php_terminals.specs.Tokens.{tokens_in};
 ghost use Rattle.php_forms.specs.Forms.{form_view, when};
-ghost use Rattle.php_grammar.specs.Edges.{edge};
-ghost use Rattle.php_grammar.specs.Tails.{assign_tail, binary_tail, brace_tail, chosen_tail, class_ref_tail, entry_end, entry_tail, interpolated_tail, left_edge, left_fits, member_tail, operand_tail, operator_tail, place_tail, postfix_tail, read_tail, refused_unless, short_left_fits, static_tail, target_tail, ternary_tail};
+ghost use Rattle.php_grammar.specs.Tails.{assign_tail, binary_tail, brace_tail, chosen_tail, class_ref_tail, entry_by, entry_end, interpolated_tail, left_by, left_fits, member_tail, operand_by, operator_tail, place_by, postfix_tail, read_by, refused_unless, short_left_fits, static_tail, target_by, ternary_tail};
 
 use crate::bases::{
     is_callee, is_class_base, is_list, is_member_base, is_offset_base, is_short_ternary, is_target,
@@ -13,11 +12,10 @@ use crate::levels::{binary_items, binary_level, left_limit};
 use php_forms::forms::or_else;
 use php_forms::item::Item::{self, Node as Operand, Part, Word};
 use php_forms::item::{ANY, Form, Group, Sort};
-use php_terminals::ahead::{behind, first, is_called, second};
-use php_terminals::indents::is_misindented;
 use php_terminals::marks::{is_double_arrow, is_variable_start};
 use php_terminals::terminal::Terminal;
-use php_tree::{Node, NodeKind, Token, Version};
+use php_terminals::tokens::Tokens;
+use php_tree::{NodeKind, Version};
 
 static OFFSET: [Item; 3] = [
     Word(Terminal::OpenBracket),
@@ -114,10 +112,10 @@ fn brace_tail(version: Version, kind: NodeKind) -> Option<Form>
 }
 
 // `->` and the member that begins here.
-fn member_tail(member: &[Token]) -> Form
-    ensures { (result.0, result.1.now) ≡ member_tail member.now }
+fn member_tail(member: Tokens<'_>) -> Form
+    ensures { (result.0, result.1.now) ≡ member_tail (tokens_in member.entry) }
 {
-    if is_called(member) {
+    if member.is_called() {
         (NodeKind::MethodCall, &METHOD_CALL)
     } else {
         (NodeKind::Prop, &PROP)
@@ -125,12 +123,12 @@ fn member_tail(member: &[Token]) -> Form
 }
 
 // `::` and the member that begins here.
-fn static_tail(member: &[Token]) -> Form
-    ensures { (result.0, result.1.now) ≡ static_tail member.now }
+fn static_tail(member: Tokens<'_>) -> Form
+    ensures { (result.0, result.1.now) ≡ static_tail (tokens_in member.entry) }
 {
-    if is_called(member) {
+    if member.is_called() {
         (NodeKind::StaticCall, &STATIC_CALL)
-    } else if is_variable_start(first(member)) {
+    } else if is_variable_start(member.first()) {
         (NodeKind::StaticProp, &STATIC_PROP)
     } else {
         (NodeKind::ClassConstant, &CLASS_CONSTANT)
@@ -138,18 +136,18 @@ fn static_tail(member: &[Token]) -> Form
 }
 
 // An offset, a member or arguments behind a node.
-fn postfix_tail(version: Version, kind: NodeKind, tokens: &[Token]) -> Option<Form>
-    ensures { form_view result ≡ postfix_tail version kind tokens.now }
+fn postfix_tail(version: Version, kind: NodeKind, tokens: Tokens<'_>) -> Option<Form>
+    ensures { form_view result ≡ postfix_tail version kind (tokens_in tokens.entry) }
 {
-    match first(tokens) {
+    match tokens.first() {
         Terminal::OpenBracket => when(is_offset_base(kind), NodeKind::Offset, &OFFSET),
         Terminal::OpenBrace => brace_tail(version, kind),
         Terminal::Arrow => {
-            let (member, items) = member_tail(behind(tokens, 1));
+            let (member, items) = member_tail(tokens.behind(1));
             when(is_member_base(kind), member, items)
         }
         Terminal::DoubleColon => {
-            let (member, items) = static_tail(behind(tokens, 1));
+            let (member, items) = static_tail(tokens.behind(1));
             when(is_class_base(kind), member, items)
         }
         Terminal::OpenParen => when(is_callee(kind), NodeKind::Call, &CALL),
@@ -224,12 +222,12 @@ fn chosen_tail(
     limit: u8,
     left: u8,
     kind: NodeKind,
-    tokens: &[Token],
+    tokens: Tokens<'_>,
 ) -> Option<Form>
-    ensures { form_view result ≡ chosen_tail version limit left kind tokens.now }
+    ensures { form_view result ≡ chosen_tail version limit left kind (tokens_in tokens.entry) }
 {
-    match first(tokens) {
-        Terminal::Assign => assign_tail(kind, second(tokens)),
+    match tokens.first() {
+        Terminal::Assign => assign_tail(kind, tokens.second()),
         Terminal::CompoundAssign => when(
             is_target(kind),
             NodeKind::CompoundAssign,
@@ -237,7 +235,7 @@ fn chosen_tail(
         ),
         Terminal::Step => when(is_target(kind), NodeKind::Postfix, &POSTFIX),
         Terminal::InstanceOf => when(4 <= limit && left <= 4, NodeKind::InstanceOf, &INSTANCE_OF),
-        Terminal::Question => ternary_tail(version, limit, left, kind, second(tokens)),
+        Terminal::Question => ternary_tail(version, limit, left, kind, tokens.second()),
         _ => None,
     }
 }
@@ -248,37 +246,35 @@ fn operator_tail(
     limit: u8,
     left: u8,
     kind: NodeKind,
-    tokens: &[Token],
+    tokens: Tokens<'_>,
 ) -> Option<Form>
-    ensures { form_view result ≡ operator_tail version limit left kind tokens.now }
+    ensures { form_view result ≡ operator_tail version limit left kind (tokens_in tokens.entry) }
 {
     or_else(
         chosen_tail(version, limit, left, kind, tokens),
-        binary_tail(version, limit, left, first(tokens)),
+        binary_tail(version, limit, left, tokens.first()),
     )
 }
 
-// The edge of a left operand; a list form is none.
-fn left_edge(version: Version, node: &Node, own: u8) -> u8
-    requires { own ≡ edge version (tree node.now) }
-    ensures { result ≡ left_edge version (tree node.now) }
+// The edge of a left operand, which is of this edge; a list form is none.
+fn left_edge(kind: NodeKind, own: u8) -> u8
+    ensures { result ≡ left_by kind own }
 {
-    if is_list(node.kind) { 25 } else { own }
+    if is_list(kind) { 25 } else { own }
 }
 
 // What goes on behind an operand, where operators of the level `limit` and tighter ones may stand.
-fn operand_tail(version: Version, limit: u8, node: &Node, own: u8, tokens: &[Token]) -> Option<Form>
-    requires { own ≡ edge version (tree node.now) }
-    ensures { form_view result ≡ operand_tail version limit (tree node.now) tokens.now }
+fn operand_tail(
+    version: Version,
+    limit: u8,
+    kind: NodeKind,
+    own: u8,
+    tokens: Tokens<'_>,
+) -> Option<Form>
+    ensures { form_view result ≡ operand_by version limit kind own (tokens_in tokens.entry) }
 {
-    let operator = operator_tail(
-        version,
-        limit,
-        left_edge(version, node, own),
-        node.kind,
-        tokens,
-    );
-    or_else(postfix_tail(version, node.kind, tokens), operator)
+    let operator = operator_tail(version, limit, left_edge(kind, own), kind, tokens);
+    or_else(postfix_tail(version, kind, tokens), operator)
 }
 
 // The node ends here where the test holds, and else is none.
@@ -296,19 +292,19 @@ fn refused_unless(test: bool) -> Option<Form>
 pub fn read_tail(
     version: Version,
     limit: u8,
-    node: &Node,
+    kind: NodeKind,
     own: u8,
-    tokens: &[Token],
+    misindented: bool,
+    tokens: Tokens<'_>,
 ) -> Option<Form>
-    requires { own ≡ edge version (tree node.now) }
-    ensures { form_view result ≡ read_tail version limit (tree node.now) tokens.now }
+    ensures { form_view result ≡ read_by version limit kind own misindented (tokens_in tokens.entry) }
 {
-    if is_misindented(node) {
+    if misindented {
         return Some((NodeKind::Empty, &REFUSED));
     }
     or_else(
-        operand_tail(version, limit, node, own, tokens),
-        refused_unless(!is_list(node.kind)),
+        operand_tail(version, limit, kind, own, tokens),
+        refused_unless(!is_list(kind)),
     )
 }
 
@@ -324,53 +320,68 @@ fn entry_end(kind: NodeKind, next: Terminal) -> Option<Form>
 }
 
 /// How the first expression of an item of a list form goes on: it ends as a key before `=>`, or as a target.
-pub fn entry_tail(version: Version, node: &Node, own: u8, tokens: &[Token]) -> Option<Form>
-    requires { own ≡ edge version (tree node.now) }
-    ensures { form_view result ≡ entry_tail version (tree node.now) tokens.now }
+pub fn entry_tail(
+    version: Version,
+    kind: NodeKind,
+    own: u8,
+    misindented: bool,
+    tokens: Tokens<'_>,
+) -> Option<Form>
+    ensures { form_view result ≡ entry_by version kind own misindented (tokens_in tokens.entry) }
 {
-    if is_misindented(node) {
+    if misindented {
         return Some((NodeKind::Empty, &REFUSED));
     }
     or_else(
-        operand_tail(version, ANY, node, own, tokens),
-        entry_end(node.kind, first(tokens)),
+        operand_tail(version, ANY, kind, own, tokens),
+        entry_end(kind, tokens.first()),
     )
 }
 
 /// How a variable expression goes on.
-pub fn place_tail(version: Version, node: &Node, tokens: &[Token]) -> Option<Form>
-    ensures { form_view result ≡ place_tail version (tree node.now) tokens.now }
+pub fn place_tail(
+    version: Version,
+    kind: NodeKind,
+    misindented: bool,
+    tokens: Tokens<'_>,
+) -> Option<Form>
+    ensures { form_view result ≡ place_by version kind misindented (tokens_in tokens.entry) }
 {
-    if is_misindented(node) {
+    if misindented {
         return Some((NodeKind::Empty, &REFUSED));
     }
     or_else(
-        postfix_tail(version, node.kind, tokens),
-        refused_unless(is_target(node.kind)),
+        postfix_tail(version, kind, tokens),
+        refused_unless(is_target(kind)),
     )
 }
 
 /// How a target goes on.
-pub fn target_tail(version: Version, node: &Node, tokens: &[Token]) -> Option<Form>
-    ensures { form_view result ≡ target_tail version (tree node.now) tokens.now }
+pub fn target_tail(
+    version: Version,
+    kind: NodeKind,
+    misindented: bool,
+    tokens: Tokens<'_>,
+) -> Option<Form>
+    ensures { form_view result ≡ target_by version kind misindented (tokens_in tokens.entry) }
 {
-    if is_list(node.kind) {
+    if is_list(kind) {
         None
     } else {
-        place_tail(version, node, tokens)
+        place_tail(version, kind, misindented, tokens)
     }
 }
 
 /// How an expression that names a class goes on.
-pub fn class_ref_tail(version: Version, kind: NodeKind, tokens: &[Token]) -> Option<Form>
-    ensures { form_view result ≡ class_ref_tail version kind tokens.now }
+pub fn class_ref_tail(version: Version, kind: NodeKind, tokens: Tokens<'_>) -> Option<Form>
+    ensures { form_view result ≡ class_ref_tail version kind (tokens_in tokens.entry) }
 {
-    match first(tokens) {
+    match tokens.first() {
         Terminal::OpenBracket => Some((NodeKind::Offset, &OFFSET)),
         Terminal::OpenBrace => brace_tail(version, kind),
         Terminal::Arrow => Some((NodeKind::Prop, &PROP)),
         Terminal::DoubleColon => when(
-            is_variable_start(second(tokens)),
+            is_variable_start(tokens.second()),
             NodeKind::StaticProp,
             &STATIC_PROP,
         ),
@@ -379,10 +390,10 @@ pub fn class_ref_tail(version: Version, kind: NodeKind, tokens: &[Token]) -> Opt
 }
 
 /// How a variable in a quoted text goes on.
-pub fn interpolated_tail(kind: NodeKind, tokens: &[Token]) -> Option<Form>
-    ensures { form_view result ≡ interpolated_tail kind tokens.now }
+pub fn interpolated_tail(kind: NodeKind, tokens: Tokens<'_>) -> Option<Form>
+    ensures { form_view result ≡ interpolated_tail kind (tokens_in tokens.entry) }
 {
-    match first(tokens) {
+    match tokens.first() {
         Terminal::OpenBracket => when(is_variable(kind), NodeKind::Offset, &SIMPLE_OFFSET),
         Terminal::Arrow => when(is_variable(kind), NodeKind::Prop, &SIMPLE_PROP),
         _ => None,

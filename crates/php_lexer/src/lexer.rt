@@ -11,9 +11,8 @@ use php_spellings::classes::starts_word;
 use php_spellings::numbers::token_kind;
 use php_spellings::table::{Kind, Mark as Quote};
 use php_terminals::mark::Mark;
-use php_terminals::marked::{lead_of, mark_at, text_of};
+use php_terminals::marked::{mark_at, token_of};
 use php_tree::{Token, TokenKind, Version};
-use span_edits::Bytes;
 use std::alloc::{AllocError, Global};
 
 const BYTE_LIMIT: usize = 1_048_576;
@@ -179,19 +178,6 @@ fn read(alloc: Global, version: Version, bytes: &[u8]) -> Result<Vec<Mark>, LexF
     Ok(marks)
 }
 
-// The token at some places.
-fn token_of_mark(alloc: Global, bytes: &[u8], mark: Mark) -> Result<Token, AllocError>
-    requires { IsMark bytes.now mark }
-    ensures { IfOk result (λ t. t ≡ token_at bytes.now mark) }
-{
-    Ok(Token {
-        kind: mark.kind,
-        lead: Bytes::new(Vec::from_slice(alloc, lead_of(bytes, mark))?),
-        text: Bytes::new(Vec::from_slice(alloc, text_of(bytes, mark))?),
-        start: mark.start,
-    })
-}
-
 fn push_token(tokens: &mut Vec<Token>, token: Token) -> Result<(), AllocError>
     ensures { OnOk result (tokens.new.items ≡ tokens.old.items ++ token ∷ []) }
 {
@@ -199,8 +185,8 @@ fn push_token(tokens: &mut Vec<Token>, token: Token) -> Result<(), AllocError>
     Ok(())
 }
 
-/// The tokens at some places. The only error is want of memory.
-pub fn tokens_of_marks(
+// The tokens at some places.
+fn tokens_of_marks(
     alloc: Global,
     bytes: &[u8],
     marks: &[Mark],
@@ -210,7 +196,7 @@ pub fn tokens_of_marks(
 {
     let mut tokens = Vec::new(alloc);
     for mark in marks {
-        let token = token_of_mark(alloc, bytes, *mark)?;
+        let token = token_of(alloc, bytes, *mark)?;
         push_token(&mut tokens, token)?;
     }
     Ok(tokens)

@@ -15,4 +15,4 @@ mod walks;
 
 pub use fault::LexFault;
 pub use laws::{no_byte_is_lost, one_fault, one_token_list, tokens_or_fault, utf8_is_kept};
-pub use lexer::{lex, lex_marks, tokens_of_marks};
+pub use lexer::{lex, lex_marks};

@@ -1,7 +1,11 @@
 -- What it is to be the tree of a file.
-use Rattle.std.specs.Prelude.{◌≡◌, ℕ, ◌≤◌, true, List, [], ◌∷◌, Result, Ok, Err}
+use Rattle.std.specs.Prelude.{◌≡◌, ℕ, ◌≤◌, Bool, true, false, List, [], ◌∷◌, Result, Ok, Err}
 use Rattle.php_tree.specs.declared.file.FileTree.{FileTree}
 use Rattle.php_tree.specs.declared.token.Token.{Token}
+use Rattle.php_rows.specs.declared.file.RowTree.{RowTree}
+use Rattle.php_rows.specs.declared.row.Row.{Row}
+use Rattle.php_rows.specs.File.{file_in}
+use Rattle.php_rows.specs.Rows.{IsWhole}
 use Rattle.php_tree.specs.declared.version.Version.{Version}
 use Rattle.php_tree.specs.declared.version.Version.TheVariants.{V74, V83}
 use Rattle.php_tree.specs.Tree.{File, depth, file_leaves}
@@ -19,10 +23,11 @@ abbrev pub bound : Version → ℕ
 bound V74 = 500
 bound V83 = 1500
 
--- The token is the only one, and the end.
-pub record IsLast (rest : List Token) (t : Token) : Type 0 where
-  pub alone : rest ≡ t ∷ []
-  pub ends : is_end t.kind ≡ true
+-- whether there is one token, the end of a file
+abbrev pub ends_file : List Token → Bool
+ends_file [] = false
+ends_file (t ∷ []) = is_end t.kind
+ends_file (t ∷ u ∷ ts) = false
 
 -- The tree is one of the grammar, its tokens are these, and it is within the bound.
 pub record ReadsFile (v : Version) (tokens : List Token) (f : File) : Type 0 where
@@ -36,3 +41,15 @@ abbrev pub Answers : Result FileTree ParseFault → File → Type 0
 Answers (Ok tree) f = file tree ≡ f
 Answers (Err NotInGrammar) f = ⊥
 Answers (Err Memory) f = Unit {0}
+
+-- the same of a row
+abbrev pub AnswersRow : Result RowTree ParseFault → File → Type 0
+AnswersRow (Ok tree) f = file_in tree ≡ f
+AnswersRow (Err NotInGrammar) f = ⊥
+AnswersRow (Err Memory) f = Unit {0}
+
+-- the same of a row of statements, which are so deep
+abbrev pub AnswersWhole : Result (Row × ℕ) ParseFault → List Token → File → Type 0
+AnswersWhole (Ok x) tokens f = IsWhole tokens x.0 x.1 f.statements f.end
+AnswersWhole (Err NotInGrammar) tokens f = ⊥
+AnswersWhole (Err Memory) tokens f = Unit {0}

@@ -7,4 +7,4 @@ mod whole;
 
 pub use laws::files_have_one_tree;
 pub use php_exprs::ParseFault;
-pub use whole::{bound, parse};
+pub use whole::{bound, parse, parse_marks};

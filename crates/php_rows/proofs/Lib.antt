@@ -9,4 +9,4 @@ pub mod Leaves
 pub mod Found
 pub mod LastNode
 pub mod Whole
-pub mod Adding
+pub mod Pushed

@@ -2,3 +2,4 @@ pub mod Flatten
 pub mod Rows
 pub mod Reading
 pub mod File
+pub mod Nodes

@@ -42,15 +42,3 @@ pub record IsInner (before : Row) (from : ℕ) (row : Row) (all : Tokens) (k : N
 -- the row is that of a forest, whose first token is the first one
 abbrev pub IsRowOf : Row → Forest → Type 0
 IsRowOf row f = row.nodes.items ≡ flatten 0 f
-
--- some parts of a node were read, and the others are still to come
-pub record Adding (before now : Row) (from : ℕ) (all rest : Forest) : Type 0 where
-  pub parts : Forest
-  pub opened : IsOpen before now from parts
-  pub whole : parts +++ rest ≡ all
-
--- some statements were read, and the others are still to come
-pub record Listing (before now : Row) (all rest : Forest) : Type 0 where
-  pub parts : Forest
-  pub grew : Grew before now parts
-  pub whole : parts +++ rest ≡ all

@@ -3,15 +3,15 @@
 
 mod file;
 mod flat;
-mod flattening;
 mod inner;
 mod next;
+mod nodes;
 mod parts;
 mod row;
 mod views;
 
 pub use file::RowTree;
 pub use flat::Flat;
-pub use flattening::row_of;
+pub use nodes::{node_with, nodes_of};
 pub use parts::{Parts, Step};
 pub use row::Row;

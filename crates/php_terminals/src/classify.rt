@@ -1,10 +1,10 @@
 // The class of a token.
 ghost use Rattle.std.specs.Prelude.{◌≡◌, ◌↔◌, IsTrue, true};
-ghost use Rattle.php_terminals.specs.Classify.{cast, cast_at, cast_letter, ends_in, is_any_label, is_attribute, is_attribute_by, is_called_label, is_class, is_constant_label, is_full, is_modifier, is_opening, is_plain_label, is_qualified, is_relative, is_sign_or_tight, is_word_kind, is_word_token, last, name, names_refused, opening, terminal, terminal_by};
+ghost use Rattle.php_terminals.specs.Classify.{cast, cast_at, cast_letter, ends_in, is_any_label, is_attribute_by, is_called_label, is_class, is_constant_label, is_full, is_modifier, is_opening, is_plain_label, is_qualified, is_relative, is_sign_or_tight, is_word_kind, last, name, names_refused, opening, terminal_by};
 
 use crate::terminal::Terminal;
 use crate::words::{front, is_word, keyword, label, operator};
-use php_tree::{Token, TokenKind};
+use php_tree::TokenKind;
 
 /// The class of a token of a kind with a text. A `?>` is a `;`, and a `<?=` an `echo`.
 pub fn class_of(kind: TokenKind, text: &[u8]) -> Terminal
@@ -35,13 +35,6 @@ pub fn class_of(kind: TokenKind, text: &[u8]) -> Terminal
         TokenKind::VarName => Terminal::VarName,
         TokenKind::QuotedEnd => Terminal::QuotedEnd,
     }
-}
-
-/// The class of a token.
-pub fn terminal(token: &Token) -> Terminal
-    ensures { result ≡ terminal token.now }
-{
-    class_of(token.kind, token.text.as_slice())
 }
 
 // A byte before the type word of a cast.
@@ -131,13 +124,6 @@ pub fn is_attribute_by(kind: TokenKind, text: &[u8]) -> bool
     }
 }
 
-/// Whether the token is the name of the attribute that a class may have.
-pub fn is_attribute(token: &Token) -> bool
-    ensures { result ≡ is_attribute token.now }
-{
-    is_attribute_by(token.kind, token.text.as_slice())
-}
-
 /// Whether a kind is that of labels or of keywords.
 pub fn is_word_kind(kind: TokenKind) -> bool
     ensures { result ≡ is_word_kind kind }
@@ -146,13 +132,6 @@ pub fn is_word_kind(kind: TokenKind) -> bool
         TokenKind::Label | TokenKind::Keyword => true,
         _ => false,
     }
-}
-
-/// Whether the token is a label or a keyword.
-pub fn is_word_token(token: &Token) -> bool
-    ensures { result ≡ is_word_token token.now }
-{
-    is_word_kind(token.kind)
 }
 
 // Any label.

@@ -1,12 +1,9 @@
 // The indentation of heredocs and nowdocs.
 ghost use Rattle.std.specs.Prelude.{◌≡◌, [], drop, true};
-ghost use Rattle.php_tree.specs.Tree.{forest_of, tree};
-ghost use Rattle.php_terminals.specs.Indents.{blank_len, ends_line, fresh_behind, fresh_by, heredoc_fits, is_blank_byte, is_blank_line, is_heredoc, is_indented, is_line_end, is_misindented, is_nowdoc, is_uniform, last_line, last_text, leaf_fits, leaf_fits_by, line_ends_at, line_fits, literal_fits, margin, node_fits, parts_fit, quoted_fits, run_len, starts, text_fits};
+ghost use Rattle.php_terminals.specs.Indents.{blank_len, ends_line, fresh_by, is_blank_byte, is_blank_line, is_indented, is_line_end, is_nowdoc, is_uniform, last_line, leaf_fits_by, line_ends_at, line_fits, margin, node_fits, run_len, starts, text_fits};
 
-use crate::classify::terminal;
 use crate::terminal::Terminal;
 use crate::words::{front, is_word};
-use php_tree::{Node, NodeKind, Part, Token, TokenKind};
 
 // A space or a tab.
 fn is_blank_byte(byte: u8) -> bool
@@ -161,14 +158,6 @@ pub fn leaf_fits_by(class: Terminal, indent: &[u8], fresh: bool, text: &[u8]) ->
     }
 }
 
-// Whether a token between the opening and the closing of a heredoc fits.
-#[tactic(auto, unfolding(crate::specs::Indents::leaf_fits))]
-fn leaf_fits(indent: &[u8], fresh: bool, token: &Token) -> bool
-    ensures { result ≡ leaf_fits indent.now fresh token.now }
-{
-    leaf_fits_by(terminal(token), indent, fresh, token.text.as_slice())
-}
-
 /// Whether a part that is no text may stand here: where no line begins, or none is indented.
 pub fn node_fits(indent: &[u8], fresh: bool) -> bool
     ensures { result ≡ node_fits indent.now fresh }
@@ -183,197 +172,5 @@ pub fn fresh_by(class: Terminal, fresh: bool, text: &[u8]) -> bool
     match class {
         Terminal::Piece => ends_line(fresh, text),
         _ => false,
-    }
-}
-
-// Whether a line begins behind a token.
-#[tactic(auto, unfolding(crate::specs::Indents::fresh_behind))]
-fn fresh_behind(fresh: bool, token: &Token) -> bool
-    ensures { result ≡ fresh_behind fresh token.now }
-{
-    fresh_by(terminal(token), fresh, token.text.as_slice())
-}
-
-// The text of the last token among the parts.
-fn last_text(parts: &[Part]) -> &[u8]
-    ensures { result.now ≡ last_text [] (forest_of parts.now) }
-{
-    let mut text: &[u8] = &[];
-    for part in parts {
-        match part {
-            Part::Leaf(token) => text = token.text.as_slice(),
-            Part::Child(_) => continue,
-        }
-    }
-    text
-}
-
-// Whether the lines of a heredoc fit, behind its opening.
-fn parts_fit(indent: &[u8], parts: &[Part]) -> bool
-    ensures { result ≡ parts_fit indent.now true (forest_of parts.now) }
-{
-    let mut fresh = true;
-    for part in parts {
-        match part {
-            Part::Leaf(token) => {
-                if !leaf_fits(indent, fresh, token) {
-                    return false;
-                }
-                fresh = fresh_behind(fresh, token);
-            }
-            Part::Child(_) => {
-                if !node_fits(indent, fresh) {
-                    return false;
-                }
-                fresh = false;
-            }
-        }
-    }
-    true
-}
-
-// Whether a token opens a heredoc.
-fn is_heredoc(token: &Token) -> bool
-    ensures { result ≡ is_heredoc token.now }
-{
-    match token.kind {
-        TokenKind::HeredocStart => true,
-        TokenKind::InlineHtml => false,
-        TokenKind::OpenEcho => false,
-        TokenKind::Variable => false,
-        TokenKind::Label => false,
-        TokenKind::Keyword => false,
-        TokenKind::Int => false,
-        TokenKind::Float => false,
-        TokenKind::Text => false,
-        TokenKind::Quote => false,
-        TokenKind::Backtick => false,
-        TokenKind::Cast => false,
-        TokenKind::Op => false,
-        TokenKind::AttributeOpen => false,
-        TokenKind::Name => false,
-        TokenKind::Semi => false,
-        TokenKind::Close => false,
-        TokenKind::End => false,
-        TokenKind::Piece => false,
-        TokenKind::CurlyOpen => false,
-        TokenKind::DollarBrace => false,
-        TokenKind::VarName => false,
-        TokenKind::QuotedEnd => false,
-    }
-}
-
-// Whether the parts of a heredoc fit.
-fn heredoc_fits(parts: &[Part]) -> bool
-    ensures { result ≡ heredoc_fits (forest_of parts.now) }
-{
-    let indent = margin(last_text(parts));
-    is_uniform(indent) && parts_fit(indent, parts)
-}
-
-// Whether the parts of a quoted text fit.
-fn quoted_fits(parts: &[Part]) -> bool
-    ensures { result ≡ quoted_fits (forest_of parts.now) }
-{
-    match parts {
-        [] => true,
-        [Part::Child(_), ..] => true,
-        [Part::Leaf(token), rest @ ..] => !is_heredoc(token) || heredoc_fits(rest),
-    }
-}
-
-// Whether the parts of a text fit.
-fn literal_fits(parts: &[Part]) -> bool
-    ensures { result ≡ literal_fits (forest_of parts.now) }
-{
-    match parts {
-        [] => true,
-        [Part::Child(_), ..] => true,
-        [Part::Leaf(token), ..] => text_fits(token.text.as_slice()),
-    }
-}
-
-/// Whether the node is a heredoc or a nowdoc with a line that lacks the indentation of its closing line.
-#[tactic(auto, unfolding(crate::specs::Indents::is_misindented))]
-pub fn is_misindented(node: &Node) -> bool
-    ensures { result ≡ is_misindented (tree node.now) }
-{
-    match node.kind {
-        NodeKind::Quoted => !quoted_fits(node.parts.as_slice()),
-        NodeKind::Text => !literal_fits(node.parts.as_slice()),
-        NodeKind::Block => false,
-        NodeKind::Empty => false,
-        NodeKind::ExprStmt => false,
-        NodeKind::Echo => false,
-        NodeKind::Html => false,
-        NodeKind::Return => false,
-        NodeKind::If => false,
-        NodeKind::IfAlt => false,
-        NodeKind::While => false,
-        NodeKind::DoWhile => false,
-        NodeKind::For => false,
-        NodeKind::Foreach => false,
-        NodeKind::Switch => false,
-        NodeKind::Case => false,
-        NodeKind::Break => false,
-        NodeKind::Continue => false,
-        NodeKind::Global => false,
-        NodeKind::Statics => false,
-        NodeKind::Unset => false,
-        NodeKind::Throw => false,
-        NodeKind::Try => false,
-        NodeKind::Function => false,
-        NodeKind::Param => false,
-        NodeKind::TypeName => false,
-        NodeKind::Class => false,
-        NodeKind::Interface => false,
-        NodeKind::Trait => false,
-        NodeKind::Property => false,
-        NodeKind::ClassConst => false,
-        NodeKind::Method => false,
-        NodeKind::TraitUse => false,
-        NodeKind::Const => false,
-        NodeKind::Namespace => false,
-        NodeKind::Use => false,
-        NodeKind::Declare => false,
-        NodeKind::Goto => false,
-        NodeKind::LabelStmt => false,
-        NodeKind::Variable => false,
-        NodeKind::Number => false,
-        NodeKind::Float => false,
-        NodeKind::Constant => false,
-        NodeKind::ClassConstant => false,
-        NodeKind::Array => false,
-        NodeKind::Item => false,
-        NodeKind::List => false,
-        NodeKind::Paren => false,
-        NodeKind::Offset => false,
-        NodeKind::BraceOffset => false,
-        NodeKind::Prop => false,
-        NodeKind::StaticProp => false,
-        NodeKind::Call => false,
-        NodeKind::MethodCall => false,
-        NodeKind::StaticCall => false,
-        NodeKind::Args => false,
-        NodeKind::New => false,
-        NodeKind::Isset => false,
-        NodeKind::EmptyTest => false,
-        NodeKind::Exit => false,
-        NodeKind::Closure => false,
-        NodeKind::Arrow => false,
-        NodeKind::Include => false,
-        NodeKind::EvalTest => false,
-        NodeKind::Binary => false,
-        NodeKind::Prefix => false,
-        NodeKind::Postfix => false,
-        NodeKind::Cast => false,
-        NodeKind::Ternary => false,
-        NodeKind::ShortTernary => false,
-        NodeKind::Assign => false,
-        NodeKind::AssignRef => false,
-        NodeKind::CompoundAssign => false,
-        NodeKind::InstanceOf => false,
-        NodeKind::Print => false,
-        NodeKind::Yield => false,
     }
 }

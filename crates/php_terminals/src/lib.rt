@@ -2,13 +2,13 @@
 //! indentation of heredocs.
 #![tactic(auto)]
 
-pub mod ahead;
 pub mod classify;
 pub mod indents;
 mod lookahead;
 mod looks;
 pub mod mark;
 pub mod marked;
+pub mod marking;
 pub mod marks;
 pub mod terminal;
 pub mod tokens;

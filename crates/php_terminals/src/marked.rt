@@ -1,12 +1,14 @@
 // The bytes and the classes of tokens that are places in their source.
-ghost use Rattle.std.specs.Prelude.{◌≡◌, ◌≤◌, ◌<◌, ◌^◌, List, ℕ, length, slice_range};
+ghost use Rattle.std.specs.Prelude.{◌≡◌, ◌≤◌, ◌<◌, ◌^◌, List, ℕ, IfOk, length, slice_range};
 ghost use Rattle.php_tree.specs.declared.token.Token.{Token};
 ghost use Rattle.php_terminals.specs.Classify.{terminal_by};
 ghost use Rattle.php_terminals.specs.Marked.{IsMark, token_at};
 
 use crate::classify::class_of;
 use crate::mark::Mark;
-use php_tree::TokenKind;
+use php_tree::{Token, TokenKind};
+use span_edits::Bytes;
+use std::alloc::{AllocError, Global};
 
 /// The trivia before a token.
 pub fn lead_of(bytes: &[u8], mark: Mark) -> &[u8]
@@ -43,4 +45,17 @@ pub fn mark_at(bytes: &[u8], kind: TokenKind, lead: usize, at: usize, end: usize
         start: at as u32,
         end: end as u32,
     }
+}
+
+/// The token at some places. The only error is want of memory.
+pub fn token_of(alloc: Global, bytes: &[u8], mark: Mark) -> Result<Token, AllocError>
+    requires { IsMark bytes.now mark }
+    ensures { IfOk result (λ t. t ≡ token_at bytes.now mark) }
+{
+    Ok(Token {
+        kind: mark.kind,
+        lead: Bytes::new(Vec::from_slice(alloc, lead_of(bytes, mark))?),
+        text: Bytes::new(Vec::from_slice(alloc, text_of(bytes, mark))?),
+        start: mark.start,
+    })
 }

@@ -1,7 +1,6 @@
 use Rattle.std.proofs.Common.{◌≡◌, ◌≤◌, ◌<◌, ◌+◌, ℕ, length, ◌-◌, ◌*◌, ◌^◌, drop}
-use Rattle.php_tree.specs.Tree.{depth}
-use Rattle.php_exprs.specs.Built.{forest_in, tree_in}
-use Rattle.php_grammar.specs.Tables.{php}
+use Rattle.php_terminals.specs.Tokens.{tokens_in}
+use Rattle.php_exprs.specs.Built.{behind}
 use Rattle.php_exprs.specs.Parsed.{Turned, Walked}
 use Rattle.php_exprs.proofs.engine.+engine.Given as goal
 
@@ -10,7 +9,7 @@ abbrev pub decreases-node : goal.decreases-node
 decreases-node l = l.limit * (16 * 2 ^ 66) + 1
 
 abbrev pub decreases-grow : goal.decreases-grow
-decreases-grow l = l.limit * (16 * 2 ^ 66) + 8 * 2 ^ 66 + (1501 - depth (tree_in l.built).1)
+decreases-grow l = l.limit * (16 * 2 ^ 66) + 8 * 2 ^ 66 + (1502 - l.closed.deep)
 
 abbrev pub decreases-items : goal.decreases-items
 decreases-items l = l.limit * (16 * 2 ^ 66) + l.nesting * 2 ^ 66 + 3
@@ -22,13 +21,13 @@ abbrev pub decreases-turns : goal.decreases-turns
 decreases-turns l = l.limit * (16 * 2 ^ 66) + l.nesting * 2 ^ 66 + 1
 
 abbrev pub invariant-turns-loop-form : goal.invariant-turns-loop-form
-invariant-turns-loop-form l = Turned (php l.version) l.limit l.nesting l.group l.tokens l.rest (forest_in l.fn.parts) (forest_in l.parts)
+invariant-turns-loop-form l = Turned l.version (tokens_in l.tokens) l.limit l.nesting l.group (l.fn.row, l.fn.reach) (l.row, l.reach)
 
 abbrev pub decreases-turns-loop-form : goal.decreases-turns-loop-form
-decreases-turns-loop-form l = length l.rest
+decreases-turns-loop-form l = length (behind (tokens_in l.tokens) l.row)
 
 abbrev pub decreases-one_item : goal.decreases-one_item
 decreases-one_item l = l.limit * (16 * 2 ^ 66) + l.nesting * 2 ^ 66 + 2
 
 abbrev pub invariant-items-loop-item : goal.invariant-items-loop-item
-invariant-items-loop-item l = Walked (php l.version) l.limit l.nesting l.form (drop l.item-index l.form) l.tokens l.rest (forest_in l.fn.parts) (forest_in l.parts)
+invariant-items-loop-item l = Walked l.version (tokens_in l.tokens) l.limit l.nesting l.form (drop l.item-index l.form) (l.fn.row, l.fn.reach) (l.row, l.reach)

@@ -1,20 +1,28 @@
-use Rattle.std.proofs.Common.{◌≡◌, ◌≤◌, ◌<◌, arith, ap, ◌∙◌}
-use Rattle.php_tree.specs.Tree.{none, leaf, ◌+++◌}
+use Rattle.std.proofs.Common.{◌≡◌, ◌≤◌, ◌<◌, length, take, refl, ap, arith}
 use Rattle.php_tree.specs.declared.token.Token.{Token}
-use Rattle.php_exprs.specs.Built.{forest_in}
-use Rattle.php_exprs.specs.Parsed.{run_read}
-use Rattle.php_exprs.proofs.Steps.{flat, run_short, run_done, flat_more, flat_ends}
+use Rattle.std.proofs.Common.{List}
+use Rattle.php_terminals.specs.Tokens.{tokens_in}
+use Rattle.php_exprs.specs.Built.{behind}
+use Rattle.php_exprs.proofs.Grown.{taken}
+use Rattle.php_exprs.proofs.Steps.{run_short, run_done}
 use Rattle.php_exprs.proofs.engine.run.Goals as goal
 
-pub returns-then-count-tokens : goal.returns-then-count-tokens
-returns-then-count-tokens c = λ limit. run_short c.args.count c.args.tokens.now (omega arith)
+pub returns-then-count-len : goal.returns-then-count-len
+returns-then-count-len c = λ v limit.
+    let e = ap (λ (ts : List Token). length ts) c.rest.ensures.rest in
+    let n = c.len.ensures in
+    run_short c.args.count (behind (tokens_in c.args.tokens) c.args.row.now) (omega arith)
 
-pub loop-token-preserved : goal.loop-token-preserved
-loop-token-preserved c =
-    flat_more _ (forest_in c.loop-token.parts) (forest_in c.leaf.new.self) c.split_at.result.0.now c.loop-token.token-index _ c.loop-token-test.true
-    (c.in_ok-leaf.ensures ∙ ap (λ (t : Token). forest_in c.loop-token.parts +++ leaf t none) (c.in_ok-copy.ensures ∙ c.token-item.is)) c.loop-token.invariant
+pub returns-then-count-gt0 : goal.returns-then-count-gt0
+returns-then-count-gt0 c = λ v limit.
+    let e = ap (λ (ts : List Token). length ts) c.rest.ensures.rest in
+    let n = c.len.ensures in
+    let le : c.args.count ≤ length (behind (tokens_in c.args.tokens) c.args.row.now) = omega arith in
+    run_done v (tokens_in c.args.tokens) (c.args.row.now, c.args.reach.now) (c.leaves.new.self, c.leaf.new.self) c.args.count limit le c.requires (c.in_ok-leaves.ensures.grew (take c.args.count (behind (tokens_in c.args.tokens) c.args.row.now)) (taken c.args.count (behind (tokens_in c.args.tokens) c.args.row.now) le)) c.in_ok-leaves.ensures.at c.leaf.ensures.deep (λ h. c.leaf.ensures.edge) (λ h. absurd (omega arith))
 
-pub returns : goal.returns
-returns c = λ limit.
-    run_done (forest_in c.args.parts.now) (forest_in c.loop-token.parts) c.args.count limit c.args.tokens.now c.split_at.result.0.now c.split_at.result.1 c.if-count-tokens.false c.split_at.ensures.front c.split_at.ensures.back
-    (flat_ends _ _ c.split_at.result.0.now c.loop-token.token-index c.loop-token-test.false c.loop-token.invariant)
+pub returns-else-count-gt0 : goal.returns-else-count-gt0
+returns-else-count-gt0 c = λ v limit.
+    let e = ap (λ (ts : List Token). length ts) c.rest.ensures.rest in
+    let n = c.len.ensures in
+    let le : c.args.count ≤ length (behind (tokens_in c.args.tokens) c.args.row.now) = omega arith in
+    run_done v (tokens_in c.args.tokens) (c.args.row.now, c.args.reach.now) (c.leaves.new.self, c.args.reach.now) c.args.count limit le c.requires (c.in_ok-leaves.ensures.grew (take c.args.count (behind (tokens_in c.args.tokens) c.args.row.now)) (taken c.args.count (behind (tokens_in c.args.tokens) c.args.row.now) le)) c.in_ok-leaves.ensures.at refl (λ h. absurd (omega arith)) (λ h. refl)

@@ -1,42 +1,57 @@
 use Rattle.std.proofs.Common.{◌≡◌, ◌<◌, ◌≤◌, ◌+◌, ℕ, List, [], length, Ok, Err, refl, sym, ap, ◌∙◌, subst, arith}
 use Rattle.std.proofs.lemmas.Grind.{common_steps}
 use Rattle.std.proofs.lemmas.Result.{err_from_is_err_and}
-use Rattle.php_tree.specs.declared.node.Node.{Node}
-use Rattle.php_tree.specs.Tree.{Forest, ◌+++◌, alone, none, nodes_forest, tree}
+use Rattle.php_terminals.specs.Tokens.{tokens_in}
 use Rattle.php_forms.specs.declared.item.Group.TheVariants.{Statements}
 use Rattle.php_forms.specs.declared.item.Sort.TheVariants.{Statement}
 use Rattle.php_grammar.specs.Tables.{php, parts}
+use Rattle.php_exprs.specs.Built.{State, behind}
 use Rattle.php_exprs.specs.Parsing.{Read}
+use Rattle.php_tree.specs.declared.token.Token.{Token}
+use Rattle.php_tree.specs.Tree.{Forest}
 use Rattle.php_exprs.specs.Parsed.{Extends, inner_at, node_at}
 use Rattle.php_exprs.proofs.Steps.{child_extends, child_fails, turned_first, turned_ends, turned_breaks, turned_on, stays_none}
 use Rattle.php_exprs.proofs.StatementLemmas.{one_statement}
 use Rattle.php_exprs.proofs.statements.statements.Goals as goal
 
-pub returns-then-is_empty-clause-given : goal.returns-then-is_empty-clause-given
-returns-then-is_empty-clause-given c =
-    let e : parts c.args.version Statements c.turns.rest.now ≡ [] = grind (arith, common_steps) in
-    rw c.into_items.ensures.same (turned_ends (php c.args.version) c.args.limit 7 Statements c.args.tokens.now none (nodes_forest c.turns.nodes.nodes) c.turns.rest e c.turns.invariant)
+pub turns-init : goal.turns-init
+turns-init c = turned_first c.args.version (tokens_in c.args.tokens) c.args.limit 7 Statements (c.args.row.now, c.args.reach.now) c.requires.within
 
-pub returns-in_err-built-clause-given : goal.returns-in_err-built-clause-given
-returns-in_err-built-clause-given c =
+pub returns-then-is_empty : goal.returns-then-is_empty
+returns-then-is_empty c =
+    let e : parts c.args.version Statements (tokens_in c.rest.result) ≡ [] = grind (arith, common_steps) in
+    turned_ends c.args.version (tokens_in c.args.tokens) c.args.limit 7 Statements (c.args.row.now, c.args.reach.now) (c.turns.row, c.turns.reach) (ap (parts c.args.version Statements) (sym c.rest.ensures.rest) ∙ e) c.turns.invariant
+
+pub returns-in_err-closed : goal.returns-in_err-closed
+returns-in_err-closed c =
     let p = err_from_is_err_and c.from_residual.result c.from_residual.ensures.1 in
-    let has : 0 < length (parts c.args.version Statements c.turns.rest.now) = grind (arith, common_steps) in
-    let mid = nodes_forest c.turns.nodes.nodes in
-    let x = subst (λ (o : Read Forest). Extends (Err c.in_err-built.field-0.0) mid none c.args.limit o) (sym (one_statement c.args.version c.args.limit c.turns.rest.now has)) (child_fails c.in_err-built.field-0.0 mid none c.args.limit (node_at (php c.args.version) c.args.limit Statement c.turns.rest.now) c.in_err-built.ensures) in
-    rw (p.1, p.2) (turned_breaks (php c.args.version) c.args.limit 7 Statements c.args.tokens.now c.turns.rest.now none mid none c.in_err-built.field-0.0 has x c.turns.invariant)
+    let all = tokens_in c.args.tokens in
+    let mid : State = (c.turns.row, c.turns.reach) in
+    let new : State = (c.node.new.row, c.turns.reach) in
+    let some : 0 < length (parts c.args.version Statements (tokens_in c.rest.result)) = grind (arith, common_steps) in
+    let has = subst (λ (ts : List Token). 0 < length (parts c.args.version Statements ts)) c.rest.ensures.rest some in
+    let ts = behind all c.turns.row in
+    let x = subst (λ (o : Read Forest). Extends (Err c.in_err-closed.field-0.0) c.args.version all mid new c.args.limit o) (sym (one_statement c.args.version c.args.limit ts has)) (child_fails c.args.version all c.in_err-closed.field-0.0 mid new c.args.limit (node_at (php c.args.version) c.args.limit Statement ts) c.in_err-closed.ensures) in
+    rw (p.1, p.2) (turned_breaks c.args.version all c.args.limit 7 Statements (c.args.row.now, c.args.reach.now) mid new c.in_err-closed.field-0.0 has x c.turns.invariant)
 
-pub returns-then-after-rest-clause-given : goal.returns-then-after-rest-clause-given
-returns-then-after-rest-clause-given c =
-    let has : 0 < length (parts c.args.version Statements c.turns.rest.now) = grind (arith, common_steps) in
-    let mid = nodes_forest c.turns.nodes.nodes in
-    let new = mid +++ alone (tree c.in_ok-built.built.node) in
-    let x = subst (λ (o : Read Forest). Extends (Ok c.in_ok-built.after) mid new c.args.limit o) (sym (one_statement c.args.version c.args.limit c.turns.rest.now has)) (child_extends (c.in_ok-built.built, c.in_ok-built.after) mid new c.args.limit (node_at (php c.args.version) c.args.limit Statement c.turns.rest.now) c.in_ok-built.ensures refl) in
-    stays_none (php c.args.version) c.args.limit 7 Statements c.args.tokens.now c.turns.rest.now none mid new c.in_ok-built.after (inner_at (php c.args.version) c.args.limit 7 (parts c.args.version Statements c.turns.rest.now) c.turns.rest.now) has refl x (omega arith) c.turns.invariant
+pub returns-then-at-before : goal.returns-then-at-before
+returns-then-at-before c =
+    let all = tokens_in c.args.tokens in
+    let mid : State = (c.turns.row, c.turns.reach) in
+    let new : State = (c.node.new.row, c.child.new.self) in
+    let some : 0 < length (parts c.args.version Statements (tokens_in c.rest.result)) = grind (arith, common_steps) in
+    let has = subst (λ (ts : List Token). 0 < length (parts c.args.version Statements ts)) c.rest.ensures.rest some in
+    let ts = behind all c.turns.row in
+    let x = subst (λ (o : Read Forest). Extends (Ok tt) c.args.version all mid new c.args.limit o) (sym (one_statement c.args.version c.args.limit ts has)) (child_extends c.args.version all c.in_ok-closed.closed mid new c.args.limit (node_at (php c.args.version) c.args.limit Statement ts) c.in_ok-closed.ensures c.child.ensures.deep c.child.ensures.edge) in
+    stays_none c.args.version all c.args.limit 7 Statements (c.args.row.now, c.args.reach.now) mid new _ has refl x (omega arith) c.turns.invariant
 
 pub turns-preserved : goal.turns-preserved
 turns-preserved c =
-    let has : 0 < length (parts c.args.version Statements c.turns.rest.now) = grind (arith, common_steps) in
-    let mid = nodes_forest c.turns.nodes.nodes in
-    let new = nodes_forest c.push.new.self.nodes in
-    let x = subst (λ (o : Read Forest). Extends (Ok c.in_ok-built.after) mid new c.args.limit o) (sym (one_statement c.args.version c.args.limit c.turns.rest.now has)) (child_extends (c.in_ok-built.built, c.in_ok-built.after) mid new c.args.limit (node_at (php c.args.version) c.args.limit Statement c.turns.rest.now) c.in_ok-built.ensures c.in_ok-push.ensures) in
-    turned_on (php c.args.version) c.args.limit 7 Statements c.args.tokens.now c.turns.rest.now none mid new c.in_ok-built.after has x (omega arith) c.turns.invariant
+    let all = tokens_in c.args.tokens in
+    let mid : State = (c.turns.row, c.turns.reach) in
+    let new : State = (c.node.new.row, c.child.new.self) in
+    let some : 0 < length (parts c.args.version Statements (tokens_in c.rest.result)) = grind (arith, common_steps) in
+    let has = subst (λ (ts : List Token). 0 < length (parts c.args.version Statements ts)) c.rest.ensures.rest some in
+    let ts = behind all c.turns.row in
+    let x = subst (λ (o : Read Forest). Extends (Ok tt) c.args.version all mid new c.args.limit o) (sym (one_statement c.args.version c.args.limit ts has)) (child_extends c.args.version all c.in_ok-closed.closed mid new c.args.limit (node_at (php c.args.version) c.args.limit Statement ts) c.in_ok-closed.ensures c.child.ensures.deep c.child.ensures.edge) in
+    turned_on c.args.version all c.args.limit 7 Statements (c.args.row.now, c.args.reach.now) mid new has x (omega arith) c.turns.invariant
