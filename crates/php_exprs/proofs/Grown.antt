@@ -65,14 +65,16 @@ some_behind all n t ts e = let l = ap length e in let m = length-drop n all in o
 pub leaf_added : (v : Version) (all : List Token) (old new : State) (t : Token) (ts : List Token) → behind all old.0 ≡ t ∷ ts → Grew old.0 new.0 (leaf t none) → new.0.at ≡ old.0.at + 1 → new.1.deep ≡ old.1.deep → new.1.edge ≡ 0 → Added v all old new (leaf t none) × (behind all new.0 ≡ ts)
 leaf_added v all old new t ts e g at d z =
     let rest : behind all new.0 ≡ ts = ap (λ (n : ℕ). drop n all) at ∙ next_behind all old.0.at t ts e in
-    let w = some_behind all old.0.at t ts e in
-    (record {
-      grew = g;
-      text = e ∙ ap (λ (us : List Token). t ∷ us) (sym rest);
-      within = omega arith;
-      deep = omega arith;
-      edge = z;
-    }, rest)
+    let w = some_behind all old.0.at t ts e in (
+      record {
+        grew = g;
+        text = e ∙ ap (λ (us : List Token). t ∷ us) (sym rest);
+        within = omega arith;
+        deep = omega arith;
+        edge = z;
+      },
+      rest,
+    )
 
 leafed_deep : (us : List Token) → depth (leafed us none) ≡ 0
 leafed_deep [] = refl
@@ -107,14 +109,16 @@ leaves_added v all old new n le w g at d many empty =
     let us = take n (behind all old.0) in
     let rest : behind all new.0 ≡ drop n (behind all old.0) = ap (λ (m : ℕ). drop m all) at ∙ sym (drop-drop n old.0.at all) in
     let long : length us ≡ n = take_length n (behind all old.0) le in
-    let l = length-drop old.0.at all in
-    (record {
-      grew = g;
-      text = take_drop n (behind all old.0) ∙ rw (tokens_leafed us, rest) refl;
-      within = omega arith;
-      deep = omega (arith, leafed_deep us);
-      edge = by_count n us long many empty;
-    }, rest)
+    let l = length-drop old.0.at all in (
+      record {
+        grew = g;
+        text = take_drop n (behind all old.0) ∙ rw (tokens_leafed us, rest) refl;
+        within = omega arith;
+        deep = omega (arith, leafed_deep us);
+        edge = by_count n us long many empty;
+      },
+      rest,
+    )
   where
     by_count : (n : ℕ) (us : List Token) → length us ≡ n → (0 < n → new.1.edge ≡ 0) → (n ≡ 0 → new.1.edge ≡ old.1.edge) → new.1.edge ≡ edge_from v old.1.edge (leafed us none)
     by_count n [] l many empty = empty (sym l)

@@ -74,7 +74,7 @@ fn grow(
         AddedNode (tokens_in tokens.entry) before row.old x → IsClosed version closed x →
         limit + 1 ≤ fuel + depth x.1 →
         GivesTree result version (tokens_in tokens.entry) before row.new (limit + 1)
-            (grown_at (php version) limit fuel sort x (behind (tokens_in tokens.entry) row.old)) }
+        (grown_at (php version) limit fuel sort x (behind (tokens_in tokens.entry) row.old)) }
 {
     let tail = tail_of(
         version,
@@ -181,12 +181,7 @@ fn word(
 }
 
 // The first `count` tokens.
-fn run(
-    count: usize,
-    tokens: Tokens<'_>,
-    row: &mut Row,
-    reach: &mut Reach,
-) -> Result<(), ParseFault>
+fn run(count: usize, tokens: Tokens<'_>, row: &mut Row, reach: &mut Reach) -> Result<(), ParseFault>
     requires { row.old.at ≤ length (tokens_in tokens) }
     ensures { (version : TheVersion) (limit : ℕ) →
         Extends result version (tokens_in tokens.entry) (row.old, reach.old) (row.new, reach.new) limit
@@ -241,7 +236,7 @@ fn turns(
     requires within { row.old.at ≤ length (tokens_in tokens) }
     ensures { Extends result version (tokens_in tokens.entry) (row.old, reach.old) (row.new, reach.new) limit
         (turned_at (php version) limit nesting (length (behind (tokens_in tokens.entry) row.old)) group
-            (behind (tokens_in tokens.entry) row.old)) }
+        (behind (tokens_in tokens.entry) row.old)) }
 {
     loop {
         let form = parts_of(version, group, rest(tokens, row));

@@ -30,7 +30,7 @@ fn statements(
     requires within { row.old.at ≤ length (tokens_in tokens) }
     ensures { Extends result version (tokens_in tokens.entry) (row.old, reach.old) (row.new, reach.new) limit
         (turned_at (php version) limit 7 (length (behind (tokens_in tokens.entry) row.old)) Statements
-            (behind (tokens_in tokens.entry) row.old)) }
+        (behind (tokens_in tokens.entry) row.old)) }
 {
     'turns: loop {
         if parts_of(version, Group::Statements, rest(tokens, row)).is_empty() {

@@ -357,6 +357,7 @@ parts_p v g.YieldValue ts = yield_p v ts
 parts_p v g.Created ts = created_p ts
 parts_p v g.InstanceRef ts = instance_p ts
 parts_p v g.Attribute ts = rw (first_p ts) refl
+
 -- ---- tokens that are asked for
 
 in_set_p : (v : Version) (asked own : Terminal) (x : Token) → in_set v asked own (placeless x) ≡ in_set v asked own x

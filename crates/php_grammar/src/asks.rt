@@ -5,8 +5,9 @@ ghost use Rattle.php_grammar.specs.Accepts.{accepts, in_set, is_class_label, is_
 
 use crate::levels::binary_level;
 use php_terminals::classify::{
-    is_any_label, is_attribute_by, is_called_label, is_class, is_constant_label, is_full, is_modifier,
-    is_plain_label, is_qualified, is_relative, is_sign_or_tight, is_word_kind, names_refused,
+    is_any_label, is_attribute_by, is_called_label, is_class, is_constant_label, is_full,
+    is_modifier, is_plain_label, is_qualified, is_relative, is_sign_or_tight, is_word_kind,
+    names_refused,
 };
 use php_terminals::mark::Mark;
 use php_terminals::marked::text_of;

@@ -4,9 +4,7 @@ ghost use Rattle.php_terminals.specs.Indents.{heredoc_fits, is_heredoc_kind, is_
 ghost use Rattle.php_rows.specs.Reading.{forest_in};
 
 use php_rows::{Parts, Step};
-use php_terminals::indents::{
-    fresh_by, is_uniform, leaf_fits_by, margin, node_fits, text_fits,
-};
+use php_terminals::indents::{fresh_by, is_uniform, leaf_fits_by, margin, node_fits, text_fits};
 use php_terminals::marked::text_of;
 use php_tree::{NodeKind, TokenKind};
 

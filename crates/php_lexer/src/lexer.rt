@@ -186,11 +186,7 @@ fn push_token(tokens: &mut Vec<Token>, token: Token) -> Result<(), AllocError>
 }
 
 // The tokens at some places.
-fn tokens_of_marks(
-    alloc: Global,
-    bytes: &[u8],
-    marks: &[Mark],
-) -> Result<Vec<Token>, AllocError>
+fn tokens_of_marks(alloc: Global, bytes: &[u8], marks: &[Mark]) -> Result<Vec<Token>, AllocError>
     requires { All (IsMark bytes.now) marks.now }
     ensures { IfOk result (λ tokens. tokens.items ≡ map (token_at bytes.now) marks.now) }
 {

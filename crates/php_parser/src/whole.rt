@@ -41,11 +41,7 @@ fn ends_file(rest: Tokens<'_>) -> bool
 }
 
 // The statements of a file as a row, and how deep they are.
-fn statements(
-    alloc: Global,
-    version: Version,
-    tokens: Tokens<'_>,
-) -> Result<(Row, u32), ParseFault>
+fn statements(alloc: Global, version: Version, tokens: Tokens<'_>) -> Result<(Row, u32), ParseFault>
     ensures found { IfOk result (λ x. (f : File) × (ReadsFile version (tokens_in tokens.entry) f ×
         IsWhole (tokens_in tokens.entry) x.0 x.1 f.statements f.end)) }
     ensures only { (f : File) → ReadsFile version (tokens_in tokens.entry) f → AnswersWhole result (tokens_in tokens.entry) f }
@@ -84,7 +80,11 @@ pub fn parse_marks(
     // A tree of the grammar with these tokens is the answer.
     ensures only { (f : File) → ReadsFile version (map (token_at bytes.items) marks.items) f → AnswersRow result f }
 {
-    let (row, deep) = statements(alloc, version, Tokens::new(bytes.as_slice(), marks.as_slice()))?;
+    let (row, deep) = statements(
+        alloc,
+        version,
+        Tokens::new(bytes.as_slice(), marks.as_slice()),
+    )?;
     counted(row.len())?;
     counted(marks.as_slice().len())?;
     Ok(RowTree::new(version, bytes, marks, row, deep))

@@ -50,7 +50,10 @@ pub fn marks_of(alloc: Global, tokens: &[Token]) -> Result<(Vec<u8>, Vec<Mark>),
     for token in tokens {
         let start = at + token.lead.as_slice().len();
         let end = start + token.text.as_slice().len();
-        push(&mut marks, mark_at(bytes.as_slice(), token.kind, at, start, end))?;
+        push(
+            &mut marks,
+            mark_at(bytes.as_slice(), token.kind, at, start, end),
+        )?;
         at = end;
     }
     Ok((bytes, marks))
