@@ -1,131 +1,39 @@
 // The keeper.
 ghost use Rattle.job_core.specs.Keeper.{HasCause};
 
-use crate::jobs;
-use crate::numbers::verdict_number;
+use crate::kept_jobs::KeptJobs;
+use crate::place::{FilePlace, Place};
 use crate::refusal::{Refusal, counted};
-use crate::reports::reports_of;
-use crate::store::{Store, changed, rows_of};
 use job_core::{Job, JobFile, JobHead, Judged, KeepFault, Keeper, Verdict};
-use sqlite::params;
 use std::alloc::{AllocError, Global};
 
-/// Jobs in a file that SQLite reads. It is opened at the first call; where that is refused, nothing
-/// stays open, and the next call opens again.
+/// Jobs in a database. It is opened at the first call; where that is refused, nothing stays open, and the
+/// next call opens again.
 #[derive(Drop)]
-pub struct SqliteKeeper {
-    rt: HostRuntime,
-    path: String,
-    store: Option<Store>,
+pub struct KeeperAt<P: Place + Drop> {
+    kept: KeptJobs<P>,
     faults: u64,
 }
 
-impl SqliteKeeper {
+/// Jobs in a file that SQLite reads.
+pub type SqliteKeeper = KeeperAt<FilePlace>;
+
+impl<P: Place + Drop> KeeperAt<P> {
+    /// The jobs in the database of this place, which isn't opened yet.
+    pub fn new(alloc: Global, place: P) -> KeeperAt<P> {
+        KeeperAt {
+            kept: KeptJobs::new(alloc, place),
+            faults: 0,
+        }
+    }
+}
+
+impl KeeperAt<FilePlace> {
     /// The jobs in the file of this path, which isn't opened yet. The only error is want of memory.
     pub fn lazy(rt: HostRuntime, alloc: Global, path: &str) -> Result<SqliteKeeper, AllocError> {
-        let path = String::from_str(alloc, path)?;
-        Ok(SqliteKeeper {
-            rt,
-            path,
-            store: None,
-            faults: 0,
-        })
+        let place = FilePlace::new(rt, alloc, path)?;
+        Ok(KeeperAt::new(alloc, place))
     }
-}
-
-// The open database, which is opened where it isn't.
-fn opened<'s>(
-    rt: &HostRuntime,
-    path: &str,
-    store: &'s mut Option<Store>,
-) -> Result<&'s mut Store, Refusal> {
-    if store.is_none() {
-        *store = Some(Store::open(rt, path)?);
-    }
-    match store {
-        Some(store) => Ok(store),
-        None => Err(Refusal::Failed),
-    }
-}
-
-fn by_key(store: &mut Store, owner: &str, key: &str) -> Result<Option<JobHead>, Refusal> {
-    let rows = rows_of(
-        &mut store.database,
-        &store.reads.by_key,
-        params![owner, key],
-    )?;
-    jobs::first_head(rows.as_slice())
-}
-
-fn head(store: &mut Store, owner: &str, job: u32) -> Result<Option<JobHead>, Refusal> {
-    let rows = rows_of(
-        &mut store.database,
-        &store.reads.by_number,
-        params![owner, i64::from(job)],
-    )?;
-    jobs::first_head(rows.as_slice())
-}
-
-fn count(store: &mut Store, owner: &str) -> Result<u32, Refusal> {
-    let rows = rows_of(&mut store.database, &store.reads.count, params![owner])?;
-    jobs::first_number(rows.as_slice())
-}
-
-fn file(store: &mut Store, owner: &str, job: u32, n: u32) -> Result<Option<JobFile>, Refusal> {
-    let rows = rows_of(
-        &mut store.database,
-        &store.reads.file,
-        params![owner, i64::from(job), i64::from(n)],
-    )?;
-    jobs::first_file(rows.as_slice())
-}
-
-fn reports(
-    alloc: Global,
-    store: &mut Store,
-    owner: &str,
-    job: u32,
-) -> Result<Option<Vec<Judged>>, Refusal> {
-    if head(store, owner, job)?.is_none() {
-        return Ok(None);
-    }
-    let rows = rows_of(
-        &mut store.database,
-        &store.reads.reports,
-        params![owner, i64::from(job)],
-    )?;
-    Ok(Some(reports_of(alloc, rows.as_slice())?))
-}
-
-fn judge(
-    store: &mut Store,
-    owner: &str,
-    job: u32,
-    n: u32,
-    verdict: Verdict,
-    note: &str,
-) -> Result<bool, Refusal> {
-    let count = changed(
-        &mut store.database,
-        &store.writes.judge,
-        params![
-            owner,
-            i64::from(job),
-            i64::from(n),
-            verdict_number(verdict),
-            note
-        ],
-    )?;
-    Ok(count > 0)
-}
-
-fn close(store: &mut Store, owner: &str, job: u32) -> Result<bool, Refusal> {
-    let count = changed(
-        &mut store.database,
-        &store.writes.close,
-        params![owner, i64::from(job)],
-    )?;
-    Ok(count > 0)
 }
 
 // The answer of a call, whose refusal is counted.
@@ -138,7 +46,7 @@ fn answered<T: Drop>(faults: &mut u64, done: Result<T, Refusal>) -> Result<T, Ke
     }
 }
 
-impl Keeper for SqliteKeeper {
+impl<P: Place + Drop> Keeper for KeeperAt<P> {
     ghost use Rattle.std.specs.Prelude.{None};
 
     ghost jobs = { λ _. None };
@@ -151,11 +59,7 @@ impl Keeper for SqliteKeeper {
         owner: &str,
         key: &str,
     ) -> Result<Option<JobHead>, KeepFault> {
-        let done = match opened(&self.rt, self.path.as_str(), &mut self.store) {
-            Ok(store) => by_key(store, owner, key),
-            Err(refusal) => Err(refusal),
-        };
-        answered(&mut self.faults, done)
+        answered(&mut self.faults, self.kept.by_key(owner, key))
     }
 
     fn head(
@@ -164,27 +68,15 @@ impl Keeper for SqliteKeeper {
         owner: &str,
         job: u32,
     ) -> Result<Option<JobHead>, KeepFault> {
-        let done = match opened(&self.rt, self.path.as_str(), &mut self.store) {
-            Ok(store) => head(store, owner, job),
-            Err(refusal) => Err(refusal),
-        };
-        answered(&mut self.faults, done)
+        answered(&mut self.faults, self.kept.head(owner, job))
     }
 
     fn count(&mut self, owner: &str) -> Result<u32, KeepFault> {
-        let done = match opened(&self.rt, self.path.as_str(), &mut self.store) {
-            Ok(store) => count(store, owner),
-            Err(refusal) => Err(refusal),
-        };
-        answered(&mut self.faults, done)
+        answered(&mut self.faults, self.kept.count(owner))
     }
 
     fn add(&mut self, _alloc: Global, job: &Job) -> Result<(), KeepFault> {
-        let done = match opened(&self.rt, self.path.as_str(), &mut self.store) {
-            Ok(store) => jobs::add(store, job),
-            Err(refusal) => Err(refusal),
-        };
-        answered(&mut self.faults, done)
+        answered(&mut self.faults, self.kept.add(job))
     }
 
     fn file(
@@ -194,11 +86,7 @@ impl Keeper for SqliteKeeper {
         job: u32,
         n: u32,
     ) -> Result<Option<JobFile>, KeepFault> {
-        let done = match opened(&self.rt, self.path.as_str(), &mut self.store) {
-            Ok(store) => file(store, owner, job, n),
-            Err(refusal) => Err(refusal),
-        };
-        answered(&mut self.faults, done)
+        answered(&mut self.faults, self.kept.file(owner, job, n))
     }
 
     fn reports(
@@ -207,10 +95,7 @@ impl Keeper for SqliteKeeper {
         owner: &str,
         job: u32,
     ) -> Result<Option<Vec<Judged>>, KeepFault> {
-        let done = match opened(&self.rt, self.path.as_str(), &mut self.store) {
-            Ok(store) => reports(alloc, store, owner, job),
-            Err(refusal) => Err(refusal),
-        };
+        let done = self.kept.reports(alloc, owner, job);
         answered(&mut self.faults, done)
     }
 
@@ -223,18 +108,11 @@ impl Keeper for SqliteKeeper {
         verdict: Verdict,
         note: &str,
     ) -> Result<bool, KeepFault> {
-        let done = match opened(&self.rt, self.path.as_str(), &mut self.store) {
-            Ok(store) => judge(store, owner, job, n, verdict, note),
-            Err(refusal) => Err(refusal),
-        };
+        let done = self.kept.judge(owner, job, n, verdict, note);
         answered(&mut self.faults, done)
     }
 
     fn close(&mut self, owner: &str, job: u32) -> Result<bool, KeepFault> {
-        let done = match opened(&self.rt, self.path.as_str(), &mut self.store) {
-            Ok(store) => close(store, owner, job),
-            Err(refusal) => Err(refusal),
-        };
-        answered(&mut self.faults, done)
+        answered(&mut self.faults, self.kept.close(owner, job))
     }
 }

@@ -1,6 +1,4 @@
 // How words and numbers stand in a row.
-ghost use Rattle.std.specs.Prelude.{◌<◌};
-
 use crate::refusal::Refusal;
 use io_ports::{Bytes, PathText, Span, Weight};
 use job_core::Verdict;
@@ -52,9 +50,33 @@ pub fn column_number(number: u64) -> Result<i64, Refusal> {
     }
 }
 
+/// A whole number.
+pub fn number_at(row: &Row, at: usize) -> Result<i64, Refusal> {
+    match row.get::<i64>(at) {
+        Ok(number) => Ok(number),
+        Err(error) => Err(Refusal::from(error)),
+    }
+}
+
+/// A number of at most 64 bits, without a sign.
+pub fn count_at(row: &Row, at: usize) -> Result<u64, Refusal> {
+    match u64::try_from(number_at(row, at)?) {
+        Ok(number) => Ok(number),
+        Err(_) => Err(Refusal::Failed),
+    }
+}
+
+/// A number of at most 32 bits.
+pub fn word_at(row: &Row, at: usize) -> Result<u32, Refusal> {
+    match u32::try_from(number_at(row, at)?) {
+        Ok(number) => Ok(number),
+        Err(_) => Err(Refusal::Failed),
+    }
+}
+
 /// A number of at most 16 bits.
 pub fn small_at(row: &Row, at: usize) -> Result<u16, Refusal> {
-    match u16::try_from(row.get::<u64>(at)?) {
+    match u16::try_from(number_at(row, at)?) {
         Ok(number) => Ok(number),
         Err(_) => Err(Refusal::Failed),
     }
@@ -62,7 +84,7 @@ pub fn small_at(row: &Row, at: usize) -> Result<u16, Refusal> {
 
 /// A number of at most 8 bits.
 pub fn byte_at(row: &Row, at: usize) -> Result<u8, Refusal> {
-    match u8::try_from(row.get::<u64>(at)?) {
+    match u8::try_from(number_at(row, at)?) {
         Ok(number) => Ok(number),
         Err(_) => Err(Refusal::Failed),
     }
@@ -70,7 +92,7 @@ pub fn byte_at(row: &Row, at: usize) -> Result<u8, Refusal> {
 
 /// A yes or no, 1 or 0.
 pub fn flag_at(row: &Row, at: usize) -> Result<bool, Refusal> {
-    match row.get::<u64>(at)? {
+    match number_at(row, at)? {
         0 => Ok(false),
         1 => Ok(true),
         _ => Err(Refusal::Failed),
@@ -79,14 +101,23 @@ pub fn flag_at(row: &Row, at: usize) -> Result<bool, Refusal> {
 
 /// A text of a TEXT column.
 pub fn text_at(row: &Row, at: usize) -> Result<PathText, Refusal> {
-    let text: String = row.get(at)?;
-    Ok(PathText::new(text))
+    match row.get::<String>(at) {
+        Ok(text) => Ok(PathText::new(text)),
+        Err(error) => Err(Refusal::from(error)),
+    }
+}
+
+// The bytes of a BLOB column.
+fn blob_at(row: &Row, at: usize) -> Result<Vec<u8>, Refusal> {
+    match row.get::<Vec<u8>>(at) {
+        Ok(bytes) => Ok(bytes),
+        Err(error) => Err(Refusal::from(error)),
+    }
 }
 
 /// A text of a BLOB column.
 pub fn blob_text_at(row: &Row, at: usize) -> Result<PathText, Refusal> {
-    let bytes: Vec<u8> = row.get(at)?;
-    match String::from_utf8(bytes) {
+    match String::from_utf8(blob_at(row, at)?) {
         Ok(text) => Ok(PathText::new(text)),
         Err(_) => Err(Refusal::Failed),
     }
@@ -94,16 +125,13 @@ pub fn blob_text_at(row: &Row, at: usize) -> Result<PathText, Refusal> {
 
 /// The bytes of a BLOB column.
 pub fn bytes_at(row: &Row, at: usize) -> Result<Bytes, Refusal> {
-    let bytes: Vec<u8> = row.get(at)?;
-    Ok(Bytes::new(bytes))
+    Ok(Bytes::new(blob_at(row, at)?))
 }
 
 /// A span from two columns.
-pub fn span_at(row: &Row, at: usize) -> Result<Span, Refusal>
-    requires { at < 100 }
-{
-    let start: u32 = row.get(at)?;
-    let end: u32 = row.get(at + 1)?;
+pub fn span_at(row: &Row, from: usize, to: usize) -> Result<Span, Refusal> {
+    let start = word_at(row, from)?;
+    let end = word_at(row, to)?;
     if end < start {
         return Err(Refusal::Failed);
     }

@@ -1,21 +1,22 @@
 // Reports as rows.
-use crate::jobs::Change;
 use crate::numbers::{
-    small_at, span_at, text_at, verdict_number, verdict_of, weight_number, weight_of,
+    number_at, small_at, span_at, text_at, verdict_number, verdict_of, weight_number, weight_of,
 };
 use crate::refusal::Refusal;
+use crate::store::Store;
+use crate::tables::Wanted;
 use io_ports::Report;
 use job_core::{Job, Judged};
-use sqlite::{Row, Statement, params};
+use sqlite::{Alter, Row, params};
 use std::alloc::Global;
 
 // A report in the order of the columns of its query.
 fn report_of(row: &Row) -> Result<Report, Refusal> {
-    let path = text_at(row, 0)?;
-    let span = span_at(row, 1)?;
+    let span = span_at(row, 1, 2)?;
     let code = small_at(row, 3)?;
     let cause = small_at(row, 4)?;
-    let weight = weight_of(row.get(5)?)?;
+    let weight = weight_of(number_at(row, 5)?)?;
+    let path = text_at(row, 0)?;
     Ok(Report {
         path,
         span,
@@ -27,8 +28,8 @@ fn report_of(row: &Row) -> Result<Report, Refusal> {
 
 // The same with its verdict and note.
 fn judged_of(row: &Row) -> Result<Judged, Refusal> {
+    let verdict = verdict_of(number_at(row, 6)?)?;
     let report = report_of(row)?;
-    let verdict = verdict_of(row.get(6)?)?;
     let note = text_at(row, 7)?;
     Ok(Judged {
         report,
@@ -55,39 +56,36 @@ fn keep(reports: &mut Vec<Judged>, judged: Judged) -> Result<(), Refusal> {
 }
 
 // Inserts one row.
-fn add_report(
-    change: &mut Change<'_>,
-    insert: &Statement,
+fn add_report<S: Alter + Drop>(
+    store: &mut Store<S>,
     job: &Job,
     n: i64,
     judged: &Judged,
 ) -> Result<(), Refusal> {
     let report = &judged.report;
-    change.execute_prepared(
-        insert,
-        params![
-            job.owner.as_str(),
-            i64::from(job.head.job),
-            n,
-            report.path.as_str(),
-            i64::from(report.span.start),
-            i64::from(report.span.end),
-            i64::from(report.code),
-            i64::from(report.cause),
-            weight_number(report.weight),
-            verdict_number(judged.verdict),
-            judged.note.as_str(),
-        ],
-    )?;
+    let params = params![
+        job.owner.as_str(),
+        i64::from(job.head.job),
+        n,
+        report.path.as_str(),
+        i64::from(report.span.start),
+        i64::from(report.span.end),
+        i64::from(report.code),
+        i64::from(report.cause),
+        weight_number(report.weight),
+        verdict_number(judged.verdict),
+        judged.note.as_str(),
+    ];
+    store.change(Wanted::AddReport, params)?;
     Ok(())
 }
 
 /// Inserts a row for each report.
-pub fn add_reports(change: &mut Change<'_>, insert: &Statement, job: &Job) -> Result<(), Refusal> {
+pub fn add_reports<S: Alter + Drop>(store: &mut Store<S>, job: &Job) -> Result<(), Refusal> {
     let mut n = 0i64;
     for judged in &job.reports {
         n = n.saturating_add(1);
-        add_report(change, insert, job, n, judged)?;
+        add_report(store, job, n, judged)?;
     }
     Ok(())
 }

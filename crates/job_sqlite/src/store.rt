@@ -1,46 +1,88 @@
-// An open database of jobs.
+// A database of jobs.
 use crate::refusal::Refusal;
-use crate::tables::{Database, Reads, Writes, make_tables, prepare_reads, prepare_writes};
+use crate::tables::{Wanted, make_tables, prepare, statement};
 use sqlite::types::ValueRef;
-use sqlite::{Connection, Row, Statement};
+use sqlite::{Alter, Connection, Row, Statement};
+use std::alloc::Global;
 
 /// A database with its prepared statements.
 #[derive(Drop)]
-pub struct Store {
-    pub database: Database,
-    pub reads: Reads,
-    pub writes: Writes,
+pub struct Store<S: Alter + Drop> {
+    database: Connection<S>,
+    statements: Vec<Statement>,
 }
 
-impl Store {
-    /// Opens the file of this path, which is made where there is none, with its tables.
-    pub fn open(rt: &HostRuntime, path: &str) -> Result<Store, Refusal> {
-        let mut database = Connection::open(rt, path)?;
-        make_tables(&mut database)?;
-        let reads = prepare_reads(&mut database)?;
-        let writes = prepare_writes(&mut database)?;
+impl<S: Alter + Drop> Store<S> {
+    /// This database, in which the tables are made where there are none.
+    pub fn new(alloc: Global, mut database: Connection<S>) -> Result<Store<S>, Refusal> {
+        let statements = made(alloc, &mut database)?;
         Ok(Store {
             database,
-            reads,
-            writes,
+            statements,
         })
+    }
+
+    /// All rows of a query.
+    pub fn rows(&mut self, query: Wanted, params: &[ValueRef<'_>]) -> Result<Vec<Row>, Refusal> {
+        let query = statement(self.statements.as_slice(), query)?;
+        rows_of(&mut self.database, query, params)
+    }
+
+    /// How many rows a write changed.
+    pub fn change(&mut self, change: Wanted, params: &[ValueRef<'_>]) -> Result<usize, Refusal> {
+        let change = statement(self.statements.as_slice(), change)?;
+        changed(&mut self.database, change, params)
+    }
+
+    /// Begins a transaction.
+    pub fn begin(&mut self) -> Result<(), Refusal> {
+        run(&mut self.database, "BEGIN")
+    }
+
+    /// Ends a transaction: keeps what was changed in it where that was done, and else puts all back.
+    pub fn end(&mut self, done: Result<(), Refusal>) -> Result<(), Refusal> {
+        let kept = match done {
+            Ok(()) => run(&mut self.database, "COMMIT"),
+            Err(refusal) => Err(refusal),
+        };
+        if kept.is_err() {
+            let _undone = run(&mut self.database, "ROLLBACK");
+        }
+        kept
     }
 }
 
-/// All rows of a query.
-pub fn rows_of(
-    database: &mut Database,
+// The statements of a database, whose tables are made where there are none.
+fn made<S: Alter>(alloc: Global, database: &mut Connection<S>) -> Result<Vec<Statement>, Refusal> {
+    make_tables(database)?;
+    prepare(alloc, database)
+}
+
+fn rows_of<S: Alter>(
+    database: &mut Connection<S>,
     statement: &Statement,
     params: &[ValueRef<'_>],
 ) -> Result<Vec<Row>, Refusal> {
-    Ok(statement.query_all(database, params)?)
+    match statement.query_all(database, params) {
+        Ok(rows) => Ok(rows),
+        Err(error) => Err(Refusal::from(error)),
+    }
 }
 
-/// How many rows a write changed.
-pub fn changed(
-    database: &mut Database,
+fn changed<S: Alter>(
+    database: &mut Connection<S>,
     statement: &Statement,
     params: &[ValueRef<'_>],
 ) -> Result<usize, Refusal> {
-    Ok(statement.execute(database, params)?)
+    match statement.execute(database, params) {
+        Ok(count) => Ok(count),
+        Err(error) => Err(Refusal::from(error)),
+    }
+}
+
+fn run<S: Alter>(database: &mut Connection<S>, text: &str) -> Result<(), Refusal> {
+    match database.execute(text, &[]) {
+        Ok(_) => Ok(()),
+        Err(error) => Err(Refusal::from(error)),
+    }
 }

@@ -1,9 +1,7 @@
 // The tables of schema 1, and the statements on them.
 use crate::refusal::Refusal;
-use sqlite::{Connection, File, FileStore, Statement};
-
-/// A database in a file.
-pub type Database = Connection<FileStore<File>>;
+use sqlite::{Alter, Connection, Statement};
+use std::alloc::Global;
 
 const TABLES: &str = "
 CREATE TABLE IF NOT EXISTS job (
@@ -52,64 +50,68 @@ const FILE: &str =
 const REPORTS: &str =
     "SELECT path, start, stop, code, cause, weight, verdict, note FROM report WHERE owner = ?1 AND job = ?2 ORDER BY n";
 
-/// The statements that write.
-#[derive(Drop)]
-pub struct Writes {
-    pub add_job: Statement,
-    pub add_file: Statement,
-    pub add_report: Statement,
-    pub judge: Statement,
-    pub close: Statement,
+/// The statements, in the order of their texts.
+#[derive(Clone, Copy)]
+pub enum Wanted {
+    AddJob,
+    AddFile,
+    AddReport,
+    Judge,
+    Close,
+    ByKey,
+    ByNumber,
+    Count,
+    File,
+    Reports,
 }
 
-/// The statements that read.
-#[derive(Drop)]
-pub struct Reads {
-    pub by_key: Statement,
-    pub by_number: Statement,
-    pub count: Statement,
-    pub file: Statement,
-    pub reports: Statement,
-}
+const TEXTS: [&str; 10] = [
+    ADD_JOB, ADD_FILE, ADD_REPORT, JUDGE, CLOSE, BY_KEY, BY_NUMBER, COUNT, FILE, REPORTS,
+];
 
 /// Makes the tables, where they aren't there.
-pub fn make_tables(database: &mut Database) -> Result<(), Refusal> {
-    database.execute_batch(TABLES)?;
-    Ok(())
+pub fn make_tables<S: Alter>(database: &mut Connection<S>) -> Result<(), Refusal> {
+    run_all(database, TABLES)
 }
 
-fn prepared(database: &mut Database, text: &str) -> Result<Statement, Refusal> {
-    Ok(database.prepare(text)?)
+fn run_all<S: Alter>(database: &mut Connection<S>, text: &str) -> Result<(), Refusal> {
+    match database.execute_batch(text) {
+        Ok(()) => Ok(()),
+        Err(error) => Err(Refusal::from(error)),
+    }
 }
 
-/// The statements that write, prepared.
-pub fn prepare_writes(database: &mut Database) -> Result<Writes, Refusal> {
-    let add_job = prepared(database, ADD_JOB)?;
-    let add_file = prepared(database, ADD_FILE)?;
-    let add_report = prepared(database, ADD_REPORT)?;
-    let judge = prepared(database, JUDGE)?;
-    let close = prepared(database, CLOSE)?;
-    Ok(Writes {
-        add_job,
-        add_file,
-        add_report,
-        judge,
-        close,
-    })
+fn prepared<S: Alter>(database: &mut Connection<S>, text: &str) -> Result<Statement, Refusal> {
+    match database.prepare(text) {
+        Ok(statement) => Ok(statement),
+        Err(error) => Err(Refusal::from(error)),
+    }
 }
 
-/// The statements that read, prepared.
-pub fn prepare_reads(database: &mut Database) -> Result<Reads, Refusal> {
-    let by_key = prepared(database, BY_KEY)?;
-    let by_number = prepared(database, BY_NUMBER)?;
-    let count = prepared(database, COUNT)?;
-    let file = prepared(database, FILE)?;
-    let reports = prepared(database, REPORTS)?;
-    Ok(Reads {
-        by_key,
-        by_number,
-        count,
-        file,
-        reports,
-    })
+fn keep(statements: &mut Vec<Statement>, statement: Statement) -> Result<(), Refusal> {
+    match statements.push(statement) {
+        Ok(()) => Ok(()),
+        Err(_) => Err(Refusal::Memory),
+    }
+}
+
+/// The statements, prepared.
+pub fn prepare<S: Alter>(
+    alloc: Global,
+    database: &mut Connection<S>,
+) -> Result<Vec<Statement>, Refusal> {
+    let mut statements = Vec::new(alloc);
+    for text in TEXTS {
+        let statement = prepared(database, text)?;
+        keep(&mut statements, statement)?;
+    }
+    Ok(statements)
+}
+
+/// The statement that is wanted, among those that are prepared.
+pub fn statement(statements: &[Statement], wanted: Wanted) -> Result<&Statement, Refusal> {
+    match statements.get(wanted as usize) {
+        Some(statement) => Ok(statement),
+        None => Err(Refusal::Failed),
+    }
 }

@@ -58,15 +58,15 @@ mutual
 bare_quiet : (t : NewToken) → Quiet t → Quiet (record t { lead = [] })
 bare_quiet t q = record { op = q.op; root = q.root }
 
-node_by : (k : NodeKind) (c d : Draft) (b : Bool) → Inner c → Inner (without_lead c) → Texts d → Texts (without_lead d) → Texts (cond b (new_node k c (without_lead d)) (new_node k (without_lead c) d))
-node_by k c d true i j x y = a_node i y
-node_by k c d false i j x y = a_node j x
+inner_by : (k : NodeKind) (c d : Draft) (b : Bool) → Inner c → Inner (without_lead c) → Texts d → Texts (without_lead d) → Texts (cond b (new_node k c (without_lead d)) (new_node k (without_lead c) d))
+inner_by k c d true i j x y = a_node i y
+inner_by k c d false i j x y = a_node j x
 
 mutual
   lead_texts : {d : Draft} → Texts d → Texts (without_lead d)
   lead_texts no_part = no_part
   lead_texts (a_leaf {t} p x) = a_leaf {t = record t { lead = [] }} p x
-  lead_texts (a_node {k} {c} {d} i x) = node_by k c d (holds_none c) i (lead_inner i) x (lead_texts x)
+  lead_texts (a_node {k} {c} {d} i x) = inner_by k c d (holds_none c) i (lead_inner i) x (lead_texts x)
 
   lead_inner : {c : Draft} → Inner c → Inner (without_lead c)
   lead_inner (parts_of x) = parts_of (lead_texts x)
