@@ -17,7 +17,7 @@ use Rattle.syntax_upgrade.specs.Found.{Report, undecided}
 use Rattle.rule_tables.specs.declared.cause.Cause.TheVariants.{Shape}
 use Rattle.rule_tables.specs.declared.rule.RuleId.TheVariants as rule
 use Rattle.syntax_upgrade.specs.Found.{text_start}
-use Rattle.syntax_upgrade.specs.Reports.{at_node, reports_in}
+use Rattle.syntax_upgrade.specs.Reports.{at_node, cast_reports, reports_in}
 use Rattle.syntax_upgrade.specs.NameHeads.{head_at}
 use Rattle.syntax_upgrade.specs.ReservedName as own
 use Rattle.syntax_upgrade.specs.ReservedName.{Standing, at_first, class_by, of_reserved, past, past_node, refused_if, refused_tokens}
@@ -76,14 +76,17 @@ only_if : (b : Bool) (r : Report) → (if b then r ∷ [] else []) ≡ [] → b 
 only_if false r e = refl
 only_if true r e = absurd cc
 
-cast_decided : (at : ℕ) (x : Tree) → at_node at x ≡ [] → is_undecided x ≡ false
-cast_decided at x e = only_if (is_undecided x) (undecided rule.UnsetCast Shape (text_start at (leaves x.1)) (end_of at x.1)) e
-
--- ---- all nodes
-
 empty_both : (ps qs : List Report) → ps ++ qs ≡ [] → (ps ≡ []) × (qs ≡ [])
 empty_both [] qs e = (refl, e)
 empty_both (p ∷ ps) qs e = absurd cc
+
+-- the first rule that reports nodes
+cast_decided : (at : ℕ) (x : Tree) → at_node at x ≡ [] → is_undecided x ≡ false
+cast_decided at x e =
+    only_if (is_undecided x) (undecided rule.UnsetCast Shape (text_start at (leaves x.1)) (end_of at x.1))
+    (empty_both (cast_reports at x) _ e).0
+
+-- ---- all nodes
 
 joined : (ps qs : List Report) → ps ≡ [] → qs ≡ [] → ps ++ qs ≡ []
 joined ps qs e h = rw (e, h) refl

@@ -1,11 +1,11 @@
 -- Where the text of parts begins, and where it ends.
-use Rattle.std.proofs.Common.{◌≡◌, ℕ, zero, suc, ◌+◌, ◌-◌, ◌≤◌, ◌<◌, Bool, true, not, ◌||◌, List, [], ◌∷◌, ◌++◌, length, Option, Some, None, refl, ap, sym, ◌∙◌, subst, arith, unwrap_or}
+use Rattle.std.proofs.Common.{◌≡◌, ℕ, zero, suc, ◌+◌, ◌-◌, ◌≤◌, ◌<◌, Bool, true, not, ◌||◌, List, [], ◌∷◌, ◌++◌, length, append_assoc, Option, Some, None, refl, ap, sym, ◌∙◌, subst, arith, unwrap_or}
 use Rattle.php_tree.specs.declared.kind.NodeKind.{NodeKind}
 use Rattle.php_tree.specs.declared.token.Token.{Token}
 use Rattle.php_tree.specs.Tree.{Forest, none, leaf, node, leaves}
 use Rattle.php_tree.specs.Places.{behind, end_of}
 use Rattle.syntax_rules.specs.SplitName.{is_nothing}
-use Rattle.syntax_upgrade.specs.Found.{text_start}
+use Rattle.syntax_upgrade.specs.Found.{Report, text_start}
 use Rattle.syntax_upgrade.specs.OffPlaces.{behind_more, first_start, has_trivia}
 use Rattle.syntax_upgrade.proofs.PartLemmas.{end_behind}
 
@@ -90,3 +90,7 @@ more_step (suc n) at past f x g m l e h i =
     ap (λ (k : ℕ). behind_more k past g) one
     ∙ ap (λ (p : ℕ). behind_more n p g) h
     ∙ ap (λ (v : Forest). behind_more (suc n) at v) (sym e) ∙ i
+
+-- reports of one rule after another
+pub in_turn : (g a b : List Report) → (g ++ a) ++ b ≡ g ++ (a ++ b)
+in_turn g a b = append_assoc g a b

@@ -22,9 +22,19 @@ abbrev pub cast_reports : ℕ → Tree → List Report
 cast_reports at n =
     if is_undecided n then undecided rule.UnsetCast Shape (text_start at (leaves n.1)) (end_of at n.1) ∷ [] else []
 
--- The rules that report a node whose trivia begin at a place: one line a rule.
+-- The rules that report nodes whose trivia begin at a place: one line a rule.
+abbrev pub node_rules : List (ℕ → Tree → List Report)
+node_rules =
+    cast_reports
+    ∷ []
+
+-- what these say of a node
+abbrev pub all_of : List (ℕ → Tree → List Report) → ℕ → Tree → List Report
+all_of [] at n = []
+all_of (rule ∷ rules) at n = rule at n ++ all_of rules at n
+
 abbrev pub at_node : ℕ → Tree → List Report
-at_node at n = cast_reports at n
+at_node at n = all_of node_rules at n
 
 -- Those of the own parts of a node, the first so many tokens inside a name, and of the nodes inside it.
 abbrev pub reports_in : NodeKind → Standing → ℕ → ℕ → Forest → List Report

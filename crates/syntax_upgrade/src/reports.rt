@@ -11,7 +11,8 @@ use php_rows::Parts;
 use php_tree::NodeKind;
 use std::alloc::AllocError;
 
-/// Puts the reports of a node, which begins and ends at these places, behind others.
+/// Puts the reports of a node, by one rule after another, which begins and ends at these places, behind others.
+#[tactic(auto, using(crate::proofs::OffStarts::in_turn))]
 pub(crate) fn add_at_node(
     kind: NodeKind,
     parts: Parts,
@@ -22,5 +23,6 @@ pub(crate) fn add_at_node(
     requires { end ≡ end_of at (forest_in parts) }
     ensures { OnOk result (map found_of out.new.items ≡ map found_of out.old.items ++ at_node at (kind, forest_in parts.entry)) }
 {
-    unset_cast::report(kind, parts, at, end, out)
+    unset_cast::report(kind, parts, at, end, out)?;
+    Ok(())
 }
