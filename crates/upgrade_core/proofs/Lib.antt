@@ -1,0 +1,4 @@
+pub mod MadeLemmas
+pub mod PlanLemmas
+pub mod Refusals
+pub mod RowLemmas

@@ -1,0 +1,112 @@
+// The whole upgrade.
+ghost use Rattle.std.specs.Prelude.{◌≡◌, ◌<◌, ◌^◌, length, map, None};
+ghost use Rattle.upgrade_core.specs.Limits.{limit_of};
+ghost use Rattle.upgrade_core.specs.Rows.{AreRows};
+ghost use Rattle.upgrade_core.specs.Files.{file_of};
+ghost use Rattle.upgrade_core.specs.Outcome as spec;
+ghost use Rattle.report_handing.specs.Sinks.{AllOpen, sinks_by};
+
+use crate::fault::{NamesFault, UpgradeFault};
+use crate::file::SourceFile;
+use crate::limits::limit_of;
+use crate::named::absent;
+use crate::reading::read_files;
+use crate::upgraded::{Upgraded, upgrade_rows};
+use io_ports::{PathText, PortFault, ReportSink};
+use php_rows::RowTree;
+use report_handing::{SinkStop, Slot, hand_out};
+use rule_tables::Settings;
+use std::alloc::Global;
+
+// All behind the reading.
+fn upgrade_named(
+    alloc: Global,
+    files: &[SourceFile],
+    rows: &[(PathText, RowTree)],
+    settings: &Settings,
+) -> Result<Upgraded, UpgradeFault>
+    requires limits { limit_of (map file_of files.now) ≡ None }
+    requires read { AreRows (map file_of files.now) rows.now }
+    ensures { spec.IsPlan settings.now (map file_of files.now) result }
+{
+    if let Some(path) = absent(files, settings) {
+        let path = path.copy(alloc)?;
+        return Err(UpgradeFault::Names(NamesFault::NoFile(path)));
+    }
+    let upgraded = upgrade_rows(alloc, rows, settings)?;
+    Ok(upgraded)
+}
+
+// All but the sinks.
+fn upgrade_files(
+    alloc: Global,
+    files: &[SourceFile],
+    settings: &Settings,
+) -> Result<Upgraded, UpgradeFault>
+    ensures { spec.IsPlan settings.now (map file_of files.now) result }
+{
+    if let Some(limit) = limit_of(files) {
+        return Err(UpgradeFault::Limit(limit));
+    }
+    match read_files(alloc, files) {
+        Ok(rows) => upgrade_named(alloc, files, rows.as_slice(), settings),
+        Err(fault) => Err(fault),
+    }
+}
+
+// Why an upgrade is refused where a sink refused.
+fn refused(stop: SinkStop) -> UpgradeFault
+    requires { stop.at < 2 ^ 32 }
+    ensures { result ≡ spec.sink_fault stop.fault stop.at }
+{
+    match stop.fault {
+        PortFault::Failed => UpgradeFault::Sink(stop.at as u32),
+        PortFault::Memory => UpgradeFault::Memory,
+    }
+}
+
+/// `upgrade`, with sinks of one type.
+pub fn upgrade_into<S: Slot>(
+    alloc: Global,
+    files: &[SourceFile],
+    settings: &Settings,
+    sinks: &mut [S],
+) -> Result<Upgraded, UpgradeFault>
+    requires open { AllOpen (map S.closed sinks.old) }
+    requires few { length sinks.old < 2 ^ 32 }
+    ensures told { spec.IsOutcome settings.now (map file_of files.now) result }
+    ensures sinks { spec.AreLeft settings.now (map file_of files.now) result
+        (sinks_by S.reports S.closed S.failures sinks.old) (sinks_by S.reports S.closed S.failures sinks.new) }
+    ensures kept { spec.Keeps result (sinks.new ≡ sinks.old) }
+{
+    let upgraded = upgrade_files(alloc, files, settings)?;
+    match hand_out(sinks, upgraded.reports.as_slice()) {
+        Ok(()) => Ok(upgraded),
+        Err(stop) => Err(refused(stop)),
+    }
+}
+
+/// Upgrades the files of a program, by path in byte order, by the rules that the settings leave on: each report is
+/// handed to each sink, in order, and then each sink is finished.
+///
+/// `Limit` comes exactly where a size passes its limit, the first of these: the number of files, and then, file by
+/// file, its own bytes and the bytes so far. Then `Source` comes exactly where 7.4 reads no tree in some file, the
+/// first such; then `Names` exactly where the names are refused. `Sink` comes only where the count of faults of the
+/// sink at this position rose in this call. No other refusal calls a sink.
+pub fn upgrade(
+    alloc: Global,
+    files: &[SourceFile],
+    settings: &Settings,
+    sinks: &mut Vec<Box<dyn ReportSink>>,
+) -> Result<Upgraded, UpgradeFault>
+    requires open { AllOpen (map ⟦<Box<dyn ReportSink> as Slot>⟧.closed sinks.old.items) }
+    requires few { length sinks.old.items < 2 ^ 32 }
+    ensures told { spec.IsOutcome settings.now (map file_of files.now) result }
+    ensures sinks { spec.AreLeft settings.now (map file_of files.now) result
+        (sinks_by ⟦<Box<dyn ReportSink> as Slot>⟧.reports ⟦<Box<dyn ReportSink> as Slot>⟧.closed
+        ⟦<Box<dyn ReportSink> as Slot>⟧.failures sinks.old.items)
+        (sinks_by ⟦<Box<dyn ReportSink> as Slot>⟧.reports ⟦<Box<dyn ReportSink> as Slot>⟧.closed
+        ⟦<Box<dyn ReportSink> as Slot>⟧.failures sinks.new.items) }
+{
+    upgrade_into(alloc, files, settings, sinks.as_mut_slice())
+}
