@@ -23,6 +23,16 @@ fn one_file(alloc: Global, bytes: Vec<u8>) -> Result<Vec<(PathText, Bytes)>, All
     Ok(files)
 }
 
+// One empty settings file.
+fn no_settings(alloc: Global) -> Result<Vec<(PathText, Bytes)>, AllocError>
+    ensures { IfOk result (λ v. v.items ≡ (codes "s.toml", []) ∷ []) }
+{
+    let name = PathText::new(String::from_str(alloc, "s.toml")?);
+    let mut files = Vec::new(alloc);
+    files.push((name, Bytes::new(Vec::new(alloc))))?;
+    Ok(files)
+}
+
 // Puts what the target holds on a line.
 fn push_written(text: &mut String, files: &[(PathText, Bytes)]) -> Result<(), AllocError> {
     for file in files {
@@ -34,11 +44,19 @@ fn push_written(text: &mut String, files: &[(PathText, Bytes)]) -> Result<(), Al
 
 /// What a run makes of the source of a line: its status, the line that it puts, and the bytes that it writes.
 pub fn row(alloc: Global, line: &[u8]) -> Result<String, AllocError> {
-    let mut source = CalmSource::new(one_file(alloc, plain(alloc, line)?)?, Vec::new(alloc));
+    let mut source = CalmSource::new(one_file(alloc, plain(alloc, line)?)?, no_settings(alloc)?);
     let mut target = CalmTarget::new(alloc, Vec::new(alloc));
     let mut out = CalmSink::new(Vec::new(alloc));
     let words = words(alloc)?;
-    let status = status_number(run(alloc, words.as_slice(), &mut source, &mut target, &mut out));
+    let mut sinks = Vec::new(alloc);
+    let status = status_number(run(
+        alloc,
+        words.as_slice(),
+        &mut source,
+        &mut target,
+        &mut out,
+        &mut sinks,
+    ));
     let mut text = format!(in alloc; "{status} ")?;
     push_source(&mut text, out.bytes())?;
     push_written(&mut text, target.files())?;

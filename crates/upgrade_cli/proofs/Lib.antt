@@ -1,5 +1,7 @@
 pub mod Clear
 pub mod Headlines
-pub mod Outcomes
+pub mod ReadyLemmas
+pub mod Slices
 pub mod Statuses
-pub mod Refusals
+pub mod WholeLemmas
+pub mod WritingLemmas

@@ -1,17 +1,29 @@
 -- Each status comes where it should.
-use Rattle.std.proofs.Common.{◌≡◌, ℕ, Bool, true, false, List, [], ◌∷◌, refl, ap, ◌∙◌, subst, arith}
-use Rattle.std.specs.Prelude.{Option, Some, None, IfSome, Result, Ok, Err, ◌==◌}
+use Rattle.std.proofs.Common.{◌≡◌, ℕ, Bool, true, false, List, [], ◌∷◌, refl, ap, ap₂, ◌∙◌, sym, subst, inl, inr}
+use Rattle.std.specs.Prelude.{◌⊎◌, Option, Some, None, IfSome, Result, Ok, Err, ◌==◌}
+use Rattle.command_words.specs.Words.{Asked}
 use Rattle.php_tree.specs.Tree.{File}
 use Rattle.php_tree.specs.declared.version.Version.TheVariants.{V74}
 use Rattle.php_reading.proofs.Trees.{one_tree}
 use Rattle.io_ports.specs.Files as ports
+use Rattle.io_ports.specs.Files.{content}
+use Rattle.rule_tables.specs.SettingsView.{SettingsView}
+use Rattle.upgrade_core.specs.declared.fault.LimitFault.{LimitFault}
+use Rattle.upgrade_core.specs.declared.fault.NamesFault.{NamesFault}
+use Rattle.upgrade_core.specs.declared.fault.NamesFault.TheVariants as names
+use Rattle.upgrade_core.specs.Outcome.{absent, IsNamesFault}
+use Rattle.upgrade_core.specs.Files.{Trees}
+use Rattle.upgrade_core.specs.Trees.{AreRead, IsFirstUnread}
 use Rattle.upgrade_cli.specs.declared.stop.Status.{Status}
 use Rattle.upgrade_cli.specs.declared.stop.Status.TheVariants as status
 use Rattle.upgrade_cli.specs.declared.stop.Stop.{Stop}
 use Rattle.upgrade_cli.specs.declared.stop.Stop.TheVariants as stop
 use Rattle.upgrade_cli.specs.declared.stop.Summary.{Summary}
-use Rattle.upgrade_cli.specs.Outcome.{AreMany, IsTooLong, IsUnread, AreRead, counts, IsOutcome}
-use Rattle.upgrade_cli.specs.Run.{of_done, status_of, Answers, IsExact, IsOfUpgrade}
+use Rattle.upgrade_cli.specs.Ready.{first_limit, said}
+use Rattle.upgrade_cli.specs.Outcome.{name_of, counts, Comes, ComesBy, ComesWith, IsOutcome}
+use Rattle.report_handing.specs.Sinks.{Sinks}
+use Rattle.upgrade_cli.specs.Run.{of_done, status_of, Answers, IsExact, LinePut, Outside, Told}
+use Rattle.upgrade_cli.specs.Whole.{IsUsage, IsNotUsage, IsDoing}
 
 -- ---- statuses alone
 
@@ -38,165 +50,176 @@ of_memory status.Limit wanted h = cc
 of_memory status.Fault wanted h = tt
 of_memory status.Memory wanted h = tt
 
--- where all was done there is no other status
+-- where all was done the words were not refused
 not_usage : (b : Bool) → status.Usage ≡ of_done b → ⊥
 not_usage true e = cc
 not_usage false e = cc
 
-not_settings : (b : Bool) → status.Settings ≡ of_done b → ⊥
-not_settings true e = cc
-not_settings false e = cc
-
-not_names : (b : Bool) → status.Names ≡ of_done b → ⊥
-not_names true e = cc
-not_names false e = cc
-
-settings_never : (came : Result Summary Stop) → status.Settings ≡ status_of came → ⊥
-settings_never (Ok s) e = not_settings (s.stops == 0) e
-settings_never (Err stop.Usage) e = cc
-settings_never (Err (stop.Files n)) e = cc
-settings_never (Err stop.FileBytes) e = cc
-settings_never (Err (stop.Source path)) e = cc
-settings_never (Err stop.SourceFault) e = cc
-settings_never (Err stop.TargetFault) e = cc
-settings_never (Err stop.Memory) e = cc
-
-names_never : (came : Result Summary Stop) → status.Names ≡ status_of came → ⊥
-names_never (Ok s) e = not_names (s.stops == 0) e
-names_never (Err stop.Usage) e = cc
-names_never (Err (stop.Files n)) e = cc
-names_never (Err stop.FileBytes) e = cc
-names_never (Err (stop.Source path)) e = cc
-names_never (Err stop.SourceFault) e = cc
-names_never (Err stop.TargetFault) e = cc
-names_never (Err stop.Memory) e = cc
-
-pub of_upgrade : (came : Result Summary Stop) (result : Status) → Answers result (status_of came) → IsOfUpgrade result
-of_upgrade came status.Done h = tt
-of_upgrade came status.Reported h = tt
-of_upgrade came status.Usage h = tt
-of_upgrade came status.Source h = tt
-of_upgrade came status.Settings h = settings_never came h
-of_upgrade came status.Names h = names_never came h
-of_upgrade came status.Limit h = tt
-of_upgrade came status.Fault h = tt
-of_upgrade came status.Memory h = tt
-
-pub usage_is : (came : Result Summary Stop) → status.Usage ≡ status_of came → came ≡ Err stop.Usage
+usage_is : (came : Result Summary Stop) → status.Usage ≡ status_of came → came ≡ Err stop.Usage
 usage_is (Ok s) e = absurd (not_usage (s.stops == 0) e)
 usage_is (Err stop.Usage) e = refl
-usage_is (Err (stop.Files n)) e = cc
-usage_is (Err stop.FileBytes) e = cc
+usage_is (Err (stop.Limit l)) e = cc
+usage_is (Err stop.NoSettings) e = cc
+usage_is (Err (stop.Settings fault)) e = cc
 usage_is (Err (stop.Source path)) e = cc
+usage_is (Err (stop.Names fault)) e = cc
 usage_is (Err stop.SourceFault) e = cc
+usage_is (Err stop.SinkFault) e = cc
 usage_is (Err stop.TargetFault) e = cc
 usage_is (Err stop.Memory) e = cc
 
+-- ---- refused words
+
+-- they get the usage status
+pub usage : (asked : Option Asked) (came : Result Summary Stop) (result : Status) → IsUsage asked came → Answers result (status_of came)
+    → asked ≡ None → Answers result status.Usage
+usage None came result (inl u) h e = subst (λ (x : Result Summary Stop). Answers result (status_of x)) u h
+usage None came result (inr u) h e =
+    of_memory result status.Usage (subst (λ (x : Result Summary Stop). Answers result (status_of x)) u h)
+usage (Some a) came result u h e = absurd (let no : ⊥ = cc in no)
+
+-- and no others do
+pub usage_only : (asked : Option Asked) (came : Result Summary Stop) (result : Status) → IsUsage asked came → Answers result (status_of came)
+    → result ≡ status.Usage → asked ≡ None
+usage_only None came result u h e = refl
+usage_only (Some a) came result u h e =
+    absurd (u (usage_is came (subst (λ (x : Status). Answers x (status_of came)) e h)))
+
+pub usage_came : (came : Result Summary Stop) (result : Status) → Answers result (status_of came) → result ≡ status.Usage
+    → came ≡ Err stop.Usage
+usage_came came result h e = usage_is came (subst (λ (x : Status). Answers x (status_of came)) e h)
+
 -- ---- what the sources are
 
-read_few : (fs : List ports.File) (ts : List File) → AreRead fs ts → AreMany fs → ⊥
-read_few [] ts r m = omega arith
-read_few (f ∷ []) ts r m = omega arith
-read_few (f ∷ g ∷ fs) ts r m = r
+-- their trees are one list
+read_once : (fs : List ports.File) (ts us : Trees) → AreRead fs ts → AreRead fs us → ts ≡ us
+read_once [] [] [] r q = refl
+read_once [] [] (u ∷ us) r q = absurd q
+read_once [] (t ∷ ts) us r q = absurd r
+read_once (f ∷ fs) [] us r q = absurd r
+read_once (f ∷ fs) (t ∷ ts) [] r q = absurd q
+read_once (f ∷ fs) (t ∷ ts) (u ∷ us) r q =
+    ap₂ (λ (x : List ℕ × File) (xs : Trees). x ∷ xs)
+    (ap₂ (λ (p : List ℕ) (x : File). (p, x)) (r.0.0 ∙ sym q.0.0) (one_tree V74 f.1 t.1 u.1 r.0.1 q.0.1))
+    (read_once fs ts us r.1 q.1)
 
-read_short : (fs : List ports.File) (ts : List File) → AreRead fs ts → IsTooLong fs → ⊥
-read_short [] ts r l = l
-read_short (f ∷ []) [] r l = r
-read_short (f ∷ []) (t ∷ []) r l = let small = r.small in omega arith
-read_short (f ∷ []) (t ∷ u ∷ ts) r l = r
-read_short (f ∷ g ∷ fs) ts r l = l
+-- and all or not all have one
+read_or_not : (fs : List ports.File) (ts : Trees) (path : List ℕ) → AreRead fs ts → IsFirstUnread fs path → ⊥
+read_or_not [] ts path r u = u
+read_or_not (f ∷ fs) [] path r u = r
+read_or_not (f ∷ fs) (t ∷ ts) path r (inl u) = u.1 t.1 r.0.1
+read_or_not (f ∷ fs) (t ∷ ts) path r (inr u) = read_or_not fs ts path r.1 u.1
 
-read_read : (fs : List ports.File) (ts : List File) (path : List ℕ) → AreRead fs ts → IsUnread fs path → ⊥
-read_read [] ts path r u = u
-read_read (f ∷ []) [] path r u = r
-read_read (f ∷ []) (t ∷ []) path r u = u.1.no_tree t r.reads
-read_read (f ∷ []) (t ∷ v ∷ ts) path r u = r
-read_read (f ∷ g ∷ fs) ts path r u = u
-
-many_short : (fs : List ports.File) → AreMany fs → IsTooLong fs → ⊥
-many_short [] m l = l
-many_short (f ∷ []) m l = omega arith
-many_short (f ∷ g ∷ fs) m l = l
-
-many_read : (fs : List ports.File) (path : List ℕ) → AreMany fs → IsUnread fs path → ⊥
-many_read [] path m u = u
-many_read (f ∷ []) path m u = omega arith
-many_read (f ∷ g ∷ fs) path m u = u
-
-long_read : (fs : List ports.File) (path : List ℕ) → IsTooLong fs → IsUnread fs path → ⊥
-long_read [] path l u = u
-long_read (f ∷ []) path l u = let small = u.1.small in omega arith
-long_read (f ∷ g ∷ fs) path l u = u
-
--- the sources' trees are one list
-same_trees : (fs : List ports.File) (ts us : List File) → AreRead fs ts → AreRead fs us → ts ≡ us
-same_trees [] [] [] r q = refl
-same_trees [] [] (u ∷ us) r q = absurd q
-same_trees [] (t ∷ ts) us r q = absurd r
-same_trees (f ∷ []) [] us r q = absurd r
-same_trees (f ∷ []) (t ∷ t' ∷ ts) us r q = absurd r
-same_trees (f ∷ []) (t ∷ []) [] r q = absurd q
-same_trees (f ∷ []) (t ∷ []) (u ∷ u' ∷ us) r q = absurd q
-same_trees (f ∷ []) (t ∷ []) (u ∷ []) r q = ap (λ x. x ∷ []) (one_tree V74 f.1 t u r.reads q.reads)
-same_trees (f ∷ g ∷ fs) ts us r q = absurd r
+-- names are refused or not
+names_or_not : (settings : SettingsView) (fs : List ports.File) (n : NamesFault) → absent settings fs ≡ None
+    → IsNamesFault settings fs n → ⊥
+names_or_not settings fs (names.NoFile path) e h = let no : ⊥ = cc in no
 
 -- ---- each status
 
-module _ (fs : List ports.File) (before after : Option (List ports.File)) (result : Status) where
-  on_many : (came : Result Summary Stop) → IsOutcome fs before after came → Answers result (status_of came)
-      → AreMany fs → Answers result status.Limit
-  on_many (Ok s) o h m = absurd (read_few fs o.trees o.read m)
-  on_many (Err stop.Usage) o h m = absurd o
-  on_many (Err (stop.Files n)) o h m = h
-  on_many (Err stop.FileBytes) o h m = h
-  on_many (Err (stop.Source path)) o h m = absurd (many_read fs path m o)
-  on_many (Err stop.SourceFault) o h m = of_fault result status.Limit h
-  on_many (Err stop.TargetFault) o h m = of_fault result status.Limit h
-  on_many (Err stop.Memory) o h m = of_memory result status.Limit h
+-- by settings
+by_settings : (settings : SettingsView) (fs : List ports.File) (a b : Result Summary Stop)
+    → ComesBy settings fs a → ComesBy settings fs b → status_of a ≡ status_of b
+by_settings settings fs (Ok s) (Ok s') h k =
+    ap (λ (x : Summary). status_of (Ok x))
+    (h.2 ∙ ap (λ (ts : Trees). counts settings ts) (read_once fs h.0 k.0 h.1.read k.1.read) ∙ sym k.2)
+by_settings settings fs (Ok s) (Err stop.Usage) h k = absurd k
+by_settings settings fs (Ok s) (Err (stop.Limit l)) h k = absurd k
+by_settings settings fs (Ok s) (Err stop.NoSettings) h k = absurd k
+by_settings settings fs (Ok s) (Err (stop.Settings fault)) h k = absurd k
+by_settings settings fs (Ok s) (Err (stop.Source path)) h k = absurd (read_or_not fs h.0 path h.1.read k)
+by_settings settings fs (Ok s) (Err (stop.Names fault)) h k = absurd (names_or_not settings fs fault h.1.names k.2)
+by_settings settings fs (Ok s) (Err stop.SourceFault) h k = absurd k
+by_settings settings fs (Ok s) (Err stop.SinkFault) h k = absurd k
+by_settings settings fs (Ok s) (Err stop.TargetFault) h k = absurd k
+by_settings settings fs (Ok s) (Err stop.Memory) h k = absurd k
+by_settings settings fs (Err (stop.Source p)) (Ok s) h k = absurd (read_or_not fs k.0 p k.1.read h)
+by_settings settings fs (Err (stop.Source p)) (Err stop.Usage) h k = absurd k
+by_settings settings fs (Err (stop.Source p)) (Err (stop.Limit l)) h k = absurd k
+by_settings settings fs (Err (stop.Source p)) (Err stop.NoSettings) h k = absurd k
+by_settings settings fs (Err (stop.Source p)) (Err (stop.Settings fault)) h k = absurd k
+by_settings settings fs (Err (stop.Source p)) (Err (stop.Source q)) h k = refl
+by_settings settings fs (Err (stop.Source p)) (Err (stop.Names fault)) h k = absurd (read_or_not fs k.0 p k.1 h)
+by_settings settings fs (Err (stop.Source p)) (Err stop.SourceFault) h k = absurd k
+by_settings settings fs (Err (stop.Source p)) (Err stop.SinkFault) h k = absurd k
+by_settings settings fs (Err (stop.Source p)) (Err stop.TargetFault) h k = absurd k
+by_settings settings fs (Err (stop.Source p)) (Err stop.Memory) h k = absurd k
+by_settings settings fs (Err (stop.Names n)) (Ok s) h k = absurd (names_or_not settings fs n k.1.names h.2)
+by_settings settings fs (Err (stop.Names n)) (Err stop.Usage) h k = absurd k
+by_settings settings fs (Err (stop.Names n)) (Err (stop.Limit l)) h k = absurd k
+by_settings settings fs (Err (stop.Names n)) (Err stop.NoSettings) h k = absurd k
+by_settings settings fs (Err (stop.Names n)) (Err (stop.Settings fault)) h k = absurd k
+by_settings settings fs (Err (stop.Names n)) (Err (stop.Source q)) h k = absurd (read_or_not fs h.0 q h.1 k)
+by_settings settings fs (Err (stop.Names n)) (Err (stop.Names fault)) h k = refl
+by_settings settings fs (Err (stop.Names n)) (Err stop.SourceFault) h k = absurd k
+by_settings settings fs (Err (stop.Names n)) (Err stop.SinkFault) h k = absurd k
+by_settings settings fs (Err (stop.Names n)) (Err stop.TargetFault) h k = absurd k
+by_settings settings fs (Err (stop.Names n)) (Err stop.Memory) h k = absurd k
+by_settings settings fs (Err stop.Usage) b h k = absurd h
+by_settings settings fs (Err (stop.Limit l)) b h k = absurd h
+by_settings settings fs (Err stop.NoSettings) b h k = absurd h
+by_settings settings fs (Err (stop.Settings fault)) b h k = absurd h
+by_settings settings fs (Err stop.SourceFault) b h k = absurd h
+by_settings settings fs (Err stop.SinkFault) b h k = absurd h
+by_settings settings fs (Err stop.TargetFault) b h k = absurd h
+by_settings settings fs (Err stop.Memory) b h k = absurd h
 
-  on_long : (came : Result Summary Stop) → IsOutcome fs before after came → Answers result (status_of came)
-      → IsTooLong fs → Answers result status.Limit
-  on_long (Ok s) o h l = absurd (read_short fs o.trees o.read l)
-  on_long (Err stop.Usage) o h l = absurd o
-  on_long (Err (stop.Files n)) o h l = h
-  on_long (Err stop.FileBytes) o h l = h
-  on_long (Err (stop.Source path)) o h l = absurd (long_read fs path l o)
-  on_long (Err stop.SourceFault) o h l = of_fault result status.Limit h
-  on_long (Err stop.TargetFault) o h l = of_fault result status.Limit h
-  on_long (Err stop.Memory) o h l = of_memory result status.Limit h
+comes_once : (o : Option LimitFault) (says : Result SettingsView Stop) (fs : List ports.File) (a b : Result Summary Stop)
+    → ComesWith o says fs a → ComesWith o says fs b → status_of a ≡ status_of b
+comes_once (Some l) says fs a b h k = ap status_of (h ∙ sym k)
+comes_once None (Err e) fs a b h k = ap status_of (h ∙ sym k)
+comes_once None (Ok settings) fs a b h k = by_settings settings fs a b h k
 
-  on_unread : (came : Result Summary Stop) → IsOutcome fs before after came → Answers result (status_of came)
-      → (path : List ℕ) → IsUnread fs path → Answers result status.Source
-  on_unread (Ok s) o h path u = absurd (read_read fs o.trees path o.read u)
-  on_unread (Err stop.Usage) o h path u = absurd o
-  on_unread (Err (stop.Files n)) o h path u = absurd (many_read fs path o.0 u)
-  on_unread (Err stop.FileBytes) o h path u = absurd (long_read fs path o u)
-  on_unread (Err (stop.Source p)) o h path u = h
-  on_unread (Err stop.SourceFault) o h path u = of_fault result status.Source h
-  on_unread (Err stop.TargetFault) o h path u = of_fault result status.Source h
-  on_unread (Err stop.Memory) o h path u = of_memory result status.Source h
+module _ (content : Option (List ℕ)) (fs : List ports.File) (result : Status) (b : Result Summary Stop) (k : Comes content fs b) where
+  settled : (a : Result Summary Stop) → Comes content fs a → Answers result (status_of a) → Answers result (status_of b)
+  settled a o h =
+      subst (λ (x : Status). Answers result x) (comes_once (first_limit content fs) (said content) fs a b o k) h
 
-  on_trees : (came : Result Summary Stop) → IsOutcome fs before after came → Answers result (status_of came)
-      → (ts : List File) → AreRead fs ts → Answers result (status_of (Ok (counts ts)))
-  on_trees (Ok s) o h ts r =
-      subst (λ (x : Summary). Answers result (status_of (Ok x))) (o.counted ∙ ap counts (same_trees fs o.trees ts o.read r)) h
-  on_trees (Err stop.Usage) o h ts r = absurd o
-  on_trees (Err (stop.Files n)) o h ts r = absurd (read_few fs ts r o.0)
-  on_trees (Err stop.FileBytes) o h ts r = absurd (read_short fs ts r o)
-  on_trees (Err (stop.Source p)) o h ts r = absurd (read_read fs ts p r o)
-  on_trees (Err stop.SourceFault) o h ts r = of_fault result (status_of (Ok (counts ts))) h
-  on_trees (Err stop.TargetFault) o h ts r = of_fault result (status_of (Ok (counts ts))) h
-  on_trees (Err stop.Memory) o h ts r = of_memory result (status_of (Ok (counts ts))) h
+  on_outcome : (a : Result Summary Stop) → IsOutcome content fs a → Answers result (status_of a) → Answers result (status_of b)
+  on_outcome (Ok s) o h = settled (Ok s) o h
+  on_outcome (Err stop.Usage) o h = settled (Err stop.Usage) o h
+  on_outcome (Err (stop.Limit l)) o h = settled (Err (stop.Limit l)) o h
+  on_outcome (Err stop.NoSettings) o h = settled (Err stop.NoSettings) o h
+  on_outcome (Err (stop.Settings fault)) o h = settled (Err (stop.Settings fault)) o h
+  on_outcome (Err (stop.Source path)) o h = settled (Err (stop.Source path)) o h
+  on_outcome (Err (stop.Names fault)) o h = settled (Err (stop.Names fault)) o h
+  on_outcome (Err stop.SourceFault) o h = of_fault result (status_of b) h
+  on_outcome (Err stop.SinkFault) o h = of_fault result (status_of b) h
+  on_outcome (Err stop.TargetFault) o h = of_fault result (status_of b) h
+  on_outcome (Err stop.Memory) o h = of_memory result (status_of b) h
 
-  exact_of : (came : Result Summary Stop) → IsOutcome fs before after came → Answers result (status_of came) → IsExact fs result
-  exact_of came o h = record {
-    many = on_many came o h;
-    too_long = on_long came o h;
-    unread = on_unread came o h;
-    done = on_trees came o h;
-  }
+pub exact : (asked : Asked) (stored fs : List ports.File) (came : Result Summary Stop) (result : Status)
+    → IsOutcome (content (name_of asked) stored) fs came → Answers result (status_of came) → IsExact asked stored fs result
+exact asked stored fs came result o h =
+    λ b k. on_outcome (content (name_of asked) stored) fs result b k came o h
 
-pub exact : (o before after : Option (List ports.File)) (came : Result Summary Stop) (result : Status)
-    → IfSome o (λ fs. IsOutcome fs before after came) → Answers result (status_of came) → IfSome o (λ fs. IsExact fs result)
-exact None before after came result told h = tt
-exact (Some fs) before after came result told h = exact_of fs before after result came told h
+-- ---- the run
+
+pub run_exact : (a : Option Asked) (ss fs before after : Option (List ports.File)) (old new : Sinks) (came : Result Summary Stop)
+    (result : Status) → IfSome a (λ x. IfSome ss (λ st. IfSome fs (λ f. IsDoing x st f came old new before after)))
+    → Answers result (status_of came) → IfSome a (λ x. IfSome ss (λ st. IfSome fs (λ f. IsExact x st f result)))
+run_exact None ss fs before after old new came result h w = tt
+run_exact (Some x) None fs before after old new came result h w = tt
+run_exact (Some x) (Some st) None before after old new came result h w = tt
+run_exact (Some x) (Some st) (Some f) before after old new came result h w = exact x st f came result h.outcome w
+
+pub run_told : (a : Option Asked) (ss fs : Option (List ports.File)) (old new : Outside) (came : Result Summary Stop) (result : Status)
+    → IfSome a (λ x. IfSome ss (λ st. IfSome fs (λ f. IsDoing x st f came old.sinks new.sinks old.target new.target)))
+    → Answers result (status_of came) → IfSome old.held (λ held. LinePut result came held new.held old.faults new.faults)
+    → IfSome a (λ x. IfSome ss (λ st. IfSome fs (λ f. Told x st f old new result)))
+run_told None ss fs old new came result h w l = tt
+run_told (Some x) None fs old new came result h w l = tt
+run_told (Some x) (Some st) None old new came result h w l = tt
+run_told (Some x) (Some st) (Some f) old new came result h w l = record {
+  came = came;
+  outcome = h.outcome;
+  answer = w;
+  sinks = h.sinks;
+  target = h.target;
+  line_put = l;
+}
+
+-- words that ask for something aren't refused
+pub not_usage_is : (o : Option Asked) (a : Asked) (came : Result Summary Stop) → o ≡ Some a → IsNotUsage came → IsUsage o came
+not_usage_is o a came e n =
+    subst (λ (x : Option Asked). IsUsage x came) (sym e) (λ h. subst (λ (x : Result Summary Stop). IsNotUsage x) h n)

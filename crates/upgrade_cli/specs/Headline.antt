@@ -1,26 +1,29 @@
 -- The headline: what stands after all was done, and what it does in 8.3.
-use Rattle.std.specs.Prelude.{◌≡◌, ℕ, List, [], ◌∷◌, ◌++◌, length, Option, Some, None, IfSome, Ok, All, IsTrue}
+use Rattle.std.specs.Prelude.{◌≡◌, ℕ, List, [], ◌∷◌, ◌++◌, length, map, Option, Some, None, IfSome, Ok, All, IsTrue}
+use Rattle.command_words.specs.Words.{Asked}
 use Rattle.span_edits.specs.EditList.{AreApart}
 use Rattle.span_edits.specs.Splice.{spliced}
 use Rattle.php_tree.specs.Tree.{File, file_printed}
 use Rattle.php_tree.specs.declared.version.Version.TheVariants.{V74, V83}
 use Rattle.php_reading.specs.Reading.{Reads}
-use Rattle.php_meaning.specs.runs.World.{Bytes}
 use Rattle.php_meaning.specs.laws.Laws.{KeepsMeaning, KeepsRuns}
 use Rattle.php_meaning.specs.laws.Asking.{asks_nothing}
+use Rattle.rule_tables.specs.SettingsView.{SettingsView}
 use Rattle.syntax_rules.specs.NestedTernary.{program}
-use Rattle.syntax_rules.specs.Rewritten.{edits, rewritten}
-use Rattle.syntax_rules.specs.Keeps.{all_rewritten}
+use Rattle.syntax_rules.specs.Together.{every_rule}
+use Rattle.syntax_upgrade.specs.RulesOn.{rules_in}
 use Rattle.written_tokens.specs.tokens.Written.{NoNullsafeText}
 use Rattle.written_reading.specs.Laws.{IsRead}
 use Rattle.rewritten_shapes.specs.paired.Traits.{PlainTraits}
 use Rattle.written_reading.specs.edited.PlainTexts.{PlainTexts}
 use Rattle.io_ports.specs.Files as ports
+use Rattle.io_ports.specs.Files.{content}
+use Rattle.upgrade_core.specs.Files.{Trees}
+use Rattle.upgrade_core.specs.Upgrade.{edits, rewritten, reports}
 use Rattle.upgrade_cli.specs.declared.stop.Status.{Status}
 use Rattle.upgrade_cli.specs.Lines.{summary_line}
-use Rattle.syntax_upgrade.specs.Reports.{reports}
 use Rattle.upgrade_cli.specs.Reports.{marks}
-use Rattle.upgrade_cli.specs.Outcome.{AreRead, with_written, counts}
+use Rattle.upgrade_cli.specs.Outcome.{Through, name_of, writes, planned_files, with_written, counts}
 use Rattle.upgrade_cli.specs.Run.{status_of}
 
 -- The files of which it is said what 8.3 reads. Quoted texts have no `?->` and a letter directly behind a simple variable,
@@ -31,45 +34,51 @@ pub record IsPlain (tree : File) : Type 0 where
   pub traits : PlainTraits tree.statements
   pub texts : PlainTexts tree.statements
 
--- 8.3 reads in what is written exactly the rewritten tree, and no other, where the source has no report.
-abbrev pub ReadsBack : File → Type 0
-ReadsBack tree = reports tree ≡ [] → IsPlain tree → IsRead V83 (rewritten tree)
+-- 8.3 reads in what is written exactly the rewritten tree, and no other, where no rule is off and the source has no report.
+abbrev pub ReadsBack : SettingsView → File → Type 0
+ReadsBack settings tree =
+    rules_in settings ≡ every_rule → reports settings tree ≡ [] → IsPlain tree → IsRead V83 (rewritten settings tree)
 
 -- What is written of a file's bytes, which 7.4 reads as this tree by all of its tokens and all of its grammar: the rewritten
 -- tree, printed. It is the bytes with the file's edits made, and the edits stand apart within them: each other byte stays.
-pub record IsWritten (bytes : List ℕ) (tree : File) (out : List ℕ) : Type 0 where
+pub record IsWritten (settings : SettingsView) (bytes : List ℕ) (tree : File) (out : List ℕ) : Type 0 where
   pub source : Reads V74 bytes tree
-  pub printed : out ≡ file_printed (rewritten tree)
-  pub spliced_in : out ≡ spliced bytes (edits tree)
-  pub apart : AreApart 0 (edits tree) (length bytes)
-  pub reads_back : ReadsBack tree
+  pub printed : out ≡ file_printed (rewritten settings tree)
+  pub spliced_in : out ≡ spliced bytes (edits settings tree)
+  pub apart : AreApart 0 (edits settings tree) (length bytes)
+  pub reads_back : ReadsBack settings tree
 
-abbrev pub AreWritten : List ports.File → List File → Type 0
-AreWritten (f ∷ fs) (t ∷ ts) = IsWritten f.1 t (file_printed (rewritten t)) × AreWritten fs ts
-AreWritten files trees = Unit {0}
+-- the files of a program, one by one: by its path, each tree is that of the file, and these bytes are written of it
+abbrev pub AreWritten : SettingsView → List ports.File → Trees → List ports.File → Type 0
+AreWritten settings [] [] [] = Unit {0}
+AreWritten settings (f ∷ fs) (t ∷ ts) (w ∷ ws) =
+    (t.0 ≡ f.0) × (w.0 ≡ f.0) × IsWritten settings f.1 t.1 w.1 × AreWritten settings fs ts ws
+AreWritten settings files trees written = ⊥
 
--- the trees by their paths
-abbrev pub by_path : List ports.File → List File → List (Bytes × File)
-by_path (f ∷ fs) (t ∷ ts) = (f.0, t) ∷ by_path fs ts
-by_path files trees = []
+-- the same files, rewritten
+abbrev pub all_rewritten : SettingsView → Trees → Trees
+all_rewritten settings trees = map (λ t. (t.0, rewritten settings t.1)) trees
 
 -- From every entry, on every input and for every bound, the rewritten files' 8.3 run has the echo and the end of the files'
--- 7.4 run, wherever that one stays inside the profile, starts no file with a report, and asks at no point where the versions
--- differ. Files without an operator that may ask need not meet the last.
-pub record MeansTheSame (files : List (Bytes × File)) : Type 0 where
-  pub meaning : KeepsMeaning (program files None) (marks files) (program (all_rewritten files) None)
-  pub runs : All (λ f. IsTrue (asks_nothing f.1)) (program files None).files
-      → KeepsRuns (program files None) (marks files) (program (all_rewritten files) None)
+-- 7.4 run, wherever that one stays inside the profile, starts no file with a report of weight `compile`, and asks at no point where the versions
+-- differ. Each run starts with the file that the settings name for it. Files without an operator that may ask need not meet
+-- the last.
+pub record MeansTheSame (settings : SettingsView) (trees : Trees) : Type 0 where
+  pub meaning : KeepsMeaning (program trees settings.prepend) (marks settings trees)
+      (program (all_rewritten settings trees) settings.prepend)
+  pub runs : All (λ f. IsTrue (asks_nothing f.1)) (program trees settings.prepend).files
+      → KeepsRuns (program trees settings.prepend) (marks settings trees)
+      (program (all_rewritten settings trees) settings.prepend)
 
--- The sources have these trees in 7.4. The target holds what is written of them, and its other files. The line has the counts,
--- and the status is 2 exactly where they have a report. The rewritten trees do in 8.3 what the sources do in 7.4.
+-- Nothing is refused: the settings are those of their file, and all sources have these trees in 7.4. The target holds what is
+-- written of them, and its other files, or with `check` what it held. The line has the counts, and the status is 2 exactly
+-- where a report stops the claim. The rewritten trees do in 8.3 what the sources do in 7.4.
 pub record Headline
-    (files before : List ports.File) (after : Option (List ports.File)) (held held' : Option (List ℕ)) (result : Status)
-    : Type 0 where
-  pub trees : List File
-  pub read : AreRead files trees
-  pub target : after ≡ Some (with_written files trees before)
-  pub written : AreWritten files trees
-  pub line : IfSome held (λ old. held' ≡ Some (old ++ summary_line (counts trees)))
-  pub status : result ≡ status_of (Ok (counts trees))
-  pub means_the_same : MeansTheSame (by_path files trees)
+    (asked : Asked) (stored files before : List ports.File) (after : Option (List ports.File))
+    (held held' : Option (List ℕ)) (result : Status) : Type 0 where
+  pub through : Through (content (name_of asked) stored) files
+  pub written : AreWritten through.settings files through.trees (planned_files through)
+  pub target : after ≡ Some (with_written (writes asked) (planned_files through) before)
+  pub line : IfSome held (λ old. held' ≡ Some (old ++ summary_line (counts through.settings through.trees)))
+  pub status : result ≡ status_of (Ok (counts through.settings through.trees))
+  pub means_the_same : MeansTheSame through.settings through.trees

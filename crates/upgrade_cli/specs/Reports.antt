@@ -1,12 +1,19 @@
--- The marks of the reports of the rules on syntax: this project's own.
-use Rattle.std.specs.Prelude.{List, [], ◌∷◌, ◌++◌, map}
-use Rattle.php_tree.specs.Tree.{File}
+-- The marks of reports: this project's own.
+use Rattle.std.specs.Prelude.{List, [], ◌∷◌, ◌++◌}
+use Rattle.std.specs.List.{flat_map}
+use Rattle.io_ports.specs.declared.report.Weight.TheVariants as weight
 use Rattle.php_meaning.specs.runs.World.{Bytes}
 use Rattle.php_meaning.specs.runs.Run.{Mark, CompileOf}
-use Rattle.syntax_upgrade.specs.Reports.{reports}
+use Rattle.rule_tables.specs.SettingsView.{SettingsView}
+use Rattle.syntax_upgrade.specs.Found.{Report}
+use Rattle.upgrade_core.specs.Files.{Trees}
+use Rattle.upgrade_core.specs.Upgrade.{reports}
 
--- The marks of some files by their paths: each such report weighs `compile`. (These are casts `(unset)` of anything but a plain
--- variable, and words that 8.3 refuses.)
-abbrev pub marks : List (Bytes × File) → List Mark
-marks [] = []
-marks (f ∷ fs) = map (λ r. CompileOf f.0) (reports f.1) ++ marks fs
+-- a report of weight `compile` marks its file
+abbrev pub mark_of : Bytes → Report → List Mark
+mark_of path r = elim r.weight [ weight.Compile ↦ CompileOf path ∷ [] | weight.Stop ↦ [] | weight.Note ↦ [] ]
+
+-- the marks of some files by their paths
+abbrev pub marks : SettingsView → Trees → List Mark
+marks settings [] = []
+marks settings (t ∷ ts) = flat_map (mark_of t.0) (reports settings t.1) ++ marks settings ts

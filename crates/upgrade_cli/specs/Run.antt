@@ -1,26 +1,29 @@
 -- What a run answers, and what stands after it.
 use Rattle.std.specs.Prelude.{◌≡◌, ◌⊎◌, ◌==◌, ◌++◌, ℕ, Bool, true, false, List, Option, Some, IfSome, Result, Ok, Err}
-use Rattle.php_tree.specs.Tree.{File}
+use Rattle.command_words.specs.Words.{Asked}
 use Rattle.io_ports.specs.Causes.{Rose}
-use Rattle.io_ports.specs.declared.fault.PortFault.{PortFault}
-use Rattle.io_ports.specs.declared.fault.PortFault.TheVariants.{Failed, Memory}
 use Rattle.io_ports.specs.Files as ports
+use Rattle.io_ports.specs.Files.{content}
+use Rattle.report_handing.specs.Sinks.{Sinks, IsSameButAt}
 use Rattle.upgrade_cli.specs.declared.stop.Status.{Status}
 use Rattle.upgrade_cli.specs.declared.stop.Status.TheVariants as status
 use Rattle.upgrade_cli.specs.declared.stop.Stop.{Stop}
 use Rattle.upgrade_cli.specs.declared.stop.Stop.TheVariants as stop
 use Rattle.upgrade_cli.specs.declared.stop.Summary.{Summary}
 use Rattle.upgrade_cli.specs.Lines.{line, stop_line}
-use Rattle.upgrade_cli.specs.Outcome.{AreMany, IsTooLong, IsUnread, AreRead, counts, IsOutcome}
+use Rattle.upgrade_cli.specs.Outcome.{name_of, writes, Comes, IsOutcome, SinksLeft, TargetLeft}
 
 -- ---- statuses
 
 abbrev pub of_stop : Stop → Status
 of_stop stop.Usage = status.Usage
-of_stop (stop.Files n) = status.Limit
-of_stop stop.FileBytes = status.Limit
+of_stop (stop.Limit l) = status.Limit
+of_stop stop.NoSettings = status.Settings
+of_stop (stop.Settings fault) = status.Settings
 of_stop (stop.Source path) = status.Source
+of_stop (stop.Names fault) = status.Names
 of_stop stop.SourceFault = status.Fault
+of_stop stop.SinkFault = status.Fault
 of_stop stop.TargetFault = status.Fault
 of_stop stop.Memory = status.Memory
 
@@ -64,29 +67,38 @@ Unless status.Fault P = Unit {0}
 Unless status.Memory P = Unit {0}
 Unless _ P = P
 
--- where the words or the sources are refused
+-- where the words, the sources or the settings are refused
 abbrev pub KeepsAt : Status → Type 0 → Type 0
 KeepsAt status.Usage P = P
 KeepsAt status.Source P = P
+KeepsAt status.Settings P = P
+KeepsAt status.Names P = P
 KeepsAt status.Limit P = P
 KeepsAt _ P = Unit {0}
 
 -- ---- faults
 
--- why a run stops where the source or the target refused
-abbrev pub source_stop : PortFault → Stop
-source_stop Failed = stop.SourceFault
-source_stop Memory = stop.Memory
+-- the counts of the source, of the sinks and of the target
+pub record Counts : Type 0 where
+  pub source : ℕ
+  pub sinks : List ℕ
+  pub target : ℕ
 
-abbrev pub target_stop : PortFault → Stop
-target_stop Failed = stop.TargetFault
-target_stop Memory = stop.Memory
+-- the count of one of the sinks rose
+abbrev pub OneRose : List ℕ → List ℕ → Type 0
+OneRose ns ms = (at : ℕ) × IsSameButAt at ns ms
 
--- A fault of the source or of the target only where its count rose; no other outcome changes one.
-abbrev pub HaveCauses : {X : Type 0} → Result X Stop → ℕ → ℕ → ℕ → ℕ → Type 0
-HaveCauses (Err stop.SourceFault) s s' t t' = Rose s s' × (t' ≡ t)
-HaveCauses (Err stop.TargetFault) s s' t t' = (s' ≡ s) × Rose t t'
-HaveCauses _ s s' t t' = (s' ≡ s) × (t' ≡ t)
+-- A fault of the source, of a sink or of the target only where its count rose; no other outcome changes one.
+abbrev pub HaveCauses : {X : Type 0} → Result X Stop → Counts → Counts → Type 0
+HaveCauses (Err stop.SourceFault) c c' = Rose c.source c'.source × (c'.sinks ≡ c.sinks) × (c'.target ≡ c.target)
+HaveCauses (Err stop.SinkFault) c c' = (c'.source ≡ c.source) × OneRose c.sinks c'.sinks × (c'.target ≡ c.target)
+HaveCauses (Err stop.TargetFault) c c' = (c'.source ≡ c.source) × (c'.sinks ≡ c.sinks) × Rose c.target c'.target
+HaveCauses _ c c' = (c'.source ≡ c.source) × (c'.sinks ≡ c.sinks) × (c'.target ≡ c.target)
+
+-- the same of the sinks alone
+abbrev pub SinkCause : {X : Type 0} → Result X Stop → List ℕ → List ℕ → Type 0
+SinkCause (Err stop.SinkFault) before now = OneRose before now
+SinkCause _ before now = now ≡ before
 
 -- the same of the source alone, and of the target alone
 abbrev pub SourceCause : {X : Type 0} → Result X Stop → ℕ → ℕ → Type 0
@@ -97,19 +109,21 @@ abbrev pub TargetCause : {X : Type 0} → Result X Stop → ℕ → ℕ → Type
 TargetCause (Err stop.TargetFault) before now = Rose before now
 TargetCause _ before now = now ≡ before
 
--- a fault that doesn't tell of the source or the target only where the count of `out` rose
+-- a fault that doesn't tell of the source, a sink or the target only where the count of `out` rose
 abbrev pub OutCause : Status → Result Summary Stop → ℕ → ℕ → Type 0
 OutCause status.Fault (Err stop.SourceFault) before now = Unit {0}
+OutCause status.Fault (Err stop.SinkFault) before now = Unit {0}
 OutCause status.Fault (Err stop.TargetFault) before now = Unit {0}
 OutCause status.Fault came before now = Rose before now
 OutCause status.Memory came before now = Unit {0}
 OutCause _ came before now = now ≡ before
 
-abbrev pub AnyRose : ℕ → ℕ → ℕ → ℕ → ℕ → ℕ → Type 0
-AnyRose s s' t t' o o' = Rose s s' ⊎ (Rose t t' ⊎ Rose o o')
+-- a count rose: of the source, of a sink, of the target or of `out`
+abbrev pub AnyRose : Counts → Counts → ℕ → ℕ → Type 0
+AnyRose c c' o o' = Rose c.source c'.source ⊎ (OneRose c.sinks c'.sinks ⊎ (Rose c.target c'.target ⊎ Rose o o'))
 
-abbrev pub NoneRose : ℕ → ℕ → ℕ → ℕ → ℕ → ℕ → Type 0
-NoneRose s s' t t' o o' = (s' ≡ s) × (t' ≡ t) × (o' ≡ o)
+abbrev pub NoneRose : Counts → Counts → ℕ → ℕ → Type 0
+NoneRose c c' o o' = (c'.source ≡ c.source) × (c'.sinks ≡ c.sinks) × (c'.target ≡ c.target) × (o' ≡ o)
 
 -- whatever stops a run, but a fault of the target and want of memory, leaves the target
 abbrev pub Keeps : {X : Type 0} → Result X Stop → Type 0 → Type 0
@@ -118,10 +132,13 @@ Keeps (Err stop.TargetFault) P = Unit {0}
 Keeps (Err stop.Memory) P = Unit {0}
 Keeps (Err _) P = P
 
--- neither is a fault of the source
-abbrev pub NotSource : {X : Type 0} → Result X Stop → Type 0
-NotSource (Err stop.SourceFault) = ⊥
-NotSource _ = Unit {0}
+-- and, but a fault of a sink besides, the sinks
+abbrev pub KeepsSinks : {X : Type 0} → Result X Stop → Type 0 → Type 0
+KeepsSinks (Ok x) P = Unit {0}
+KeepsSinks (Err stop.SinkFault) P = Unit {0}
+KeepsSinks (Err stop.TargetFault) P = Unit {0}
+KeepsSinks (Err stop.Memory) P = Unit {0}
+KeepsSinks (Err _) P = P
 
 -- ---- what is put on `out`
 
@@ -141,28 +158,31 @@ LinePut _ came old now o o' = Added old (line came) now
 
 -- ---- the run, over told sources
 
--- What a run with good words came to, its status, and the line on `out` where that tells its bytes.
-pub record Told (files : List ports.File) (before after : Option (List ports.File)) (held held' : Option (List ℕ)) (o o' : ℕ) (result : Status) : Type 0 where
+-- what is told, before a run or after it: the target's files, the sinks, and the bytes on `out` with its count of faults
+pub record Outside : Type 0 where
+  pub target : Option (List ports.File)
+  pub sinks : Sinks
+  pub held : Option (List ℕ)
+  pub faults : ℕ
+
+-- What a run that was asked for came to, over settings files and sources; its status, what stands in the sinks and the
+-- target, and the line on `out` where that tells its bytes.
+pub record Told (asked : Asked) (stored files : List ports.File) (old new : Outside) (result : Status) : Type 0 where
   pub came : Result Summary Stop
-  pub outcome : IsOutcome files before after came
+  pub outcome : IsOutcome (content (name_of asked) stored) files came
   pub answer : Answers result (status_of came)
-  pub line_put : IfSome held (λ old. LinePut result came old held' o o')
+  pub sinks : SinksLeft (content (name_of asked) stored) files came old.sinks new.sinks
+  pub target : IfSome old.target (λ before. TargetLeft (writes asked) (content (name_of asked) stored) files came before new.target)
+  pub line_put : IfSome old.held (λ held. LinePut result came held new.held old.faults new.faults)
 
--- Each status comes where it should, in this order: the number of files and their bytes, then their trees, then their reports.
-pub record IsExact (files : List ports.File) (result : Status) : Type 0 where
-  pub many : AreMany files → Answers result status.Limit
-  pub too_long : IsTooLong files → Answers result status.Limit
-  pub unread : (path : List ℕ) → IsUnread files path → Answers result status.Source
-  pub done : (trees : List File) → AreRead files trees → Answers result (status_of (Ok (counts trees)))
-
--- no other status comes
-abbrev pub IsOfUpgrade : Status → Type 0
-IsOfUpgrade status.Settings = ⊥
-IsOfUpgrade status.Names = ⊥
-IsOfUpgrade _ = Unit {0}
+-- Each status comes where it should: that of whatever the run comes to.
+abbrev pub IsExact : Asked → List ports.File → List ports.File → Status → Type 0
+IsExact asked stored files result =
+    (came : Result Summary Stop) → Comes (content (name_of asked) stored) files came → Answers result (status_of came)
 
 -- The line after a fault names an object whose count rose; there is none where the count of `out` rose.
-abbrev pub FaultLine : ℕ → ℕ → ℕ → ℕ → ℕ → ℕ → List ℕ → Option (List ℕ) → Type 0
-FaultLine s s' t t' o o' old now =
-    (Rose s s' × Added old (line (Err stop.SourceFault)) now)
-    ⊎ ((Rose t t' × Added old (line (Err stop.TargetFault)) now) ⊎ Rose o o')
+abbrev pub FaultLine : Counts → Counts → ℕ → ℕ → List ℕ → Option (List ℕ) → Type 0
+FaultLine c c' o o' old now =
+    (Rose c.source c'.source × Added old (line (Err stop.SourceFault)) now)
+    ⊎ ((OneRose c.sinks c'.sinks × Added old (line (Err stop.SinkFault)) now)
+    ⊎ ((Rose c.target c'.target × Added old (line (Err stop.TargetFault)) now) ⊎ Rose o o'))

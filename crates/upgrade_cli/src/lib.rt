@@ -1,15 +1,15 @@
 //! The upgrader's top call: PHP 7.4 sources in, PHP 8.3 sources out.
 #![tactic(auto)]
 
+mod files;
 mod line;
-mod sources;
+mod listing;
+mod ready;
+mod settings;
 mod stop;
-#[cfg(test)]
-mod tests;
 mod top;
-mod trees;
-mod upgrade;
-mod words;
+mod whole;
+mod writing;
 
 pub use stop::{Status, status_number};
 pub use top::run;

@@ -1,9 +1,13 @@
 // How a run ends, and why it stops.
 ghost use Rattle.std.specs.Prelude.{◌≡◌};
 ghost use Rattle.upgrade_cli.specs.Run as spec;
+ghost use Rattle.upgrade_cli.specs.Stops as stops;
 
+use command_words::WordsFault;
 use io_ports::{PathText, PortFault};
+use rule_tables::SettingsFault;
 use std::alloc::AllocError;
+use upgrade_core::{LimitFault, NamesFault, UpgradeFault};
 
 /// How a run ended.
 #[derive(Clone, Copy, Debug, PartialEq, Eq)]
@@ -22,7 +26,7 @@ pub enum Status {
     Names,
     /// A size passes its limit.
     Limit,
-    /// The source, the target or `out` failed.
+    /// The source, a sink, the target or `out` failed.
     Fault,
     /// No memory was at hand.
     Memory,
@@ -50,14 +54,20 @@ pub fn status_number(status: Status) -> u8
 pub enum Stop {
     /// The words are not in the grammar.
     Usage,
-    /// There are so many files, which is more than one.
-    Files(usize),
-    /// A file has more than 1,048,576 bytes.
-    FileBytes,
+    /// A size passes its limit.
+    Limit(LimitFault),
+    /// There is no settings file.
+    NoSettings,
+    /// The settings are refused.
+    Settings(SettingsFault),
     /// The file of this path has no tree.
     Source(PathText),
+    /// The names are refused.
+    Names(NamesFault),
     /// The source failed.
     SourceFault,
+    /// A sink of reports failed.
+    SinkFault,
     /// The target failed.
     TargetFault,
     /// No memory was at hand.
@@ -80,9 +90,9 @@ impl From<AllocError> for Stop {
 #[derive(Clone, Copy, Debug, PartialEq, Eq)]
 pub struct Summary {
     pub files: usize,
-    pub edits: usize,
+    pub edits: u64,
     pub reports: usize,
-    pub stops: usize,
+    pub stops: u64,
 }
 
 // The status where all was done.
@@ -103,10 +113,13 @@ pub fn status_of(came: &Result<Summary, Stop>) -> Status
     match came {
         Ok(summary) => of_done(summary.stops == 0),
         Err(Stop::Usage) => Status::Usage,
-        Err(Stop::Files(_)) => Status::Limit,
-        Err(Stop::FileBytes) => Status::Limit,
+        Err(Stop::Limit(_)) => Status::Limit,
+        Err(Stop::NoSettings) => Status::Settings,
+        Err(Stop::Settings(_)) => Status::Settings,
         Err(Stop::Source(_)) => Status::Source,
+        Err(Stop::Names(_)) => Status::Names,
         Err(Stop::SourceFault) => Status::Fault,
+        Err(Stop::SinkFault) => Status::Fault,
         Err(Stop::TargetFault) => Status::Fault,
         Err(Stop::Memory) => Status::Memory,
     }
@@ -114,7 +127,7 @@ pub fn status_of(came: &Result<Summary, Stop>) -> Status
 
 /// Why a run stops where the source refused.
 pub fn source_stop(fault: PortFault) -> Stop
-    ensures { result ≡ spec.source_stop fault }
+    ensures { result ≡ stops.source_stop fault }
 {
     match fault {
         PortFault::Failed => Stop::SourceFault,
@@ -124,10 +137,43 @@ pub fn source_stop(fault: PortFault) -> Stop
 
 /// Why a run stops where the target refused.
 pub fn target_stop(fault: PortFault) -> Stop
-    ensures { result ≡ spec.target_stop fault }
+    ensures { result ≡ stops.target_stop fault }
 {
     match fault {
         PortFault::Failed => Stop::TargetFault,
         PortFault::Memory => Stop::Memory,
+    }
+}
+
+/// Why a run stops where the words were refused.
+pub fn words_stop(fault: WordsFault) -> Stop
+    ensures { result ≡ stops.words_stop fault }
+{
+    match fault {
+        WordsFault::Refused => Stop::Usage,
+        WordsFault::Memory => Stop::Memory,
+    }
+}
+
+/// Why a run stops where the settings were refused.
+pub fn settings_stop(fault: SettingsFault) -> Stop
+    ensures { result ≡ stops.settings_stop fault }
+{
+    match fault {
+        SettingsFault::Memory => Stop::Memory,
+        other => Stop::Settings(other),
+    }
+}
+
+/// Why a run stops where the upgrade was refused.
+pub fn upgrade_stop(fault: UpgradeFault) -> Stop
+    ensures { result ≡ stops.upgrade_stop fault }
+{
+    match fault {
+        UpgradeFault::Source(path) => Stop::Source(path),
+        UpgradeFault::Names(names) => Stop::Names(names),
+        UpgradeFault::Limit(limit) => Stop::Limit(limit),
+        UpgradeFault::Sink(_) => Stop::SinkFault,
+        UpgradeFault::Memory => Stop::Memory,
     }
 }
