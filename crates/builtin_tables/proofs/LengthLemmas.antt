@@ -26,13 +26,17 @@ one_length xs ys e =
     sym (length-map xs to_ascii_lowercase) ∙ same_length nat_eq (map to_ascii_lowercase xs) (map to_ascii_lowercase ys) e ∙ length-map ys to_ascii_lowercase
 
 -- a row that the name isn't passes on what is found behind it, whether its length is another or not
-passed_on : {A : Type 0} (same : List ℕ → List ℕ → Bool) (r : List ℕ × A) (rs more : List (List ℕ × A)) (name : List ℕ) → found_by same more name ≡ found_by same rs name → (x y : Bool) → same r.0 name ≡ x → (x ≡ true → y ≡ true) → found_by same (cond y (r ∷ more) more) name ≡ cond x (Some r.1) (found_by same rs name)
+passed_on : {A : Type 0} (same : List ℕ → List ℕ → Bool) (r : List ℕ × A) (rs more : List (List ℕ × A))
+    (name : List ℕ) → found_by same more name ≡ found_by same rs name → (x y : Bool) → same r.0 name ≡ x
+    → (x ≡ true → y ≡ true) → found_by same (cond y (r ∷ more) more) name ≡ cond x (Some r.1) (found_by same rs name)
 passed_on same r rs more name ih true true e f = rw e refl
 passed_on same r rs more name ih true false e f = let h : false ≡ true = f refl in absurd cc
 passed_on same r rs more name ih false true e f = rw (e, ih) refl
 passed_on same r rs more name ih false false e f = ih
 
-among : {A : Type 0} (same : List ℕ → List ℕ → Bool) → ((a b : List ℕ) → same a b ≡ true → length a ≡ length b) → (rows : List (List ℕ × A)) (name : List ℕ) → found_by same (of_length (length name) rows) name ≡ found_by same rows name
+among : {A : Type 0} (same : List ℕ → List ℕ → Bool) → ((a b : List ℕ) → same a b ≡ true → length a ≡ length b)
+    → (rows : List (List ℕ × A)) (name : List ℕ) → found_by same (of_length (length name) rows) name ≡ found_by same
+    rows name
 among same h [] name = refl
 among same h (r ∷ rs) name =
     passed_on same r rs (of_length (length name) rs) name (among same h rs name) (same r.0 name) (nat_eq (length r.0) (length name)) refl

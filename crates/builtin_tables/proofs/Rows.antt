@@ -70,3 +70,16 @@ constant_in_lower_case = refl
 constant_all_errors : constant_named (codes "E_ALL") ≡ None
 unfolding word_constants named_constants is_same_name
 constant_all_errors = refl
+
+-- a name is found whole, and `strlen` is older than 8.0; a constant is found with its case alone
+named_by_a_part : found builtin_rows (codes "strle") ≡ None
+unfolding builtin_rows is_same_name
+named_by_a_part = refl
+
+newer_strlen : found newer_functions (codes "strlen") ≡ None
+unfolding newer_functions is_same_name
+newer_strlen = refl
+
+newer_in_lower_case : found_exactly newer_constants (codes "t_enum") ≡ None
+unfolding newer_constants
+newer_in_lower_case = refl

@@ -3,7 +3,36 @@
 -- own: the manual's functions take more.)
 use Rattle.std.specs.Prelude.{ℕ, List, [], ◌∷◌, codes}
 use Rattle.builtin_tables.specs.declared.builtin.Builtin.{Builtin}
-use Rattle.builtin_tables.specs.declared.builtin.Builtin.TheVariants.{Strlen, Count, Substr, Strpos, Implode, Join, Explode, StrRepeat, StrReplace, Trim, Chr, Ord, Intval, Intdiv, IsInt, IsString, IsArray, IsNull, IsBool, IsFloat, IsReal, ArrayKeys, ArrayValues, ArrayKeyExists, GetClass, Define, GetMagicQuotesGpc, GetMagicQuotesRuntime}
+use Rattle.builtin_tables.specs.declared.builtin.Builtin.TheVariants.{
+  Strlen,
+  Count,
+  Substr,
+  Strpos,
+  Implode,
+  Join,
+  Explode,
+  StrRepeat,
+  StrReplace,
+  Trim,
+  Chr,
+  Ord,
+  Intval,
+  Intdiv,
+  IsInt,
+  IsString,
+  IsArray,
+  IsNull,
+  IsBool,
+  IsFloat,
+  IsReal,
+  ArrayKeys,
+  ArrayValues,
+  ArrayKeyExists,
+  GetClass,
+  Define,
+  GetMagicQuotesGpc,
+  GetMagicQuotesRuntime,
+}
 use Rattle.builtin_tables.specs.declared.kinds.ArgumentKind.{ArgumentKind}
 use Rattle.builtin_tables.specs.declared.kinds.ArgumentKind.TheVariants as argument
 use Rattle.builtin_tables.specs.declared.kinds.ResultKind.{ResultKind}

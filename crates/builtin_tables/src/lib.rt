@@ -17,6 +17,3 @@ pub use newer_classes::newer_class;
 pub use newer_constants::newer_constant;
 pub use newer_functions::newer_function;
 pub use release::Release;
-
-#[cfg(test)]
-mod tests;

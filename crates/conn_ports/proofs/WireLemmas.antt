@@ -17,7 +17,8 @@ some_left at n input within last e =
     let none : n ≡ 0 = sym (length-take-le n (drop at input) fits) ∙ ap length e in
     drop_all (at + n) input (let l : length input ≤ at = last none in omega arith)
 
-takes_piece : (at n : ℕ) (input written : List ℕ) → at + n ≤ length input → (n ≡ 0 → length input ≤ at) → Takes (take n (drop at input)) (cut at input written) (cut (at + n) input written)
+takes_piece : (at n : ℕ) (input written : List ℕ) → at + n ≤ length input → (n ≡ 0 → length input ≤ at)
+    → Takes (take n (drop at input)) (cut at input written) (cut (at + n) input written)
 takes_piece at n input written within last = record {
   taken = take-add at n input;
   left = sym (take-append-drop n (drop at input)) ∙ ap (λ (l : List ℕ). take n (drop at input) ++ l) (sym (drop_add at n input));
@@ -26,7 +27,9 @@ takes_piece at n input written within last = record {
 }
 
 -- a read of `n` bytes from a place
-pub reads_piece : (max at n : ℕ) (input written old new : List ℕ) → n ≤ max → at + n ≤ length input → (n ≡ 0 → length input ≤ at) → new ≡ old ++ take n (drop at input) → Reads max old new (Some (cut at input written)) (Some (cut (at + n) input written)) n
+pub reads_piece : (max at n : ℕ) (input written old new : List ℕ) → n ≤ max → at + n ≤ length input
+    → (n ≡ 0 → length input ≤ at) → new ≡ old ++ take n (drop at input)
+    → Reads max old new (Some (cut at input written)) (Some (cut (at + n) input written)) n
 reads_piece max at n input written old new most within last e = record {
   bytes = take n (drop at input);
   appended = e;

@@ -8,8 +8,6 @@ mod host;
 mod listener;
 mod memory;
 mod returned;
-#[cfg(test)]
-mod tests;
 mod wire;
 
 pub use calm::{CalmConn, CalmListener};

@@ -35,7 +35,9 @@ pub put_sets : (path bytes : List ℕ) (files : List File) → content path (put
 put_sets path bytes [] = rw (same path) refl
 put_sets path bytes (f ∷ fs) = by (path_cmp path f.0) refl (put_sets path bytes fs)
   where
-    by : (o : Ordering) → path_cmp path f.0 ≡ o → content path (put_file path bytes fs) ≡ Some bytes → content path (match_ordering o ((path, bytes) ∷ f ∷ fs) ((f.0, bytes) ∷ fs) (f ∷ put_file path bytes fs)) ≡ Some bytes
+    by : (o : Ordering) → path_cmp path f.0 ≡ o → content path (put_file path bytes fs) ≡ Some bytes
+        → content path (match_ordering o ((path, bytes) ∷ f ∷ fs) ((f.0, bytes) ∷ fs) (f ∷ put_file path bytes fs)) ≡
+        Some bytes
     by Less e r = rw (same path) refl
     by Equal e r =
         let is : bytes_eq f.0 path ≡ true = (bytes_decides f.0 path).1 (sym (equal_is path f.0 e)) in
@@ -51,7 +53,9 @@ put_keeps path bytes [] q n =
     rw other refl
 put_keeps path bytes (f ∷ fs) q n = by (path_cmp path f.0) refl (put_keeps path bytes fs q n)
   where
-    by : (o : Ordering) → path_cmp path f.0 ≡ o → content q (put_file path bytes fs) ≡ content q fs → content q (match_ordering o ((path, bytes) ∷ f ∷ fs) ((f.0, bytes) ∷ fs) (f ∷ put_file path bytes fs)) ≡ content q (f ∷ fs)
+    by : (o : Ordering) → path_cmp path f.0 ≡ o → content q (put_file path bytes fs) ≡ content q fs
+        → content q (match_ordering o ((path, bytes) ∷ f ∷ fs) ((f.0, bytes) ∷ fs) (f ∷ put_file path bytes fs)) ≡
+        content q (f ∷ fs)
     by Less e r =
         let other : bytes_eq path q ≡ false = differs path q (λ e. n (sym e)) in
         rw other refl
@@ -78,12 +82,16 @@ put_is_tree path bytes (f ∷ []) t = by (path_cmp path f.0) refl
     by Greater e = (greater_is path f.0 e, tt)
 put_is_tree path bytes (f ∷ g ∷ fs) t = by (path_cmp path f.0) refl (put_is_tree path bytes (g ∷ fs) t.1)
   where
-    after : (o : Ordering) → path_cmp f.0 path ≡ Less → IsTree (match_ordering o ((path, bytes) ∷ g ∷ fs) ((g.0, bytes) ∷ fs) (g ∷ put_file path bytes fs)) → IsTree (f ∷ match_ordering o ((path, bytes) ∷ g ∷ fs) ((g.0, bytes) ∷ fs) (g ∷ put_file path bytes fs))
+    after : (o : Ordering) → path_cmp f.0 path ≡ Less → IsTree
+        (match_ordering o ((path, bytes) ∷ g ∷ fs) ((g.0, bytes) ∷ fs) (g ∷ put_file path bytes fs))
+        → IsTree (f ∷ match_ordering o ((path, bytes) ∷ g ∷ fs) ((g.0, bytes) ∷ fs) (g ∷ put_file path bytes fs))
     after Less b r = (b, r)
     after Equal b r = (t.0, r)
     after Greater b r = (t.0, r)
 
-    by : (o : Ordering) → path_cmp path f.0 ≡ o → IsTree (put_file path bytes (g ∷ fs)) → IsTree (match_ordering o ((path, bytes) ∷ f ∷ g ∷ fs) ((f.0, bytes) ∷ g ∷ fs) (f ∷ put_file path bytes (g ∷ fs)))
+    by : (o : Ordering) → path_cmp path f.0 ≡ o → IsTree (put_file path bytes (g ∷ fs))
+        → IsTree (match_ordering o ((path, bytes) ∷ f ∷ g ∷ fs) ((f.0, bytes) ∷ g ∷ fs)
+        (f ∷ put_file path bytes (g ∷ fs)))
     by Less e r = (e, t)
     by Equal e r = t
     by Greater e r = after (path_cmp path g.0) (greater_is path f.0 e) r

@@ -12,7 +12,10 @@ lines_more line_of [] r = simp append-nil refl
 lines_more line_of (q ∷ rs) r = ap (λ rest. line_of q ++ rest) (lines_more line_of rs r) ∙ sym (append_assoc (line_of q) (lines line_of rs) (line_of r))
 
 -- a take that puts its line, and doesn't fail
-pub take_written : (line_of : Report → List ℕ) (began : List ℕ) (r : Report) (result : Result Unit PortFault) (old new : List Report) (before after : Option (List ℕ)) → Takes r result old new → IfSome before (λ bytes. Appends (line_of r) result bytes after) → ¬ IsErrOf result Failed → Written line_of began old before → Written line_of began new after
+pub take_written : (line_of : Report → List ℕ) (began : List ℕ) (r : Report) (result : Result Unit PortFault)
+    (old new : List Report) (before after : Option (List ℕ)) → Takes r result old new
+    → IfSome before (λ bytes. Appends (line_of r) result bytes after) → ¬ IsErrOf result Failed
+    → Written line_of began old before → Written line_of began new after
 take_written line_of began r (Ok u) old new before after t a n w =
     let put : Appends (line_of r) (Ok u) (began ++ lines line_of old) after = subst (λ h. IfSome h (λ bytes. Appends (line_of r) (Ok u) bytes after)) w a in
     put.ok ∙ ap Some (append_assoc began (lines line_of old) (line_of r) ∙ ap (λ l. began ++ l) (sym (lines_more line_of old r) ∙ ap (lines line_of) (sym t.ok)))

@@ -11,8 +11,6 @@ mod reports;
 mod sink;
 mod source;
 mod target;
-#[cfg(test)]
-mod tests;
 
 pub use calm::{CalmList, CalmSink, CalmSource, CalmTarget};
 pub use fault::PortFault;
@@ -22,6 +20,7 @@ pub use report::{Report, Weight};
 pub use report_sink::{ReportSink, retire};
 pub use reports::{
     CountReports, JsonReports, TextReports, cause_name, code_name, report_json, report_line,
+    text_of_cause, text_of_code,
 };
 pub use sink::Sink;
 pub use source::{Found, SourceTree};

@@ -11,5 +11,5 @@ pub use count_reports::CountReports;
 pub use json_reports::JsonReports;
 pub use json_text::report_json;
 pub use line_text::report_line;
-pub use names::{cause_name, code_name};
+pub use names::{cause_name, code_name, text_of_cause, text_of_code};
 pub use text_reports::TextReports;

@@ -43,11 +43,15 @@ module _ (f : StoredJob → StoredJob) (keeps_owner : (j : StoredJob) → (f j).
   with_job-own owner n [] = refl
   with_job-own owner n (j ∷ js) = by (bytes_eq owner j.owner) refl (with_job-own owner n js)
     where
-      by : (t : Bool) → bytes_eq owner j.owner ≡ t → jobs_of owner (with_job owner n f js) ≡ map_jobs n f (jobs_of owner js) → jobs_of owner (with_job owner n f (j ∷ js)) ≡ map_jobs n f (cond t (j ∷ jobs_of owner js) (jobs_of owner js))
+      by : (t : Bool) → bytes_eq owner j.owner ≡ t → jobs_of owner (with_job owner n f js) ≡ map_jobs n f
+          (jobs_of owner js) → jobs_of owner (with_job owner n f (j ∷ js)) ≡ map_jobs n f
+          (cond t (j ∷ jobs_of owner js) (jobs_of owner js))
       by true p rest =
           let x : StoredJob = if bytes_eq owner j.owner && (n == j.head.job) then f j else j in
           let found : bytes_eq owner x.owner ≡ true = ap (bytes_eq owner) (owner-change (bytes_eq owner j.owner && (n == j.head.job)) j) ∙ p in
-          ap (λ t. cond t (x ∷ jobs_of owner (with_job owner n f js)) (jobs_of owner (with_job owner n f js))) found ∙ ap (λ t. (if t && (n == j.head.job) then f j else j) ∷ jobs_of owner (with_job owner n f js)) p ∙ ap (λ xs. (if n == j.head.job then f j else j) ∷ xs) rest
+          ap (λ t. cond t (x ∷ jobs_of owner (with_job owner n f js)) (jobs_of owner (with_job owner n f js))) found
+          ∙ ap (λ t. (if t && (n == j.head.job) then f j else j) ∷ jobs_of owner (with_job owner n f js)) p
+          ∙ ap (λ xs. (if n == j.head.job then f j else j) ∷ xs) rest
       by false p rest =
           let x : StoredJob = if bytes_eq owner j.owner && (n == j.head.job) then f j else j in
           let found : bytes_eq owner x.owner ≡ false = ap (bytes_eq owner) (owner-change (bytes_eq owner j.owner && (n == j.head.job)) j) ∙ p in
@@ -68,25 +72,34 @@ module _ (f : StoredJob → StoredJob) (keeps_owner : (j : StoredJob) → (f j).
       left : bytes_eq o j.owner ≡ true → bytes_eq owner j.owner ≡ false
       left p = ap (bytes_eq owner) (sym ((bytes_decides o j.owner).0 p)) ∙ other
 
-      by : (t : Bool) → bytes_eq o j.owner ≡ t → jobs_of o (with_job owner n f js) ≡ jobs_of o js → jobs_of o (with_job owner n f (j ∷ js)) ≡ cond t (j ∷ jobs_of o js) (jobs_of o js)
+      by : (t : Bool) → bytes_eq o j.owner ≡ t → jobs_of o (with_job owner n f js) ≡ jobs_of o js
+          → jobs_of o (with_job owner n f (j ∷ js)) ≡ cond t (j ∷ jobs_of o js) (jobs_of o js)
       by true p rest =
-          ap (λ t. cond t (x ∷ jobs_of o (with_job owner n f js)) (jobs_of o (with_job owner n f js))) (same_owner ∙ p) ∙ ap (λ t. (if t && (n == j.head.job) then f j else j) ∷ jobs_of o (with_job owner n f js)) (left p) ∙ ap (λ xs. j ∷ xs) rest
+          ap (λ t. cond t (x ∷ jobs_of o (with_job owner n f js)) (jobs_of o (with_job owner n f js)))
+          (same_owner ∙ p) ∙ ap (λ t. (if t && (n == j.head.job) then f j else j)
+          ∷ jobs_of o (with_job owner n f js)) (left p) ∙ ap (λ xs. j ∷ xs) rest
       by false p rest =
           ap (λ t. cond t (x ∷ jobs_of o (with_job owner n f js)) (jobs_of o (with_job owner n f js))) (same_owner ∙ p) ∙ rest
 
 -- a job that the owner doesn't have isn't changed
-pub with_job-absent : (f : StoredJob → StoredJob) (owner : List ℕ) (n : ℕ) (js : List StoredJob) → find (λ j. n == j.head.job) (jobs_of owner js) ≡ None → with_job owner n f js ≡ js
+pub with_job-absent : (f : StoredJob → StoredJob) (owner : List ℕ) (n : ℕ) (js : List StoredJob)
+    → find (λ j. n == j.head.job) (jobs_of owner js) ≡ None → with_job owner n f js ≡ js
 with_job-absent f owner n [] none = refl
 with_job-absent f owner n (j ∷ js) none = by (bytes_eq owner j.owner) refl none (with_job-absent f owner n js)
   where
     x : StoredJob
     x = if bytes_eq owner j.owner && (n == j.head.job) then f j else j
 
-    number : (u : Bool) → cond u (Some j) (find (λ j. n == j.head.job) (jobs_of owner js)) ≡ None → (find (λ j. n == j.head.job) (jobs_of owner js) ≡ None → with_job owner n f js ≡ js) → (if u then f j else j) ∷ with_job owner n f js ≡ j ∷ js
+    number : (u : Bool) → cond u (Some j) (find (λ j. n == j.head.job) (jobs_of owner js)) ≡ None
+        → (find (λ j. n == j.head.job) (jobs_of owner js) ≡ None → with_job owner n f js ≡ js)
+        → (if u then f j else j) ∷ with_job owner n f js ≡ j ∷ js
     number true none rest = cc
     number false none rest = ap (λ xs. j ∷ xs) (rest none)
 
-    by : (t : Bool) → bytes_eq owner j.owner ≡ t → find (λ j. n == j.head.job) (cond t (j ∷ jobs_of owner js) (jobs_of owner js)) ≡ None → (find (λ j. n == j.head.job) (jobs_of owner js) ≡ None → with_job owner n f js ≡ js) → x ∷ with_job owner n f js ≡ j ∷ js
+    by : (t : Bool) → bytes_eq owner j.owner ≡ t → find (λ j. n == j.head.job)
+        (cond t (j ∷ jobs_of owner js) (jobs_of owner js)) ≡ None
+        → (find (λ j. n == j.head.job) (jobs_of owner js) ≡ None → with_job owner n f js ≡ js) → x
+        ∷ with_job owner n f js ≡ j ∷ js
     by true p none rest =
         ap (λ t. (if t && (n == j.head.job) then f j else j) ∷ with_job owner n f js) p ∙ number (n == j.head.job) none rest
     by false p none rest =

@@ -1,5 +1,34 @@
 -- The map from owners to their jobs, as one list of jobs.
-use Rattle.std.proofs.Common.{◌≡◌, ◌==◌, ℕ, Bool, true, false, cond, List, [], ◌∷◌, ◌++◌, map, Option, None, Some, Result, Ok, Err, String, string_bytes, unwrap_or, is_some, if◌then◌else◌, refl, sym, ap, subst, ◌∙◌}
+use Rattle.std.proofs.Common.{
+  ◌≡◌,
+  ◌==◌,
+  ℕ,
+  Bool,
+  true,
+  false,
+  cond,
+  List,
+  [],
+  ◌∷◌,
+  ◌++◌,
+  map,
+  Option,
+  None,
+  Some,
+  Result,
+  Ok,
+  Err,
+  String,
+  string_bytes,
+  unwrap_or,
+  is_some,
+  if◌then◌else◌,
+  refl,
+  sym,
+  ap,
+  subst,
+  ◌∙◌,
+}
 use Rattle.std.specs.declared.alloc.Global.{Global}
 use Rattle.std.specs.Prelude.{IsSome, OnOk, OnErr}
 use Rattle.std.specs.List.{IsDistinct, AllByRecursion}
@@ -40,11 +69,14 @@ jobs_of-unowned o owner (j ∷ js) h other =
     ap (λ t. cond t (j ∷ jobs_of o js) (jobs_of o js)) (ap (bytes_eq o) h.0 ∙ other) ∙ jobs_of-unowned o owner js h.1 other
 
 -- an owner who isn't in the map has no jobs
-jobs_of-absent : (o : List ℕ) (k : String Global) (es : Entries) → IsByOwner es → AllByRecursion (λ y. string_eq k y ≡ false) (keys_of es) → bytes_eq o (string_bytes k) ≡ true → jobs_of o (all_jobs es) ≡ []
+jobs_of-absent : (o : List ℕ) (k : String Global) (es : Entries) → IsByOwner es
+    → AllByRecursion (λ y. string_eq k y ≡ false) (keys_of es) → bytes_eq o (string_bytes k) ≡ true
+    → jobs_of o (all_jobs es) ≡ []
 jobs_of-absent o k [] h absent same = refl
 jobs_of-absent o k (e ∷ es) h absent same =
     let other : bytes_eq o (string_bytes e.0) ≡ false = nat_list_eq_equiv.congr o (string_bytes k) (string_bytes e.0) same ∙ absent.0 in
-    filter-append (is_of o) e.1 (all_jobs es) ∙ ap (λ xs. xs ++ jobs_of o (all_jobs es)) (jobs_of-unowned o (string_bytes e.0) e.1 h.0.owned other) ∙ jobs_of-absent o k es h.1 absent.1 same
+    filter-append (is_of o) e.1 (all_jobs es) ∙ ap (λ xs. xs ++ jobs_of o (all_jobs es))
+    (jobs_of-unowned o (string_bytes e.0) e.1 h.0.owned other) ∙ jobs_of-absent o k es h.1 absent.1 same
 
 -- the jobs of an owner are those under the owner
 pub jobs_of-all_jobs : (o : List ℕ) (es : Entries) → IsByOwner es → IsDistinct string_eq (keys_of es) → jobs_of o (all_jobs es) ≡ unwrap_or (found o es) []
@@ -52,9 +84,12 @@ unfolding IsDistinct
 jobs_of-all_jobs o [] h distinct = refl
 jobs_of-all_jobs o (e ∷ es) h distinct = by (bytes_eq o (string_bytes e.0)) refl (jobs_of-all_jobs o es h.1 distinct.1)
   where
-    by : (t : Bool) → bytes_eq o (string_bytes e.0) ≡ t → jobs_of o (all_jobs es) ≡ unwrap_or (found o es) [] → jobs_of o (e.1 ++ all_jobs es) ≡ unwrap_or (cond t (Some e.1) (found o es)) []
+    by : (t : Bool) → bytes_eq o (string_bytes e.0) ≡ t → jobs_of o (all_jobs es) ≡ unwrap_or (found o es) []
+        → jobs_of o (e.1 ++ all_jobs es) ≡ unwrap_or (cond t (Some e.1) (found o es)) []
     by true p rest =
-        filter-append (is_of o) e.1 (all_jobs es) ∙ ap (λ xs. xs ++ jobs_of o (all_jobs es)) (jobs_of-owned o (string_bytes e.0) e.1 h.0.owned p) ∙ ap (λ xs. e.1 ++ xs) (jobs_of-absent o e.0 es h.1 distinct.0 p) ∙ append-nil e.1
+        filter-append (is_of o) e.1 (all_jobs es) ∙ ap (λ xs. xs ++ jobs_of o (all_jobs es))
+        (jobs_of-owned o (string_bytes e.0) e.1 h.0.owned p)
+        ∙ ap (λ xs. e.1 ++ xs) (jobs_of-absent o e.0 es h.1 distinct.0 p) ∙ append-nil e.1
     by false p rest =
         filter-append (is_of o) e.1 (all_jobs es) ∙ ap (λ xs. xs ++ jobs_of o (all_jobs es)) (jobs_of-unowned o (string_bytes e.0) e.1 h.0.owned p) ∙ rest
 
@@ -95,11 +130,14 @@ module _ (owner : List ℕ) (es : Entries) (now : List StoredJob) (view : all_jo
       subst (λ js. AreOwnedBy owner (jobs_of owner js)) view (subst (AreOwnedBy owner) (sym (jobs_of-all_jobs owner es h.by_owner h.owners)) (owned-found owner es h.by_owner))
 
 -- jobs written under an owner who is in the map
-IsByOwner-set_value : (owner : List ℕ) (w : List StoredJob) (es : Entries) → IsByOwner es → AreOwnedBy owner w → IsOwnersList w → IsByOwner (set_value (λ k. bytes_eq owner (string_bytes k)) es w)
+IsByOwner-set_value : (owner : List ℕ) (w : List StoredJob) (es : Entries) → IsByOwner es → AreOwnedBy owner w
+    → IsOwnersList w → IsByOwner (set_value (λ k. bytes_eq owner (string_bytes k)) es w)
 IsByOwner-set_value owner w [] h owned list = tt
 IsByOwner-set_value owner w (e ∷ es) h owned list = by (bytes_eq owner (string_bytes e.0)) refl (IsByOwner-set_value owner w es h.1 owned list)
   where
-    by : (t : Bool) → bytes_eq owner (string_bytes e.0) ≡ t → IsByOwner (set_value (λ k. bytes_eq owner (string_bytes k)) es w) → IsByOwner (cond t ((e.0, w) ∷ es) (e ∷ set_value (λ k. bytes_eq owner (string_bytes k)) es w))
+    by : (t : Bool) → bytes_eq owner (string_bytes e.0) ≡ t → IsByOwner
+        (set_value (λ k. bytes_eq owner (string_bytes k)) es w)
+        → IsByOwner (cond t ((e.0, w) ∷ es) (e ∷ set_value (λ k. bytes_eq owner (string_bytes k)) es w))
     by true p rest =
         (record { owned = subst (λ q. AreOwnedBy q w) ((bytes_decides owner (string_bytes e.0)).0 p) owned; list = list }, h.1)
     by false p rest = (h.0, rest)
@@ -115,7 +153,9 @@ pub record Changed (owner : List ℕ) (old new : Entries) (w : List StoredJob) :
   pub at : (o : List ℕ) → found o new ≡ cond (bytes_eq owner o) (Some w) (found o old)
 
 module _ {S : Type 0} (m n : IndexMap (String Global) (List StoredJob) S) (h : IsJobsMap m.entries) where
-  pub Changed-written : (owner : List ℕ) (w : List StoredJob) → AreOwnedBy owner w → IsOwnersList w → IsSome (found owner m.entries) → WritesThrough string_eq (λ k. bytes_eq owner (string_bytes k)) m w n → Changed owner m.entries n.entries w
+  pub Changed-written : (owner : List ℕ) (w : List StoredJob) → AreOwnedBy owner w → IsOwnersList w
+      → IsSome (found owner m.entries) → WritesThrough string_eq (λ k. bytes_eq owner (string_bytes k)) m w n
+      → Changed owner m.entries n.entries w
   Changed-written owner w owned list some writes = record {
     map = record {
       by_owner = subst IsByOwner (sym writes.0) (IsByOwner-set_value owner w m.entries h.by_owner owned list);
@@ -124,7 +164,10 @@ module _ {S : Type 0} (m n : IndexMap (String Global) (List StoredJob) S) (h : I
     at = hash_map_updates_text owner m n (Some w) (writes.3 some);
   }
 
-  pub Changed-inserted : (owner : List ℕ) (k : String Global) (w : List StoredJob) → string_bytes k ≡ owner → AreOwnedBy owner w → IsOwnersList w → found owner m.entries ≡ None → n.entries ≡ insert_entry string_eq m.entries k w → Updates string_eq m n k (Some w) → IsUnique string_eq n → Changed owner m.entries n.entries w
+  pub Changed-inserted : (owner : List ℕ) (k : String Global) (w : List StoredJob) → string_bytes k ≡ owner
+      → AreOwnedBy owner w → IsOwnersList w → found owner m.entries ≡ None
+      → n.entries ≡ insert_entry string_eq m.entries k w → Updates string_eq m n k (Some w) → IsUnique string_eq n
+      → Changed owner m.entries n.entries w
   Changed-inserted owner k w name owned list none inserted updates unique = record {
     map = record {
       by_owner =
@@ -139,29 +182,41 @@ module _ {S : Type 0} (m n : IndexMap (String Global) (List StoredJob) S) (h : I
 module _ (owner : List ℕ) (old new : Entries) (now w : List StoredJob) (view : all_jobs old ≡ now) (h : IsJobsMap old) (changed : Changed owner old new w) where
   pub changed-own : jobs_of owner (all_jobs new) ≡ w
   changed-own =
-      jobs_of-all_jobs owner new changed.map.by_owner changed.map.owners ∙ ap (λ f. unwrap_or f []) (changed.at owner) ∙ ap (λ t. unwrap_or (cond t (Some w) (found owner old)) []) (nat_list_eq_equiv.refl owner)
+      jobs_of-all_jobs owner new changed.map.by_owner changed.map.owners ∙ ap (λ f. unwrap_or f []) (changed.at owner)
+      ∙ ap (λ t. unwrap_or (cond t (Some w) (found owner old)) []) (nat_list_eq_equiv.refl owner)
 
   pub changed-other : (o : List ℕ) → bytes_eq owner o ≡ false → jobs_of o (all_jobs new) ≡ jobs_of o now
   changed-other o other =
-      jobs_of-all_jobs o new changed.map.by_owner changed.map.owners ∙ ap (λ f. unwrap_or f []) (changed.at o) ∙ ap (λ t. unwrap_or (cond t (Some w) (found o old)) []) other ∙ sym (jobs_of-all_jobs o old h.by_owner h.owners) ∙ ap (jobs_of o) view
+      jobs_of-all_jobs o new changed.map.by_owner changed.map.owners ∙ ap (λ f. unwrap_or f []) (changed.at o)
+      ∙ ap (λ t. unwrap_or (cond t (Some w) (found o old)) []) other
+      ∙ sym (jobs_of-all_jobs o old h.by_owner h.owners) ∙ ap (jobs_of o) view
 
   -- a job behind the owner's others
   pub SameJobs-push : (j : StoredJob) → j.owner ≡ owner → w ≡ jobs_of owner now ++ j ∷ [] → SameJobs (all_jobs new) (now ++ j ∷ [])
   SameJobs-push j is behind =
-      SameJobs-by owner (all_jobs new) (now ++ j ∷ []) (changed-own ∙ behind ∙ sym (jobs_of-push_own owner now j is)) (λ o other. changed-other o other ∙ sym (jobs_of-push_other o now j (ap (bytes_eq o) is ∙ nat_list_eq_equiv.symm o owner ∙ other)))
+      SameJobs-by owner (all_jobs new) (now ++ j ∷ []) (changed-own ∙ behind ∙ sym (jobs_of-push_own owner now j is))
+      (λ o other. changed-other o other
+      ∙ sym (jobs_of-push_other o now j (ap (bytes_eq o) is ∙ nat_list_eq_equiv.symm o owner ∙ other)))
 
   -- one of the owner's jobs changed
-  pub SameJobs-with_job : (f : StoredJob → StoredJob) → ((j : StoredJob) → (f j).owner ≡ j.owner) → (n : ℕ) → w ≡ map_jobs n f (jobs_of owner now) → SameJobs (all_jobs new) (with_job owner n f now)
+  pub SameJobs-with_job : (f : StoredJob → StoredJob) → ((j : StoredJob) → (f j).owner ≡ j.owner) → (n : ℕ)
+      → w ≡ map_jobs n f (jobs_of owner now) → SameJobs (all_jobs new) (with_job owner n f now)
   SameJobs-with_job f keeps_owner n is =
-      SameJobs-by owner (all_jobs new) (with_job owner n f now) (changed-own ∙ is ∙ sym (with_job-own f keeps_owner owner n now)) (λ o other. changed-other o other ∙ sym (with_job-other f keeps_owner owner o n now other))
+      SameJobs-by owner (all_jobs new) (with_job owner n f now)
+      (changed-own ∙ is ∙ sym (with_job-own f keeps_owner owner n now))
+      (λ o other. changed-other o other ∙ sym (with_job-other f keeps_owner owner o n now other))
 
 -- a change of a job of an owner who has none
-pub SameJobs-none : (owner : List ℕ) (now : List StoredJob) → jobs_of owner now ≡ [] → (f : StoredJob → StoredJob) → ((j : StoredJob) → (f j).owner ≡ j.owner) → (n : ℕ) → SameJobs now (with_job owner n f now)
+pub SameJobs-none : (owner : List ℕ) (now : List StoredJob) → jobs_of owner now ≡ [] → (f : StoredJob → StoredJob)
+    → ((j : StoredJob) → (f j).owner ≡ j.owner) → (n : ℕ) → SameJobs now (with_job owner n f now)
 SameJobs-none owner now none f keeps_owner n =
-    SameJobs-by owner now (with_job owner n f now) (none ∙ sym (ap (map_jobs n f) none) ∙ sym (with_job-own f keeps_owner owner n now)) (λ o other. sym (with_job-other f keeps_owner owner o n now other))
+    SameJobs-by owner now (with_job owner n f now)
+    (none ∙ sym (ap (map_jobs n f) none) ∙ sym (with_job-own f keeps_owner owner n now))
+    (λ o other. sym (with_job-other f keeps_owner owner o n now other))
 
 -- a changed job is its owner's
-pub AreOwnedBy-map_jobs : (f : StoredJob → StoredJob) → ((j : StoredJob) → (f j).owner ≡ j.owner) → (owner : List ℕ) (n : ℕ) (js : List StoredJob) → AreOwnedBy owner js → AreOwnedBy owner (map_jobs n f js)
+pub AreOwnedBy-map_jobs : (f : StoredJob → StoredJob) → ((j : StoredJob) → (f j).owner ≡ j.owner)
+    → (owner : List ℕ) (n : ℕ) (js : List StoredJob) → AreOwnedBy owner js → AreOwnedBy owner (map_jobs n f js)
 AreOwnedBy-map_jobs f keeps_owner owner n [] h = tt
 AreOwnedBy-map_jobs f keeps_owner owner n (j ∷ js) h =
     (elim (n == j.head.job) as (λ t. (if t then f j else j).owner ≡ owner) [ true ↦ keeps_owner j ∙ h.0 | false ↦ h.0 ], AreOwnedBy-map_jobs f keeps_owner owner n js h.1)
@@ -182,7 +237,12 @@ pub record Leaves (new : Entries) (jobs : List StoredJob) : Type 0 where
   pub same : SameJobs (all_jobs new) jobs
 
 -- an owner's jobs written back with one of them changed
-pub changed-job : {S : Type 0} (m n : IndexMap (String Global) (List StoredJob) S) (now : List StoredJob) → all_jobs m.entries ≡ now → IsJobsMap m.entries → (owner : List ℕ) (js w : List StoredJob) (f : StoredJob → StoredJob) → ((j : StoredJob) → (f j).owner ≡ j.owner) → (number : ℕ) → found owner m.entries ≡ Some js → w ≡ map_jobs number f js → IsOwnersList w → WritesThrough string_eq (λ k. bytes_eq owner (string_bytes k)) m w n → Leaves n.entries (with_job owner number f now)
+pub changed-job : {S : Type 0} (m n : IndexMap (String Global) (List StoredJob) S) (now : List StoredJob)
+    → all_jobs m.entries ≡ now → IsJobsMap m.entries → (owner : List ℕ) (js w : List StoredJob)
+    (f : StoredJob → StoredJob) → ((j : StoredJob) → (f j).owner ≡ j.owner) → (number : ℕ)
+    → found owner m.entries ≡ Some js → w ≡ map_jobs number f js → IsOwnersList w
+    → WritesThrough string_eq (λ k. bytes_eq owner (string_bytes k)) m w n
+    → Leaves n.entries (with_job owner number f now)
 changed-job m n now view h owner js w f keeps_owner number some is list writes =
     let had : jobs_of owner now ≡ js = jobs_of-found owner m.entries now view h js some in
     let owned : AreOwnedBy owner js = subst (AreOwnedBy owner) had (owned-now owner m.entries now view h) in
@@ -195,7 +255,10 @@ changed-job m n now view h owner js w f keeps_owner number some is list writes =
     }
 
 -- an owner's jobs written back with one more
-pub added-job : {S : Type 0} (m n : IndexMap (String Global) (List StoredJob) S) (now : List StoredJob) → all_jobs m.entries ≡ now → IsJobsMap m.entries → (owner : List ℕ) (js w : List StoredJob) (j : StoredJob) → j.owner ≡ owner → found owner m.entries ≡ Some js → w ≡ js ++ j ∷ [] → IsOwnersList w → WritesThrough string_eq (λ k. bytes_eq owner (string_bytes k)) m w n → Leaves n.entries (now ++ j ∷ [])
+pub added-job : {S : Type 0} (m n : IndexMap (String Global) (List StoredJob) S) (now : List StoredJob)
+    → all_jobs m.entries ≡ now → IsJobsMap m.entries → (owner : List ℕ) (js w : List StoredJob) (j : StoredJob)
+    → j.owner ≡ owner → found owner m.entries ≡ Some js → w ≡ js ++ j ∷ [] → IsOwnersList w
+    → WritesThrough string_eq (λ k. bytes_eq owner (string_bytes k)) m w n → Leaves n.entries (now ++ j ∷ [])
 added-job m n now view h owner js w j own some is list writes =
     let had : jobs_of owner now ≡ js = jobs_of-found owner m.entries now view h js some in
     let owned : AreOwnedBy owner js = subst (AreOwnedBy owner) had (owned-now owner m.entries now view h) in
@@ -208,7 +271,11 @@ added-job m n now view h owner js w j own some is list writes =
     }
 
 -- the first job of an owner
-pub first-job : {S : Type 0} (m n : IndexMap (String Global) (List StoredJob) S) (now : List StoredJob) → all_jobs m.entries ≡ now → IsJobsMap m.entries → (owner : List ℕ) (k : String Global) (w : List StoredJob) (j : StoredJob) → string_bytes k ≡ owner → j.owner ≡ owner → found owner m.entries ≡ None → w ≡ j ∷ [] → IsOwnersList w → n.entries ≡ insert_entry string_eq m.entries k w → Updates string_eq m n k (Some w) → IsUnique string_eq n → Leaves n.entries (now ++ j ∷ [])
+pub first-job : {S : Type 0} (m n : IndexMap (String Global) (List StoredJob) S) (now : List StoredJob)
+    → all_jobs m.entries ≡ now → IsJobsMap m.entries → (owner : List ℕ) (k : String Global) (w : List StoredJob)
+    (j : StoredJob) → string_bytes k ≡ owner → j.owner ≡ owner → found owner m.entries ≡ None → w ≡ j ∷ []
+    → IsOwnersList w → n.entries ≡ insert_entry string_eq m.entries k w → Updates string_eq m n k (Some w)
+    → IsUnique string_eq n → Leaves n.entries (now ++ j ∷ [])
 first-job m n now view h owner k w j name own none is list inserted updates unique =
     let had : jobs_of owner now ≡ [] = jobs_of-none owner m.entries now view h none in
     let owned_now : AreOwnedBy owner w = subst (AreOwnedBy owner) (sym is) (own, tt) in
@@ -225,7 +292,11 @@ pub record Attempts {T E : Type 0} (r : Result T E) (new : Entries) (jobs now : 
   pub err : OnErr r (all_jobs new ≡ now)
 
 -- an attempt to add a job behind an owner's others
-pub attempts-job : {T E S : Type 0} (r : Result T E) (m n : IndexMap (String Global) (List StoredJob) S) (now : List StoredJob) → all_jobs m.entries ≡ now → IsJobsMap m.entries → (owner : List ℕ) (js w : List StoredJob) (j : StoredJob) → j.owner ≡ owner → found owner m.entries ≡ Some js → OnOk r (w ≡ js ++ j ∷ []) → OnOk r (IsOwnersList w) → OnErr r (w ≡ js) → WritesThrough string_eq (λ k. bytes_eq owner (string_bytes k)) m w n → Attempts r n.entries (now ++ j ∷ []) now
+pub attempts-job : {T E S : Type 0} (r : Result T E) (m n : IndexMap (String Global) (List StoredJob) S)
+    (now : List StoredJob) → all_jobs m.entries ≡ now → IsJobsMap m.entries
+    → (owner : List ℕ) (js w : List StoredJob) (j : StoredJob) → j.owner ≡ owner → found owner m.entries ≡ Some js
+    → OnOk r (w ≡ js ++ j ∷ []) → OnOk r (IsOwnersList w) → OnErr r (w ≡ js)
+    → WritesThrough string_eq (λ k. bytes_eq owner (string_bytes k)) m w n → Attempts r n.entries (now ++ j ∷ []) now
 attempts-job (Ok x) m n now view h owner js w j own some is list err writes =
     let leaves : Leaves n.entries (now ++ j ∷ []) = added-job m n now view h owner js w j own some is list writes in
     record { map = leaves.map; ok = leaves.same; err = tt }

@@ -1,6 +1,31 @@
 -- A list of jobs of many owners: what is read of it, and how it changes. Each owner's jobs have an order; between
 -- owners there is none that a call shows.
-use Rattle.std.specs.Prelude.{◌≡◌, ℕ, zero, suc, ◌+◌, ◌-◌, ◌<◌, ◌≤◌, ◌==◌, true, ◌&&◌, List, [], ◌∷◌, length, map, filter, find, All, Option, None, if◌then◌else◌, slice_get, slice_set}
+use Rattle.std.specs.Prelude.{
+  ◌≡◌,
+  ℕ,
+  zero,
+  suc,
+  ◌+◌,
+  ◌-◌,
+  ◌<◌,
+  ◌≤◌,
+  ◌==◌,
+  true,
+  ◌&&◌,
+  List,
+  [],
+  ◌∷◌,
+  length,
+  map,
+  filter,
+  find,
+  All,
+  Option,
+  None,
+  if◌then◌else◌,
+  slice_get,
+  slice_set,
+}
 use Rattle.std.specs.List.{IsDistinct}
 use Rattle.std.specs.Option.{option_map_or, option_and_then}
 use Rattle.std.specs.Str.{bytes_eq}

@@ -28,6 +28,3 @@ pub use laws::{
 pub use machine::MAX_JOBS;
 pub use memory::MemoryKeeper;
 pub use work::Work;
-
-#[cfg(test)]
-mod tests;

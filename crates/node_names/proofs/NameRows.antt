@@ -2,8 +2,10 @@
 use Rattle.std.proofs.Common.{◌≡◌, ℕ, List, [], ◌∷◌, ◌++◌, codes, refl}
 use Rattle.std.specs.Prelude.{Some}
 use Rattle.php_tree.specs.declared.kind.NodeKind.TheVariants as kind
+use Rattle.php_tree.specs.declared.token.TokenKind.{TokenKind}
 use Rattle.php_tree.specs.declared.token.TokenKind.TheVariants as token
-use Rattle.scope_names.specs.Form.{Form, Word, Child}
+use Rattle.php_tree.specs.Tree.{Forest, none, leaf}
+use Rattle.scope_names.specs.Form.{Form, Word, Child, form}
 use Rattle.scope_names.specs.Sites.{Site, file_site}
 use Rattle.node_names.specs.declared.name.Name.{Name}
 use Rattle.node_names.specs.declared.name_sort.NameSort.{NameSort}
@@ -41,6 +43,19 @@ is s text = record { sort = s; text = text } ∷ []
 abbrev one : NameSort → List ℕ → List Use
 one s text = record { sort = s; texts = text ∷ [] } ∷ []
 
+-- ---- names
+
+-- a token without trivia before other parts
+abbrev part : TokenKind → List ℕ → Forest → Forest
+part k text rest = leaf (record { kind = k; lead = []; text = text; start = 0 }) rest
+
+-- NameSpace\f(): a name of several tokens is one word
+name_row :
+    form (part token.Keyword (codes "NameSpace") (part token.Op (codes "\\") (part token.Label (codes "f")
+    (part token.Op (codes "(") (part token.Op (codes ")") none)))))
+    ≡ long (codes "NameSpace\\f") (op (codes "(") (op (codes ")") []))
+name_row = refl
+
 -- ---- declarations
 
 -- function &Foo(..) { .. }
@@ -51,7 +66,9 @@ function_row = refl
 
 -- abstract class A extends B { .. }
 class_row :
-    declares kind.Class (key (codes "abstract") (key (codes "Class") (label (codes "A") (key (codes "extends") (label (codes "B") (op (codes "{") (kid (op (codes "}") [])))))))) here
+    declares kind.Class (key (codes "abstract")
+    (key (codes "Class") (label (codes "A")
+    (key (codes "extends") (label (codes "B") (op (codes "{") (kid (op (codes "}") [])))))))) here
     ≡ is sort.Class (codes "n\\a")
 class_row = refl
 
@@ -69,7 +86,9 @@ method_row = refl
 
 -- private const A = 1, List = 2;
 class_const_row :
-    declares kind.ClassConst (key (codes "private") (key (codes "const") (label (codes "A") (op (codes "=") (kid (op (codes ",") (key (codes "List") (op (codes "=") (kid (op (codes ";") [])))))))))) here
+    declares kind.ClassConst (key (codes "private") (key (codes "const")
+    (label (codes "A") (op (codes "=") (kid (op (codes ",")
+    (key (codes "List") (op (codes "=") (kid (op (codes ";") [])))))))))) here
     ≡ is sort.ClassConstant (codes "A") ++ is sort.ClassConstant (codes "List")
 class_const_row = refl
 
@@ -83,7 +102,9 @@ property_row = refl
 
 -- class A extends B implements \I, J { .. }
 heritage_row :
-    uses kind.Class (key (codes "class") (label (codes "A") (key (codes "extends") (label (codes "B") (key (codes "implements") (long (codes "\\I") (op (codes ",") (label (codes "J") (op (codes "{") (op (codes "}") [])))))))))) here
+    uses kind.Class (key (codes "class") (label (codes "A") (key (codes "extends")
+    (label (codes "B") (key (codes "implements")
+    (long (codes "\\I") (op (codes ",") (label (codes "J") (op (codes "{") (op (codes "}") [])))))))))) here
     ≡ one sort.Class (codes "n\\b") ++ one sort.Class (codes "i") ++ one sort.Class (codes "n\\j")
 heritage_row = refl
 
@@ -95,13 +116,17 @@ new_static_row : uses kind.New (key (codes "new") (key (codes "static") [])) her
 new_static_row = refl
 
 new_class_row :
-    uses kind.New (key (codes "new") (key (codes "class") (op (codes "(") (kid (op (codes ")") (key (codes "extends") (label (codes "A") (op (codes "{") (kid (op (codes "}") [])))))))))) here
+    uses kind.New (key (codes "new") (key (codes "class") (op (codes "(")
+    (kid (op (codes ")") (key (codes "extends")
+    (label (codes "A") (op (codes "{") (kid (op (codes "}") [])))))))))) here
     ≡ one sort.Class (codes "n\\a")
 new_class_row = refl
 
 -- try { .. } catch (A | \B $e) { .. }
 catch_row :
-    uses kind.Try (key (codes "try") (kid (key (codes "catch") (op (codes "(") (label (codes "A") (op (codes "|") (long (codes "\\B") (var (codes "$e") (op (codes ")") (kid [])))))))))) here
+    uses kind.Try (key (codes "try") (kid (key (codes "catch")
+    (op (codes "(") (label (codes "A") (op (codes "|") (long (codes "\\B")
+    (var (codes "$e") (op (codes ")") (kid [])))))))))) here
     ≡ one sort.Class (codes "n\\a") ++ one sort.Class (codes "b")
 catch_row = refl
 

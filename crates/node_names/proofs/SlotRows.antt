@@ -36,7 +36,8 @@ variable_by_expression = refl
 property_slot : slot kind.Prop (Child ∷ Word token.Op (codes "->") ∷ Word token.Label (codes "b") ∷ []) in_third ≡ Some (named (Property (codes "b")))
 property_slot = refl
 
-static_slot : slot kind.StaticProp (Word token.Label (codes "A") ∷ Word token.Op (codes "::") ∷ Word token.Variable (codes "$b") ∷ []) in_third ≡ Some (named (StaticProperty (codes "b")))
+static_slot : slot kind.StaticProp (Word token.Label (codes "A") ∷ Word token.Op (codes "::")
+    ∷ Word token.Variable (codes "$b") ∷ []) in_third ≡ Some (named (StaticProperty (codes "b")))
 static_slot = refl
 
 abbrev t : List ℕ → Forest → Forest

@@ -10,8 +10,6 @@ mod name_sort;
 mod parted;
 mod piece;
 mod spelled;
-#[cfg(test)]
-mod tests;
 
 pub use comparing::{compared, in_space, member_names, named, space_names};
 pub use declares::declared_names;

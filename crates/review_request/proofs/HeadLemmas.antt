@@ -40,5 +40,6 @@ pub bad_head : (bytes : List ℕ) (room : ℕ) (headers : List HeaderSpan) → r
 bad_head bytes room headers e many h r = omega (arith, e, many h r, few_fields bytes h r)
 
 -- a head that is found with more room has more fields
-pub long_head : (bytes : List ℕ) (headers : List HeaderSpan) (spans : RequestSpans) → AreSpans bytes headers spans → ((h : RequestHead) → IsHead bytes h → 32 < length h.fields) → IsParsed bytes (Err LongHead)
+pub long_head : (bytes : List ℕ) (headers : List HeaderSpan) (spans : RequestSpans) → AreSpans bytes headers spans
+    → ((h : RequestHead) → IsHead bytes h → 32 < length h.fields) → IsParsed bytes (Err LongHead)
 long_head bytes headers spans s many = (s.head, s.whole, many s.head s.whole)

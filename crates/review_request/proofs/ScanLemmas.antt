@@ -12,10 +12,15 @@ ScannedTo bytes line begun = (more : List ℕ) → rest_of (bytes ++ more) ≡ r
 step : (bytes new : List ℕ) (b : ℕ) (more : List ℕ) → new ≡ bytes ++ b ∷ [] → new ++ more ≡ bytes ++ (b ∷ more)
 step bytes new b more e = ap (λ l. l ++ more) e ∙ append_assoc bytes (b ∷ []) more
 
-pub scan_ends : (bytes new : List ℕ) (b : ℕ) (line : Line) (begun : Bool) → ScannedTo bytes line begun → new ≡ bytes ++ b ∷ [] → ((more : List ℕ) → rest_after line begun (b ∷ more) ≡ Some more) → (more : List ℕ) → rest_of (new ++ more) ≡ Some more
+pub scan_ends : (bytes new : List ℕ) (b : ℕ) (line : Line) (begun : Bool) → ScannedTo bytes line begun → new ≡ bytes
+    ++ b ∷ [] → ((more : List ℕ) → rest_after line begun (b ∷ more) ≡ Some more) → (more : List ℕ)
+    → rest_of (new ++ more) ≡ Some more
 scan_ends bytes new b line begun so_far e ends more = ap rest_of (step bytes new b more e) ∙ so_far (b ∷ more) ∙ ends more
 
-pub scan_goes_on : (bytes new : List ℕ) (b : ℕ) (line next : Line) (begun then_begun : Bool) → ScannedTo bytes line begun → new ≡ bytes ++ b ∷ [] → ((more : List ℕ) → rest_after line begun (b ∷ more) ≡ rest_after next then_begun more) → ScannedTo new next then_begun
+pub scan_goes_on : (bytes new : List ℕ) (b : ℕ) (line next : Line) (begun then_begun : Bool)
+    → ScannedTo bytes line begun → new ≡ bytes ++ b ∷ []
+    → ((more : List ℕ) → rest_after line begun (b ∷ more) ≡ rest_after next then_begun more)
+    → ScannedTo new next then_begun
 scan_goes_on bytes new b line next begun then_begun so_far e on more = ap rest_of (step bytes new b more e) ∙ so_far (b ∷ more) ∙ on more
 
 -- the head hasn't ended

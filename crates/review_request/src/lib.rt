@@ -9,8 +9,6 @@ mod length;
 mod refusal;
 mod request;
 mod route;
-#[cfg(test)]
-mod tests;
 
 pub use io_ports::PathText;
 pub use refusal::Refusal;

@@ -1,5 +1,31 @@
 -- The first refused key of a table whose keys ascend is the least one.
-use Rattle.std.proofs.Common.{◌≡◌, ℕ, true, false, cond, List, [], ◌∷◌, Option, Some, None, option_map, MatchOption, Ok, Err, String, Global, string_bytes, nat_cmp, Less, Greater, refl, sym, ap, ◌∙◌}
+use Rattle.std.proofs.Common.{
+  ◌≡◌,
+  ℕ,
+  true,
+  false,
+  cond,
+  List,
+  [],
+  ◌∷◌,
+  Option,
+  Some,
+  None,
+  option_map,
+  MatchOption,
+  Ok,
+  Err,
+  String,
+  Global,
+  string_bytes,
+  nat_cmp,
+  Less,
+  Greater,
+  refl,
+  sym,
+  ap,
+  ◌∙◌,
+}
 use Rattle.std.specs.Cmp.Lexicographic.{slice_cmp}
 use Rattle.std.specs.List.{AllByRecursion}
 use Rattle.std.specs.List.Sorted.{IsStrictlySortedBy}
@@ -46,7 +72,9 @@ refused-after key k None h = tt
 refused-after key k (Some f) h = h
 
 -- what is refused in a table whose keys stand behind another is refused behind it
-least-after : (test : Test) (key : String Global) (es : List Entry) → AllByRecursion (λ q. string_cmp key q ≡ Less) (keys_of es) → IsAfter (string_bytes key) (least_refused test (members_view es))
+least-after : (test : Test) (key : String Global) (es : List Entry)
+    → AllByRecursion (λ q. string_cmp key q ≡ Less) (keys_of es)
+    → IsAfter (string_bytes key) (least_refused test (members_view es))
 least-after test key [] h = tt
 least-after test key (e ∷ es) h =
     lesser-after (string_bytes key) (refused (string_bytes e.0) (test (string_bytes e.0) (view e.1))) (least_refused test (members_view es))
@@ -54,7 +82,8 @@ least-after test key (e ∷ es) h =
     (least-after test key es h.1)
 
 -- a refusal in front of another is the lesser one
-lesser-front : (key : List ℕ) (f : Option SettingsFault) (rest : Option Refused) → IsAfter key rest → option_map (λ r. r.1) (lesser (refused key f) rest) ≡ or_else f (option_map (λ r. r.1) rest)
+lesser-front : (key : List ℕ) (f : Option SettingsFault) (rest : Option Refused) → IsAfter key rest
+    → option_map (λ r. r.1) (lesser (refused key f) rest) ≡ or_else f (option_map (λ r. r.1) rest)
 lesser-front key None rest h = refl
 lesser-front key (Some f) None h = refl
 lesser-front key (Some f) (Some b) h =
@@ -90,11 +119,16 @@ first-failed test s t e f eq h =
     ap (first test) eq ∙ rw some refl
 
 -- what a loop over a table answers where it stops at a refused entry
-pub failed-least : (test : Test) (all s t : List Entry) (e : Entry) (f : SettingsFault) → first test s ≡ first test all → s ≡ e ∷ t → IsStrictlySortedBy string_cmp (keys_of all) → Err f ≡ checked (test (string_bytes e.0) (view e.1)) → Err f ≡ checked (option_map (λ r. r.1) (least_refused test (members_view all)))
+pub failed-least : (test : Test) (all s t : List Entry) (e : Entry) (f : SettingsFault)
+    → first test s ≡ first test all → s ≡ e ∷ t → IsStrictlySortedBy string_cmp (keys_of all)
+    → Err f ≡ checked (test (string_bytes e.0) (view e.1)) → Err f ≡ checked
+    (option_map (λ r. r.1) (least_refused test (members_view all)))
 failed-least test all s t e f same eq sorted h =
     ap checked (sym (first-failed test s t e f eq h) ∙ same ∙ first-least test all sorted)
 
 -- and where it comes to its end
-pub passed-least : (test : Test) (all s : List Entry) → first test s ≡ first test all → s ≡ [] → IsStrictlySortedBy string_cmp (keys_of all) → Ok tt ≡ checked (option_map (λ r. r.1) (least_refused test (members_view all)))
+pub passed-least : (test : Test) (all s : List Entry) → first test s ≡ first test all → s ≡ []
+    → IsStrictlySortedBy string_cmp (keys_of all) → Ok tt ≡ checked
+    (option_map (λ r. r.1) (least_refused test (members_view all)))
 passed-least test all s same eq sorted =
     ap checked (ap (first test) (sym eq) ∙ same ∙ first-least test all sorted)

@@ -3,3 +3,4 @@ pub mod FirstRefused
 pub mod KeyTableRows
 pub mod Outcomes
 pub mod RulesOff
+mod TableRows

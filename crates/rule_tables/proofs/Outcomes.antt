@@ -33,17 +33,24 @@ judged-free None doc h = refl
 judged-free (Some r) doc h = absurd cc
 
 -- a document with a refused key
-pub outcome-refused : (bytes text : List ℕ) (doc : Members) (f : SettingsFault) → text ≡ bytes → IsUtf8 bytes → parse_document text ≡ Some doc → Err f ≡ checked (option_map (λ q. q.1) (least_refused key_fault doc)) → Err f ≡ outcome bytes
+pub outcome-refused : (bytes text : List ℕ) (doc : Members) (f : SettingsFault) → text ≡ bytes → IsUtf8 bytes
+    → parse_document text ≡ Some doc → Err f ≡ checked (option_map (λ q. q.1) (least_refused key_fault doc))
+    → Err f ≡ outcome bytes
 outcome-refused bytes text doc f same utf8 parsed h =
     judged-refused (least_refused key_fault doc) doc f h
     ∙ sym (outcome-document bytes doc utf8 (ap parse_document (sym same) ∙ parsed))
 
 -- a document without one
-pub outcome-free : (bytes text : List ℕ) (doc : Members) (view : SettingsView) → text ≡ bytes → IsUtf8 bytes → parse_document text ≡ Some doc → Ok tt ≡ checked (option_map (λ q. q.1) (least_refused key_fault doc)) → view ≡ settings_of doc → Ok view ≡ outcome bytes
+pub outcome-free : (bytes text : List ℕ) (doc : Members) (view : SettingsView) → text ≡ bytes → IsUtf8 bytes
+    → parse_document text ≡ Some doc → Ok tt ≡ checked (option_map (λ q. q.1) (least_refused key_fault doc))
+    → view ≡ settings_of doc → Ok view ≡ outcome bytes
 outcome-free bytes text doc view same utf8 parsed h is =
     ap Ok is ∙ judged-free (least_refused key_fault doc) doc h
     ∙ sym (outcome-document bytes doc utf8 (ap parse_document (sym same) ∙ parsed))
 
 -- settings with equal parts
-pub same-settings : (off off' : List RuleId) (entries entries' : Option (List (List ℕ))) (prepend prepend' : Option (List ℕ)) → off ≡ off' → entries ≡ entries' → prepend ≡ prepend' → let a : SettingsView = record { off = off; entries = entries; prepend = prepend } in let b : SettingsView = record { off = off'; entries = entries'; prepend = prepend' } in a ≡ b
+pub same-settings : (off off' : List RuleId) (entries entries' : Option (List (List ℕ)))
+    (prepend prepend' : Option (List ℕ)) → off ≡ off' → entries ≡ entries' → prepend ≡ prepend'
+    → let a : SettingsView = record { off = off; entries = entries; prepend = prepend }
+    in let b : SettingsView = record { off = off'; entries = entries'; prepend = prepend' } in a ≡ b
 same-settings off off' entries entries' prepend prepend' e f g = rw (e, f, g) refl

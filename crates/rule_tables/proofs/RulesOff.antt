@@ -3,7 +3,30 @@ use Rattle.std.proofs.Common.{◌≡◌, ◌==◌, Bool, true, false, not, cond,
 use Rattle.std.specs.List.{list_any}
 use Rattle.toml.specs.Data.{Members}
 use Rattle.rule_tables.specs.declared.rule.RuleId.{RuleId}
-use Rattle.rule_tables.specs.declared.rule.RuleId.TheVariants.{NestedTernary, DotPrecedence, BraceOffset, RealCast, UnsetCast, HashComment, SplitName, DollarBrace, ReservedName, LooseCompare, WordArithmetic, NextKey, OldConstructor, InheritedStatic, DynamicProperty, GetClass, StaticCall, BareConstant, RemovedCall, ImplodeOrder, SubstrFalse, StrposNeedle}
+use Rattle.rule_tables.specs.declared.rule.RuleId.TheVariants.{
+  NestedTernary,
+  DotPrecedence,
+  BraceOffset,
+  RealCast,
+  UnsetCast,
+  HashComment,
+  SplitName,
+  DollarBrace,
+  ReservedName,
+  LooseCompare,
+  WordArithmetic,
+  NextKey,
+  OldConstructor,
+  InheritedStatic,
+  DynamicProperty,
+  GetClass,
+  StaticCall,
+  BareConstant,
+  RemovedCall,
+  ImplodeOrder,
+  SubstrFalse,
+  StrposNeedle,
+}
 use Rattle.rule_tables.specs.Rules.{all_rules, number_of}
 use Rattle.rule_tables.specs.SettingsView.{has_rule, settings_of, switches_off}
 

@@ -4,7 +4,30 @@ use Rattle.std.specs.Str.{bytes_eq}
 use Rattle.io_ports.specs.declared.report.Weight.{Weight}
 use Rattle.io_ports.specs.declared.report.Weight.TheVariants.{Note, Stop, Compile}
 use Rattle.rule_tables.specs.declared.rule.RuleId.{RuleId}
-use Rattle.rule_tables.specs.declared.rule.RuleId.TheVariants.{NestedTernary, DotPrecedence, BraceOffset, RealCast, UnsetCast, HashComment, SplitName, DollarBrace, ReservedName, LooseCompare, WordArithmetic, NextKey, OldConstructor, InheritedStatic, DynamicProperty, GetClass, StaticCall, BareConstant, RemovedCall, ImplodeOrder, SubstrFalse, StrposNeedle}
+use Rattle.rule_tables.specs.declared.rule.RuleId.TheVariants.{
+  NestedTernary,
+  DotPrecedence,
+  BraceOffset,
+  RealCast,
+  UnsetCast,
+  HashComment,
+  SplitName,
+  DollarBrace,
+  ReservedName,
+  LooseCompare,
+  WordArithmetic,
+  NextKey,
+  OldConstructor,
+  InheritedStatic,
+  DynamicProperty,
+  GetClass,
+  StaticCall,
+  BareConstant,
+  RemovedCall,
+  ImplodeOrder,
+  SubstrFalse,
+  StrposNeedle,
+}
 
 -- a rule's name, its number, and the weight of its reports of places that it would edit and of undecided ones
 pub record Row : Type 0 where
@@ -57,7 +80,9 @@ undecided_weight_of rule = (row_of rule).undecided
 -- the rules, in the order of their numbers
 abbrev pub all_rules : List RuleId
 all_rules =
-    NestedTernary ∷ DotPrecedence ∷ BraceOffset ∷ RealCast ∷ UnsetCast ∷ HashComment ∷ SplitName ∷ DollarBrace ∷ ReservedName ∷ LooseCompare ∷ WordArithmetic ∷ NextKey ∷ OldConstructor ∷ InheritedStatic ∷ DynamicProperty ∷ GetClass ∷ StaticCall ∷ BareConstant ∷ RemovedCall ∷ ImplodeOrder ∷ SubstrFalse ∷ StrposNeedle ∷ []
+    NestedTernary ∷ DotPrecedence ∷ BraceOffset ∷ RealCast ∷ UnsetCast ∷ HashComment ∷ SplitName ∷ DollarBrace
+    ∷ ReservedName ∷ LooseCompare ∷ WordArithmetic ∷ NextKey ∷ OldConstructor ∷ InheritedStatic ∷ DynamicProperty
+    ∷ GetClass ∷ StaticCall ∷ BareConstant ∷ RemovedCall ∷ ImplodeOrder ∷ SubstrFalse ∷ StrposNeedle ∷ []
 
 -- the rule of a name
 abbrev pub rule_named : List ℕ → Option RuleId

@@ -9,8 +9,6 @@ mod reads;
 mod rule;
 mod settings;
 mod settings_fault;
-#[cfg(test)]
-mod tests;
 
 pub use cause::Cause;
 pub use decision::Decision;

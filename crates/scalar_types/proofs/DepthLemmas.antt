@@ -53,8 +53,11 @@ Below-meet any (array f d) (array g e) n h k = h
 Below-meet (plain m) (plain f) (plain g) n h k = (FactsAmong-common m f g _ h.0 k.0, subst (λ xs. IsSubset xs []) (sym n) (IsSubset-refl []))
 Below-meet (plain m) (plain f) (array g e) n h k = (FactsAmong-common m f g _ h.0 k.0, subst (λ xs. IsSubset xs []) (sym n) (IsSubset-refl []))
 Below-meet (plain m) (array f d) (plain g) n h k = (FactsAmong-common m f g _ h.0 k.0, subst (λ xs. IsSubset xs []) (sym n) (IsSubset-refl []))
-Below-meet (plain m) (array f d) (array g e) n h k =
-    (FactsAmong-common m f g _ h.0 k.0, LabelsAmong-subset m.shared (union f.shared g.shared) (meet_of d e) (subst (λ xs. IsSubset xs (union f.shared g.shared)) (sym n) (IsSubset-nil _)))
+Below-meet (plain m) (array f d) (array g e) n h k = (
+  FactsAmong-common m f g _ h.0 k.0,
+  LabelsAmong-subset m.shared (union f.shared g.shared) (meet_of d e)
+      (subst (λ xs. IsSubset xs (union f.shared g.shared)) (sym n) (IsSubset-nil _)),
+)
 Below-meet (array m w) (plain f) (plain g) n h k = absurd h
 Below-meet (array m w) (plain f) (array g e) n h k = absurd h
 Below-meet (array m w) (array f d) (plain g) n h k = absurd k

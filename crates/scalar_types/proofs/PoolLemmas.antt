@@ -1,5 +1,37 @@
 -- Pools of types.
-use Rattle.std.proofs.Common.{◌≡◌, ℕ, zero, suc, ◌+◌, ◌*◌, ◌<◌, ◌≤◌, ◌^◌, Bool, true, false, List, [], ◌∷◌, ◌++◌, length, Option, Some, None, slice_get, ◌⊎◌, inl, inr, refl, sym, ap, subst, ◌∙◌, arith, length-append}
+use Rattle.std.proofs.Common.{
+  ◌≡◌,
+  ℕ,
+  zero,
+  suc,
+  ◌+◌,
+  ◌*◌,
+  ◌<◌,
+  ◌≤◌,
+  ◌^◌,
+  Bool,
+  true,
+  false,
+  List,
+  [],
+  ◌∷◌,
+  ◌++◌,
+  length,
+  Option,
+  Some,
+  None,
+  slice_get,
+  ◌⊎◌,
+  inl,
+  inr,
+  refl,
+  sym,
+  ap,
+  subst,
+  ◌∙◌,
+  arith,
+  length-append,
+}
 use Rattle.std.specs.Int.{bit_at}
 use Rattle.std.specs.Option.{option_map, IfSome}
 use Rattle.std.proofs.lemmas.Option.{slice_get_within}
@@ -98,7 +130,8 @@ same_facts lists f g p v w h k =
     λ i. record { bits = bits i; neg = neg i; text_keys = text_keys i; shared = shared i; classes = classes i }
 
 -- types with one packed form are equal
-pub same_type : (types : List TypeTerm) (lists : List (List ℕ)) (t u : TypeTerm) (p : Packed) → IsWellFormed t → IsWellFormed u → Packs types lists t p → Packs types lists u p → t ≡ u
+pub same_type : (types : List TypeTerm) (lists : List (List ℕ)) (t u : TypeTerm) (p : Packed) → IsWellFormed t
+    → IsWellFormed u → Packs types lists t p → Packs types lists u p → t ≡ u
 same_type types lists any any p v w h k = refl
 same_type types lists any (plain g) p v w h k = absurd (omega (arith, h.0, k.0.head, head_below g w.0))
 same_type types lists any (array g e) p v w h k = absurd (omega (arith, h.0, k.0.head, head_below g w.0))
@@ -160,13 +193,15 @@ packed_there v pool k p h =
 PacksFacts-grown : (lists more : List (List ℕ)) (f : Facts) (p : Packed) → KeepsEach lists more → PacksFacts lists f p → PacksFacts more f p
 PacksFacts-grown lists more f p k h = record { head = h.head; shared = k.each _ _ h.shared; classes = k.each _ _ h.classes }
 
-pub Packs-grown : (types types' : List TypeTerm) (lists more : List (List ℕ)) → KeepsEach types types' → KeepsEach lists more → (t : TypeTerm) (p : Packed) → Packs types lists t p → Packs types' more t p
+pub Packs-grown : (types types' : List TypeTerm) (lists more : List (List ℕ)) → KeepsEach types types'
+    → KeepsEach lists more → (t : TypeTerm) (p : Packed) → Packs types lists t p → Packs types' more t p
 Packs-grown types types' lists more k l any p h = h
 Packs-grown types types' lists more k l (plain f) p h = (PacksFacts-grown lists more f p l h.0, h.1)
 Packs-grown types types' lists more k l (array f e) p h = (PacksFacts-grown lists more f p l h.0, k.each _ _ h.1)
 
 -- a pool whose lists grew is a pool
-pub IsPool-lists : (types : List TypeTerm) (packed : List Packed) (lists more : List (List ℕ)) → IsPool (record { types = types; packed = packed; lists = lists }) → KeepsEach lists more → HasNoRepeat more
+pub IsPool-lists : (types : List TypeTerm) (packed : List Packed) (lists more : List (List ℕ))
+    → IsPool (record { types = types; packed = packed; lists = lists }) → KeepsEach lists more → HasNoRepeat more
     → IsPool (record { types = types; packed = packed; lists = more })
 IsPool-lists types packed lists more pool kept differ = record {
   any_first = pool.any_first;
@@ -198,7 +233,8 @@ IsPool-adds types types' packed packed' lists t p true pool e d differ h w =
       well_formed = λ k u a. formed k u (slice_get-push_cases types t k u (sym (ap (λ l. slice_get l k) d) ∙ a));
     }
   where
-    packs : (k : ℕ) (u : TypeTerm) (q : Packed) → (slice_get types k ≡ Some u) ⊎ ((k ≡ length types) × (t ≡ u)) → (slice_get packed k ≡ Some q) ⊎ ((k ≡ length packed) × (p ≡ q)) → Packs types lists u q
+    packs : (k : ℕ) (u : TypeTerm) (q : Packed) → (slice_get types k ≡ Some u) ⊎ ((k ≡ length types) × (t ≡ u))
+        → (slice_get packed k ≡ Some q) ⊎ ((k ≡ length packed) × (p ≡ q)) → Packs types lists u q
     packs k u q (inl a) (inl b) = pool.packs k u q a b
     packs k u q (inl a) (inr b) = absurd (omega (arith, slice_get_within types k u a, b.0, pool.counts))
     packs k u q (inr a) (inl b) = absurd (omega (arith, slice_get_within packed k q b, a.0, pool.counts))
@@ -209,7 +245,8 @@ IsPool-adds types types' packed packed' lists t p true pool e d differ h w =
     formed k u (inr a) = subst IsWellFormed a.1 w
 
 -- the number of a packed form is the number of its type
-pub number_of_form : (v : Content) → IsPool v → (t : TypeTerm) (p : Packed) (id : ℕ) → IsWellFormed t → Packs v.types v.lists t p → slice_get v.packed id ≡ Some p → slice_get v.types id ≡ Some t
+pub number_of_form : (v : Content) → IsPool v → (t : TypeTerm) (p : Packed) (id : ℕ) → IsWellFormed t
+    → Packs v.types v.lists t p → slice_get v.packed id ≡ Some p → slice_get v.types id ≡ Some t
 number_of_form v pool t p id w h e =
     let u = slice_get-exists v.types id (omega (arith, pool.counts, slice_get_within v.packed id p e)) in
     u.1 ∙ ap Some (same_type v.types v.lists u.0 t p (pool.well_formed id u.0 u.1) w (pool.packs id u.0 p u.1 e) h)
@@ -229,7 +266,8 @@ adds_none types types' packed packed' lists t p true pool e d differ h k there =
     absurd (omega arith)
 
 -- the packed form of a known type
-pub Packs-known : (types : List TypeTerm) (lists : List (List ℕ)) (f : Facts) (t : TypeTerm) (p : Packed) → IsKnownWith types f p.element.0 t → PacksFacts lists f p → Packs types lists t p
+pub Packs-known : (types : List TypeTerm) (lists : List (List ℕ)) (f : Facts) (t : TypeTerm) (p : Packed)
+    → IsKnownWith types f p.element.0 t → PacksFacts lists f p → Packs types lists t p
 Packs-known types lists f any p k h = absurd k
 Packs-known types lists f (plain g) p k h = (subst (λ m. PacksFacts lists m p) k.0 h, k.1)
 Packs-known types lists f (array g e) p k h = (subst (λ m. PacksFacts lists m p) k.0 h, k.1)
@@ -254,7 +292,8 @@ pub record Stored (types types' : List TypeTerm) (packed packed' : List Packed) 
   pub adds : (added : Bool) × (KeepsOrAdds packed packed' p added × KeepsOrAdds types types' t added)
   pub differ : HasNoRepeat packed'
 
-module _ (types types' : List TypeTerm) (packed packed' : List Packed) (lists more : List (List ℕ)) (f : Facts) (t : TypeTerm) (p : Packed) (s : Stored types types' packed packed' lists more f t p) where
+module _ (types types' : List TypeTerm) (packed packed' : List Packed) (lists more : List (List ℕ)) (f : Facts)
+    (t : TypeTerm) (p : Packed) (s : Stored types types' packed packed' lists more f t p) where
   form : Packs types more t p
   form = Packs-known types more f t p s.known s.facts
 

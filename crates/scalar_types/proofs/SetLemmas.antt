@@ -1,5 +1,34 @@
 -- Lemmas about sets of numbers as ascending lists.
-use Rattle.std.proofs.Common.{◌≡◌, ℕ, ◌+◌, ◌<◌, ◌≤◌, suc, zero, Bool, true, false, cond, eqb, ltb, List, [], ◌∷◌, length, get_or, filter, ◌⊎◌, inl, inr, refl, sym, ap, subst, ◌∙◌, arith}
+use Rattle.std.proofs.Common.{
+  ◌≡◌,
+  ℕ,
+  ◌+◌,
+  ◌<◌,
+  ◌≤◌,
+  suc,
+  zero,
+  Bool,
+  true,
+  false,
+  cond,
+  eqb,
+  ltb,
+  List,
+  [],
+  ◌∷◌,
+  length,
+  get_or,
+  filter,
+  ◌⊎◌,
+  inl,
+  inr,
+  refl,
+  sym,
+  ap,
+  subst,
+  ◌∙◌,
+  arith,
+}
 use Rattle.std.proofs.Common.{Result, Ok, Err, is_ok, MatchResult, ◌++◌}
 use Rattle.std.specs.List.{list_any, list_all, Contains, dedup}
 use Rattle.std.specs.Ordering.{nat_cmp}
@@ -9,7 +38,24 @@ use Rattle.std.proofs.lemmas.List.Sorted.{searched, IsPermutation-sym, Contains-
 use Rattle.std.proofs.lemmas.Map.Keys.{IsStrictlyIncreasing-dedup}
 use Rattle.std.specs.List.Sorted.{IsStrictlyIncreasing, IsSorted, IsPermutation, IsBinarySearchResult}
 use Rattle.std.proofs.lemmas.List.Kept.{AllPairs-from_increasing, Contains-dedup_nat, Contains-from_dedup}
-use Rattle.std.proofs.lemmas.Bool.{cond_both, ltb-true, ltb-false, eqb-true, eqb-false, eq-eqb, false≢true, or_cases, or_left, or_right, cases_lt, cases_eq, and_parts, and_from, false_from_ne_true, true≢false}
+use Rattle.std.proofs.lemmas.Bool.{
+  cond_both,
+  ltb-true,
+  ltb-false,
+  eqb-true,
+  eqb-false,
+  eq-eqb,
+  false≢true,
+  or_cases,
+  or_left,
+  or_right,
+  cases_lt,
+  cases_eq,
+  and_parts,
+  and_from,
+  false_from_ne_true,
+  true≢false,
+}
 use native.Mathlib.Numerals.{unary_clauses}
 use Rattle.scalar_types.specs.Sets.{IsSubset, insert_number, union, intersection}
 
@@ -218,7 +264,9 @@ is_ok-search xs x r up h = by r (searched xs x r h rises)
         let at : get_or xs c.0 0 ≡ x = sym (get_or_read xs c.0 x c.1 (sym c.2) 0) in
         elim (cases_lt c.0 i) [ inl l ↦ (let m = low c.0 l in omega (arith, at)) | inr g ↦ (let m = high c.0 g c.1 in omega (arith, at)) ]
 
-    by : (r : Result ℕ ℕ) → MatchResult r (λ i. (i < length xs) × (get_or xs i 0 ≡ x)) (λ i. (i ≤ length xs) × ((k : ℕ) → k < i → get_or xs k 0 < x) × ((k : ℕ) → i ≤ k → k < length xs → x < get_or xs k 0)) → is_ok r ≡ list_any (λ y. eqb x y) xs
+    by : (r : Result ℕ ℕ) → MatchResult r (λ i. (i < length xs) × (get_or xs i 0 ≡ x))
+        (λ i. (i ≤ length xs) × ((k : ℕ) → k < i → get_or xs k 0 < x)
+        × ((k : ℕ) → i ≤ k → k < length xs → x < get_or xs k 0)) → is_ok r ≡ list_any (λ y. eqb x y) xs
     by (Ok i) m = sym (any_from_Has x xs (subst (Has xs) m.1 (Has-from_Contains xs (get_or xs i 0) (Contains-get_or xs i 0 m.0))))
     by (Err i) m = sym (false_from_ne_true _ (λ t. none i m.1 m.2 (Has-from_any x xs t)))
 

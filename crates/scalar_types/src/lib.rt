@@ -21,8 +21,3 @@ pub use meets::meet;
 pub use order::below;
 pub use php_type::{Parts, PhpType};
 pub use pool::{Packed, Pool, TypeId};
-
-#[cfg(test)]
-mod pool_tests;
-#[cfg(test)]
-mod tests;

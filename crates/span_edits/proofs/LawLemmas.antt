@@ -1,5 +1,39 @@
 -- What a splice keeps.
-use Rattle.std.proofs.Common.{◌≡◌, ℕ, zero, suc, ◌+◌, ◌-◌, ◌<◌, ◌≤◌, inl, inr, true, false, cond, Some, List, [], ◌∷◌, ◌++◌, length, take, drop, filter, All, refl, sym, ap, ◌∙◌, subst, arith, nat_le, nat_lt, append_assoc, slice_get}
+use Rattle.std.proofs.Common.{
+  ◌≡◌,
+  ℕ,
+  zero,
+  suc,
+  ◌+◌,
+  ◌-◌,
+  ◌<◌,
+  ◌≤◌,
+  inl,
+  inr,
+  true,
+  false,
+  cond,
+  Some,
+  List,
+  [],
+  ◌∷◌,
+  ◌++◌,
+  length,
+  take,
+  drop,
+  filter,
+  All,
+  refl,
+  sym,
+  ap,
+  ◌∙◌,
+  subst,
+  arith,
+  nat_le,
+  nat_lt,
+  append_assoc,
+  slice_get,
+}
 use Rattle.std.proofs.lemmas.List.{append-nil, length-append, length-take-le, length-drop, take_at, drop_at, drop-drop}
 use Rattle.std.proofs.lemmas.List.Elements.{All-head, All-tail, All-nil, All-cons}
 use Rattle.std.proofs.lemmas.Bool.{cases_lt}
@@ -8,7 +42,18 @@ use Rattle.span_edits.specs.declared.edit.Edit.{Edit}
 use Rattle.span_edits.specs.EditList.{AreApart}
 use Rattle.span_edits.specs.Splice.{texts_at, is_replaced, spliced_from, spliced}
 use Rattle.span_edits.proofs.PlaceLemmas.{AreApart-within}
-use Rattle.span_edits.proofs.SpliceLemmas.{step, regroup, texts_at-none, is_replaced-none, is_replaced-other, is_replaced-here, spliced_from-passed, spliced_from-skip, spliced_from-edit, spliced_from-none}
+use Rattle.span_edits.proofs.SpliceLemmas.{
+  step,
+  regroup,
+  texts_at-none,
+  is_replaced-none,
+  is_replaced-other,
+  is_replaced-here,
+  spliced_from-passed,
+  spliced_from-skip,
+  spliced_from-edit,
+  spliced_from-none,
+}
 
 -- an edit ends at a place or before
 abbrev pub EndsBy : ℕ → Edit → Type 0
@@ -34,7 +79,8 @@ is_replaced-before place (e ∷ front) back h =
     is_replaced-other place e (front ++ back) (inl (All-head (EndsBy place) e front h)) ∙ is_replaced-before place front back (All-tail (EndsBy place) e front h)
 
 -- edits that lie before a place change nothing from the next place on
-spliced_from-before : (place : ℕ) (bytes : List ℕ) (front back : List Edit) → All (EndsBy place) front → spliced_from (place + 1) bytes (front ++ back) ≡ spliced_from (place + 1) bytes back
+spliced_from-before : (place : ℕ) (bytes : List ℕ) (front back : List Edit) → All (EndsBy place) front
+    → spliced_from (place + 1) bytes (front ++ back) ≡ spliced_from (place + 1) bytes back
 spliced_from-before place bytes [] back h = refl
 spliced_from-before place bytes (e ∷ front) back h =
     let here : e.span.end ≤ place = All-head (EndsBy place) e front h in
@@ -42,14 +88,18 @@ spliced_from-before place bytes (e ∷ front) back h =
     ∙ spliced_from-before place bytes front back (All-tail (EndsBy place) e front h)
 
 -- edits before a place and behind it, from an earlier place on
-pub spliced_from-join : (n at place to : ℕ) (bytes : List ℕ) (front back : List Edit) → place ≡ at + n → n ≤ length bytes → All (EndsBy place) front → AreApart place back to → spliced_from at bytes (front ++ back) ≡ spliced_from at (take n bytes) front ++ spliced_from place (drop n bytes) back
+pub spliced_from-join : (n at place to : ℕ) (bytes : List ℕ) (front back : List Edit) → place ≡ at + n
+    → n ≤ length bytes → All (EndsBy place) front → AreApart place back to
+    → spliced_from at bytes (front ++ back) ≡ spliced_from at (take n bytes) front
+    ++ spliced_from place (drop n bytes) back
 spliced_from-join zero at place to [] front back eq h ended a =
     let same : at ≡ place = omega arith in
     texts_at-append at front back ∙ ap (λ p. texts_at at front ++ texts_at p back) same
 spliced_from-join zero at place to (b ∷ bytes) front back eq h ended a =
     let same : at ≡ place = omega arith in
     let ended_at : All (EndsBy at) front = subst (λ p. All (EndsBy p) front) (sym same) ended in
-    step at b bytes (front ++ back) (texts_at at front ++ texts_at at back) (is_replaced at back) (spliced_from (at + 1) bytes back) (texts_at-append at front back) (is_replaced-before at front back ended_at)
+    step at b bytes (front ++ back) (texts_at at front ++ texts_at at back) (is_replaced at back)
+    (spliced_from (at + 1) bytes back) (texts_at-append at front back) (is_replaced-before at front back ended_at)
     (spliced_from-before at bytes front back ended_at)
     ∙ regroup (texts_at at front) (texts_at at back) (cond (is_replaced at back) [] (b ∷ [])) (spliced_from (at + 1) bytes back)
     ∙ ap (λ p. texts_at at front ++ spliced_from p (b ∷ bytes) back) same
@@ -62,12 +112,17 @@ spliced_from-join (suc n) at place to (b ∷ bytes) front back eq h ended a =
     ∙ sym (append_assoc (texts_at at front ++ cond (is_replaced at front) [] (b ∷ [])) (spliced_from (at + 1) (take n bytes) front) (spliced_from place (drop n bytes) back))
 
 -- the same from the first byte on
-pub spliced-join : (source : List ℕ) (place : ℕ) (front back : List Edit) → place ≤ length source → AreApart 0 front place → AreApart place back (length source) → spliced source (front ++ back) ≡ spliced (take place source) front ++ spliced_from place (drop place source) back
+pub spliced-join : (source : List ℕ) (place : ℕ) (front back : List Edit) → place ≤ length source
+    → AreApart 0 front place → AreApart place back (length source)
+    → spliced source (front ++ back) ≡ spliced (take place source) front
+    ++ spliced_from place (drop place source) back
 spliced-join source place front back h before behind =
     spliced_from-join place 0 place (length source) source front back (omega arith) h (EndsBy-from_apart 0 place front before) behind
 
 -- edits that are made together are made one after another, the last one first
-pub spliced-last : (source : List ℕ) (edits : List Edit) (e : Edit) → AreApart 0 edits e.span.start → e.span.end ≤ length source → spliced source (edits ++ e ∷ []) ≡ spliced (take e.span.start source ++ (e.text ++ drop e.span.end source)) edits
+pub spliced-last : (source : List ℕ) (edits : List Edit) (e : Edit) → AreApart 0 edits e.span.start
+    → e.span.end ≤ length source → spliced source (edits ++ e ∷ []) ≡ spliced
+    (take e.span.start source ++ (e.text ++ drop e.span.end source)) edits
 spliced-last source edits e a h =
     let start = e.span.start in
     let within : start ≤ length source = omega (arith, e.span.ordered) in
@@ -76,7 +131,8 @@ spliced-last source edits e a h =
     let whole : start ≤ length (take start source ++ rest) = simp length-append (omega arith) in
     let made : spliced_from start (drop start source) (e ∷ []) ≡ rest =
     spliced_from-edit (e.span.end - start) start (length source) (drop start source) e [] refl (omega (arith, e.span.ordered)) (simp length-drop (omega (arith, e.span.ordered))) h
-    ∙ ap (λ ys. e.text ++ ys) (spliced_from-none e.span.end (drop (e.span.end - start) (drop start source)) ∙ drop-drop (e.span.end - start) start source ∙ ap (λ n. drop n source) (omega (arith, e.span.ordered))) in
+    ∙ ap (λ ys. e.text ++ ys) (spliced_from-none e.span.end (drop (e.span.end - start) (drop start source))
+    ∙ drop-drop (e.span.end - start) start source ∙ ap (λ n. drop n source) (omega (arith, e.span.ordered))) in
     spliced-join source start edits (e ∷ []) within a (omega arith, h)
     ∙ ap (λ ys. spliced (take start source) edits ++ ys) (made ∙ sym (spliced_from-none start rest))
     ∙ sym (ap (λ es. spliced (take start source ++ rest) es) (sym (append-nil edits))
@@ -85,7 +141,8 @@ spliced-last source edits e a h =
     ∙ ap (λ ys. spliced (take start source) edits ++ spliced_from start ys []) (drop_at (take start source) rest start front))
 
 -- edits behind a place pass no test for those before it
-filter-behind : (place from to : ℕ) (edits : List Edit) → place < from → AreApart from edits to → (filter (λ e. nat_le e.span.end place) edits ≡ []) × (filter (λ e. nat_lt place e.span.end) edits ≡ edits)
+filter-behind : (place from to : ℕ) (edits : List Edit) → place < from → AreApart from edits to
+    → (filter (λ e. nat_le e.span.end place) edits ≡ []) × (filter (λ e. nat_lt place e.span.end) edits ≡ edits)
 filter-behind place from to [] h a = (refl, refl)
 filter-behind place from to (e ∷ edits) h a =
     let ends : place < e.span.end = omega (arith, a.0, e.span.ordered) in
@@ -141,7 +198,10 @@ AreApart-earlier early from to [] h a = omega arith
 AreApart-earlier early from to (e ∷ edits) h a = (omega (arith, a.0), a.1)
 
 -- a byte that no edit replaces stays
-pub spliced-outside : (source : List ℕ) (edits : List Edit) (place byte : ℕ) → AreApart 0 edits (length source) → is_replaced place edits ≡ false → slice_get source place ≡ Some byte → spliced source edits ≡ spliced (take place source) (filter (λ e. nat_le e.span.end place) edits) ++ byte ∷ spliced_from (place + 1) (drop (place + 1) source) (filter (λ e. nat_lt place e.span.end) edits)
+pub spliced-outside : (source : List ℕ) (edits : List Edit) (place byte : ℕ) → AreApart 0 edits (length source)
+    → is_replaced place edits ≡ false → slice_get source place ≡ Some byte
+    → spliced source edits ≡ spliced (take place source) (filter (λ e. nat_le e.span.end place) edits) ++ byte
+    ∷ spliced_from (place + 1) (drop (place + 1) source) (filter (λ e. nat_lt place e.span.end) edits)
 spliced-outside source edits place byte a out got =
     let here = drop-get source place byte got in
     let parts = Parted-outside place 0 (length source) edits here.0 a out in

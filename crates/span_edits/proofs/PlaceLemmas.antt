@@ -1,5 +1,37 @@
 -- Facts on spans that cross, and on positions in a list of edits.
-use Rattle.std.proofs.Common.{◌≡◌, ℕ, zero, suc, ◌+◌, ◌<◌, ◌≤◌, inl, inr, Bool, true, false, not, List, [], ◌∷◌, ◌++◌, length, take, drop, filter, All, refl, sym, ap, ◌∙◌, subst, arith, nat_le, nat_lt, get_or}
+use Rattle.std.proofs.Common.{
+  ◌≡◌,
+  ℕ,
+  zero,
+  suc,
+  ◌+◌,
+  ◌<◌,
+  ◌≤◌,
+  inl,
+  inr,
+  Bool,
+  true,
+  false,
+  not,
+  List,
+  [],
+  ◌∷◌,
+  ◌++◌,
+  length,
+  take,
+  drop,
+  filter,
+  All,
+  refl,
+  sym,
+  ap,
+  ◌∙◌,
+  subst,
+  arith,
+  nat_le,
+  nat_lt,
+  get_or,
+}
 use Rattle.std.specs.List.{AllWithin}
 use Rattle.std.specs.List.Sorted.{IsNonDecreasingBy}
 use Rattle.std.proofs.lemmas.List.{take-append-drop, drop_more, take_all, length-append, get_or_at}
@@ -62,7 +94,9 @@ AreApart-drop (suc n) from to [] a = (from, a)
 AreApart-drop (suc n) from to (e ∷ edits) a = AreApart-drop n e.span.end to edits a.1
 
 -- where a list is parted by a test, its front and its back are what passes and what doesn't
-pub filter-parted : {X : Type 0} (p q : X → Bool) (other : (x : X) → q x ≡ not (p x)) (xs : List X) (i : ℕ) → i ≤ length xs → AllWithin (λ y. p y ≡ true) xs 0 i → AllWithin (λ y. p y ≡ false) xs i (length xs) → (take i xs ≡ filter p xs) × (drop i xs ≡ filter q xs)
+pub filter-parted : {X : Type 0} (p q : X → Bool) (other : (x : X) → q x ≡ not (p x)) (xs : List X) (i : ℕ)
+    → i ≤ length xs → AllWithin (λ y. p y ≡ true) xs 0 i → AllWithin (λ y. p y ≡ false) xs i (length xs)
+    → (take i xs ≡ filter p xs) × (drop i xs ≡ filter q xs)
 filter-parted p q other [] zero le passing failing = (refl, refl)
 filter-parted p q other [] (suc i) le passing failing = absurd (omega arith)
 filter-parted p q other (x ∷ xs) zero le passing failing =
@@ -72,7 +106,9 @@ filter-parted p q other (x ∷ xs) zero le passing failing =
     (rw fails rest.0, rw passes (ap (λ ys. x ∷ ys) rest.1))
 filter-parted p q other (x ∷ xs) (suc i) le passing failing =
     let passes : p x ≡ true = passing zero x (omega arith) (omega arith) in
-    let rest = filter-parted p q other xs i (omega arith) (λ k d low high. passing (suc k) d (omega arith) (omega arith)) (λ k d low high. failing (suc k) d (omega arith) (omega arith)) in
+    let rest = filter-parted p q other xs i (omega arith)
+    (λ k d low high. passing (suc k) d (omega arith) (omega arith))
+    (λ k d low high. failing (suc k) d (omega arith) (omega arith)) in
     let fails : q x ≡ false = other x ∙ ap not passes in
     (rw passes (ap (λ ys. x ∷ ys) rest.0), rw fails rest.1)
 
@@ -81,7 +117,9 @@ pub nat_lt-is_not_le : (a b : ℕ) → nat_lt a b ≡ not (nat_le b a)
 nat_lt-is_not_le a b = grind (arith, nat_tests)
 
 -- what `partition_point` gives
-pub IsFirstAfter-from_parted : (place to : ℕ) (edits : List Edit) (at : ℕ) → at ≤ length edits → AllWithin (λ (e : Edit). nat_le e.span.end place ≡ true) edits 0 at → AllWithin (λ (e : Edit). nat_le e.span.end place ≡ false) edits at (length edits) → IsFirstAfter place edits at
+pub IsFirstAfter-from_parted : (place to : ℕ) (edits : List Edit) (at : ℕ) → at ≤ length edits
+    → AllWithin (λ (e : Edit). nat_le e.span.end place ≡ true) edits 0 at
+    → AllWithin (λ (e : Edit). nat_le e.span.end place ≡ false) edits at (length edits) → IsFirstAfter place edits at
 IsFirstAfter-from_parted place to edits at le passing failing =
     let parts = filter-parted (λ (e : Edit). nat_le e.span.end place) (λ e. nat_lt place e.span.end) (λ e. nat_lt-is_not_le place e.span.end) edits at le passing failing in
     record { within = le; front = parts.0; back = parts.1 }
@@ -94,7 +132,8 @@ front-apart span edits at first =
     (filter_passes (λ (f : Edit). nat_le f.span.end span.start) edits))
 
 -- none of the edits behind an edit that begins at a span's end or later crosses the span
-pub back-apart : (span : Span) (from to : ℕ) (e : Edit) (edits : List Edit) → AreApart from (e ∷ edits) to → span.end ≤ e.span.start → All (λ f. Crosses span f.span → ⊥) (e ∷ edits)
+pub back-apart : (span : Span) (from to : ℕ) (e : Edit) (edits : List Edit) → AreApart from (e ∷ edits) to
+    → span.end ≤ e.span.start → All (λ f. Crosses span f.span → ⊥) (e ∷ edits)
 back-apart span from to e edits a le =
     All-weaker (λ (f : Edit). e.span.start ≤ f.span.start) (λ f. Crosses span f.span → ⊥) (λ f h. Crosses-before span f.span (omega arith)) (e ∷ edits)
     (AreApart-start e.span.start to (e ∷ edits) (omega arith, a.1))
@@ -107,12 +146,14 @@ drop-at edits at e h is = drop_more edits at e h ∙ ap (λ f. f ∷ drop (at + 
 pub ends-behind : (place : ℕ) (edits : List Edit) (at : ℕ) (e : Edit) → IsFirstAfter place edits at → at < length edits → e ≡ get_or edits at e → place < e.span.end
 ends-behind place edits at e first h is =
     let Later : Edit → Type 0 = λ f. nat_lt place f.span.end ≡ true in
-    let all : All Later (e ∷ drop (at + 1) edits) = All-same Later (e ∷ drop (at + 1) edits) _ (sym (drop-at edits at e h is) ∙ first.back) (filter_passes (λ (f : Edit). nat_lt place f.span.end) edits) in
+    let all : All Later (e ∷ drop (at + 1) edits) = All-same Later (e ∷ drop (at + 1) edits) _
+    (sym (drop-at edits at e h is) ∙ first.back) (filter_passes (λ (f : Edit). nat_lt place f.span.end) edits) in
     let here : nat_lt place e.span.end ≡ true = All-head Later e (drop (at + 1) edits) all in
     grind (arith, nat_tests)
 
 -- an edit that begins before the span ends is the first that crosses it
-pub FirstCrossed-from_first : (span : Span) (edits : List Edit) (at : ℕ) (e : Edit) → IsFirstAfter span.start edits at → at < length edits → e ≡ get_or edits at e → e.span.start < span.end → FirstCrossed span edits e.span
+pub FirstCrossed-from_first : (span : Span) (edits : List Edit) (at : ℕ) (e : Edit) → IsFirstAfter span.start edits at
+    → at < length edits → e ≡ get_or edits at e → e.span.start < span.end → FirstCrossed span edits e.span
 FirstCrossed-from_first span edits at e first h is before = record {
   front = take at edits;
   crossed = e;
@@ -124,7 +165,9 @@ FirstCrossed-from_first span edits at e first h is before = record {
 }
 
 -- where the edit at the position begins at the span's end or later, no edit crosses the span
-pub IsPlaceFor-from_behind : (span : Span) (to : ℕ) (edits : List Edit) (at : ℕ) (e : Edit) → AreApart 0 edits to → IsFirstAfter span.start edits at → at < length edits → e ≡ get_or edits at e → span.end ≤ e.span.start → IsPlaceFor span edits at
+pub IsPlaceFor-from_behind : (span : Span) (to : ℕ) (edits : List Edit) (at : ℕ) (e : Edit) → AreApart 0 edits to
+    → IsFirstAfter span.start edits at → at < length edits → e ≡ get_or edits at e → span.end ≤ e.span.start
+    → IsPlaceFor span edits at
 IsPlaceFor-from_behind span to edits at e a first h is le =
     let Free : Edit → Type 0 = λ f. Crosses span f.span → ⊥ in
     let later = AreApart-drop at 0 to edits a in
@@ -155,7 +198,9 @@ AreApart-later from later to [] a all le = le
 AreApart-later from later to (e ∷ edits) a all le = (All-head (λ f. later ≤ f.span.start) e edits all, a.1)
 
 -- an edit goes between those that end at its start or before and those that begin at its end or later
-pub AreApart-insert : (from to : ℕ) (e : Edit) (edits : List Edit) (at : ℕ) → AreApart from edits to → from ≤ e.span.start → e.span.end ≤ to → All (λ f. f.span.end ≤ e.span.start) (take at edits) → All (λ f. e.span.end ≤ f.span.start) (drop at edits) → AreApart from (take at edits ++ e ∷ drop at edits) to
+pub AreApart-insert : (from to : ℕ) (e : Edit) (edits : List Edit) (at : ℕ) → AreApart from edits to
+    → from ≤ e.span.start → e.span.end ≤ to → All (λ f. f.span.end ≤ e.span.start) (take at edits)
+    → All (λ f. e.span.end ≤ f.span.start) (drop at edits) → AreApart from (take at edits ++ e ∷ drop at edits) to
 AreApart-insert from to e edits zero a low high front back = (low, AreApart-later from e.span.end to edits a back high)
 AreApart-insert from to e [] (suc at) a low high front back = (low, high)
 AreApart-insert from to e (f ∷ edits) (suc at) a low high front back =
@@ -169,7 +214,8 @@ begins-later e f later free =
     elim (cases_lt f.span.start e.span.end) [ inl lt ↦ absurd (free (Crosses-from_places e.span f.span behind lt)) | inr le ↦ le ]
 
 -- the edits with one more at its place lie apart
-pub AreApart-at_place : (to : ℕ) (e : Edit) (edits : List Edit) (at : ℕ) → AreApart 0 edits to → e.span.end ≤ to → IsPlaceFor e.span edits at → AreApart 0 (take at edits ++ e ∷ drop at edits) to
+pub AreApart-at_place : (to : ℕ) (e : Edit) (edits : List Edit) (at : ℕ) → AreApart 0 edits to → e.span.end ≤ to
+    → IsPlaceFor e.span edits at → AreApart 0 (take at edits ++ e ∷ drop at edits) to
 AreApart-at_place to e edits at a high place =
     let Free : Edit → Type 0 = λ f. Crosses e.span f.span → ⊥ in
     let Ended : Edit → Type 0 = λ f. nat_le f.span.end e.span.start ≡ true in
@@ -186,11 +232,14 @@ pub FirstCrossed-none : (span : Span) (edits : List Edit) (stored : Span) → Al
 FirstCrossed-none span edits stored free first =
     let Free : Edit → Type 0 = λ f. Crosses span f.span → ⊥ in
     let all : All Free (first.front ++ first.crossed ∷ first.back) = All-same Free _ edits (sym first.are_edits) free in
-    let here : Free (get_or (first.front ++ first.crossed ∷ first.back) (length first.front) first.crossed) = all (length first.front) first.crossed (rw length-append (omega arith)) in
+    let here : Free (get_or (first.front ++ first.crossed ∷ first.back) (length first.front) first.crossed) =
+    all (length first.front) first.crossed (rw length-append (omega arith)) in
     (rw (get_or_at first.front first.crossed first.back first.crossed (length first.front) refl) at here) first.crosses
 
 -- the first crossed edit is one
-first-unique : (span : Span) (f g : List Edit) (x y : Edit) (b d : List Edit) → f ++ x ∷ b ≡ g ++ y ∷ d → All (λ e. Crosses span e.span → ⊥) f → All (λ e. Crosses span e.span → ⊥) g → Crosses span x.span → Crosses span y.span → x ≡ y
+first-unique : (span : Span) (f g : List Edit) (x y : Edit) (b d : List Edit) → f ++ x ∷ b ≡ g ++ y ∷ d
+    → All (λ e. Crosses span e.span → ⊥) f → All (λ e. Crosses span e.span → ⊥) g → Crosses span x.span
+    → Crosses span y.span → x ≡ y
 first-unique span [] [] x y b d e f-free g-free cx cy = cc
 first-unique span [] (z ∷ g) x y b d e f-free g-free cx cy =
     let same : x ≡ z = cc in
@@ -205,8 +254,10 @@ first-unique span (z ∷ f) (w ∷ g) x y b d e f-free g-free cx cy =
 
 pub FirstCrossed-unique : (span : Span) (edits : List Edit) (s t : Span) → FirstCrossed span edits s → FirstCrossed span edits t → s ≡ t
 FirstCrossed-unique span edits s t a b =
-    a.is_stored ∙ ap (λ (e : Edit). e.span) (first-unique span a.front b.front a.crossed b.crossed a.back b.back (sym a.are_edits ∙ b.are_edits) a.earlier b.earlier a.crosses b.crosses) ∙ sym b.is_stored
+    a.is_stored ∙ ap (λ (e : Edit). e.span) (first-unique span a.front b.front a.crossed b.crossed a.back b.back
+    (sym a.are_edits ∙ b.are_edits) a.earlier b.earlier a.crosses b.crosses) ∙ sym b.is_stored
 
 -- edits that lie apart from a position on begin with the one there
-pub AreApart-next : (from to : ℕ) (edits : List Edit) (at : ℕ) (e : Edit) → AreApart from (drop at edits) to → at < length edits → e ≡ get_or edits at e → AreApart from (e ∷ drop (at + 1) edits) to
+pub AreApart-next : (from to : ℕ) (edits : List Edit) (at : ℕ) (e : Edit) → AreApart from (drop at edits) to
+    → at < length edits → e ≡ get_or edits at e → AreApart from (e ∷ drop (at + 1) edits) to
 AreApart-next from to edits at e a h is = subst (λ ys. AreApart from ys to) (drop-at edits at e h is) a

@@ -9,8 +9,6 @@ mod laws;
 mod path_text;
 mod places;
 mod span;
-#[cfg(test)]
-mod tests;
 
 pub use bytes::Bytes;
 pub use edit::Edit;

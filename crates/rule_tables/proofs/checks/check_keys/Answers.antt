@@ -20,7 +20,8 @@ returns-in_err-check_key c = λ free.
     let answer : c.from_residual.result ≡ Err c.in_err-check_key.field-0.0 = exit.1 ∙ ap Err exit.2 in
     let found = c.in_err-check_key.ensures (λ m. free (answer ∙ m)) in
     answer
-    ∙ failed-least key_fault c.args.document.now.entries c.loop-key.key-iterator c.next.new.self (c.in-Some.key.now, c.in-Some.value.now) c.in_err-check_key.field-0.0 c.loop-key.invariant more
+    ∙ failed-least key_fault c.args.document.now.entries c.loop-key.key-iterator c.next.new.self
+    (c.in-Some.key.now, c.in-Some.value.now) c.in_err-check_key.field-0.0 c.loop-key.invariant more
     c.into_iter-key-iterator.ensures.into_iter_gives.5 (rw c.as_str.ensures.value at found)
 
 pub returns : goal.returns

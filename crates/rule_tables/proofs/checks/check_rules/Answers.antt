@@ -10,7 +10,8 @@ use Rattle.rule_tables.proofs.checks.check_rules.Goals as goal
 pub loop-name-preserved : goal.loop-name-preserved
 loop-name-preserved c =
     let more = rest_more deref_pair c.loop-name.name-iterator c.next.new.self c.next.result (c.in-Some.name, c.in-Some.switch) c.in-Some.is c.next.ensures.steps in
-    sym (first-passed rule_fault c.loop-name.name-iterator c.next.new.self (c.in-Some.name.now, c.in-Some.switch.now) more (rw c.as_str.ensures.value at c.in_ok-check_rule.ensures))
+    sym (first-passed rule_fault c.loop-name.name-iterator c.next.new.self (c.in-Some.name.now, c.in-Some.switch.now)
+    more (rw c.as_str.ensures.value at c.in_ok-check_rule.ensures))
     ∙ c.loop-name.invariant
 
 pub returns-in_err-check_rule : goal.returns-in_err-check_rule
@@ -20,7 +21,8 @@ returns-in_err-check_rule c = λ free.
     let answer : c.from_residual.result ≡ Err c.in_err-check_rule.field-0.0 = exit.1 ∙ ap Err exit.2 in
     let found = c.in_err-check_rule.ensures (λ m. free (answer ∙ m)) in
     answer
-    ∙ failed-least rule_fault c.args.rules.now.entries c.loop-name.name-iterator c.next.new.self (c.in-Some.name.now, c.in-Some.switch.now) c.in_err-check_rule.field-0.0 c.loop-name.invariant more
+    ∙ failed-least rule_fault c.args.rules.now.entries c.loop-name.name-iterator c.next.new.self
+    (c.in-Some.name.now, c.in-Some.switch.now) c.in_err-check_rule.field-0.0 c.loop-name.invariant more
     c.into_iter-name-iterator.ensures.into_iter_gives.5 (rw c.as_str.ensures.value at found)
 
 pub returns : goal.returns

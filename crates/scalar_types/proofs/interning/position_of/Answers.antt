@@ -9,7 +9,8 @@ use Rattle.scalar_types.proofs.interning.position_of.Goals as goal
 
 pub returns-clause-kept : goal.returns-clause-kept
 returns-clause-kept c =
-    subst (λ l. KeepsEach (rows c.args.lists.now.keys) (rows l)) (sym c.in_ok-at.ensures.keys) (KeepsEach-insert_key _ (λ x y. pointwise eqb x.items y.items) c.args.lists.now.keys c.in_ok-numbers.numbers)
+    subst (λ l. KeepsEach (rows c.args.lists.now.keys) (rows l)) (sym c.in_ok-at.ensures.keys)
+    (KeepsEach-insert_key _ (λ x y. pointwise eqb x.items y.items) c.args.lists.now.keys c.in_ok-numbers.numbers)
 
 pub returns-clause-found : goal.returns-clause-found
 returns-clause-found c =

@@ -12,7 +12,8 @@ returns-in_default-clause-kept c =
 
 pub returns-clause-count : goal.returns-clause-count
 returns-clause-count c =
-    c.count.ensures.count ∙ sym (ap length (jobs_of-found c.args.owner.now c.self.inside.owners.entries c.args.self.now c.self.view_is c.self.invariant c.in-Some.jobs.now (sym c.in-Some.ensures.value)))
+    c.count.ensures.count ∙ sym (ap length (jobs_of-found c.args.owner.now c.self.inside.owners.entries
+    c.args.self.now c.self.view_is c.self.invariant c.in-Some.jobs.now (sym c.in-Some.ensures.value)))
 
 pub returns-clause-kept : goal.returns-clause-kept
 returns-clause-kept c =

@@ -14,16 +14,34 @@ returns-in_default-clause-jobs c =
 
 pub invariant_of-self : goal.invariant_of-self
 invariant_of-self c =
-    (written-read c.args.number c.in-Some.place c.index_mut-job.result.now c.self.inside.jobs.entries c.args.self.now c.self.view_is c.self.invariant c.in-Some.ensures.place c.index_mut-job.ensures.value (judged_job c.args.n c.args.verdict c.args.note) (λ _. refl) (λ _. refl) (λ j h. h ∙ sym (length-judged_reports c.args.n c.args.verdict c.args.note j.reports)) _ (ap (λ reports. record (stored c.index_mut-job.result.now) { reports = reports }) c.judge_report.ensures.reports)).map
+    (written-read c.args.number c.in-Some.place c.index_mut-job.result.now c.self.inside.jobs.entries c.args.self.now
+    c.self.view_is c.self.invariant c.in-Some.ensures.place c.index_mut-job.ensures.value
+    (judged_job c.args.n c.args.verdict c.args.note) (λ _. refl) (λ _. refl)
+    (λ j h. h ∙ sym (length-judged_reports c.args.n c.args.verdict c.args.note j.reports)) _
+    (ap (λ reports. record (stored c.index_mut-job.result.now) { reports = reports })
+    c.judge_report.ensures.reports)).map
 
 pub returns-clause-done : goal.returns-clause-done
 returns-clause-done c =
-    c.judge_report.ensures.done ∙ sym (ap (λ j. is_some (report_in c.args.n j)) (find-read c.args.number c.in-Some.place c.index_mut-job.result.now c.self.inside.jobs.entries c.args.self.now c.self.view_is c.self.invariant c.in-Some.ensures.place c.index_mut-job.ensures.value))
+    c.judge_report.ensures.done ∙ sym (ap (λ j. is_some (report_in c.args.n j))
+    (find-read c.args.number c.in-Some.place c.index_mut-job.result.now c.self.inside.jobs.entries c.args.self.now
+    c.self.view_is c.self.invariant c.in-Some.ensures.place c.index_mut-job.ensures.value))
 
 pub returns-clause-jobs : goal.returns-clause-jobs
 returns-clause-jobs c =
-    (written-read c.args.number c.in-Some.place c.index_mut-job.result.now c.self.inside.jobs.entries c.args.self.now c.self.view_is c.self.invariant c.in-Some.ensures.place c.index_mut-job.ensures.value (judged_job c.args.n c.args.verdict c.args.note) (λ _. refl) (λ _. refl) (λ j h. h ∙ sym (length-judged_reports c.args.n c.args.verdict c.args.note j.reports)) _ (ap (λ reports. record (stored c.index_mut-job.result.now) { reports = reports }) c.judge_report.ensures.reports)).jobs ∙ ap (map_jobs c.args.number (judged_job c.args.n c.args.verdict c.args.note)) c.self.view_is
+    (written-read c.args.number c.in-Some.place c.index_mut-job.result.now c.self.inside.jobs.entries c.args.self.now
+    c.self.view_is c.self.invariant c.in-Some.ensures.place c.index_mut-job.ensures.value
+    (judged_job c.args.n c.args.verdict c.args.note) (λ _. refl) (λ _. refl)
+    (λ j h. h ∙ sym (length-judged_reports c.args.n c.args.verdict c.args.note j.reports)) _
+    (ap (λ reports. record (stored c.index_mut-job.result.now) { reports = reports })
+    c.judge_report.ensures.reports)).jobs
+    ∙ ap (map_jobs c.args.number (judged_job c.args.n c.args.verdict c.args.note)) c.self.view_is
 
 pub returns-clause-kept : goal.returns-clause-kept
 returns-clause-kept c =
-    (written-read c.args.number c.in-Some.place c.index_mut-job.result.now c.self.inside.jobs.entries c.args.self.now c.self.view_is c.self.invariant c.in-Some.ensures.place c.index_mut-job.ensures.value (judged_job c.args.n c.args.verdict c.args.note) (λ _. refl) (λ _. refl) (λ j h. h ∙ sym (length-judged_reports c.args.n c.args.verdict c.args.note j.reports)) _ (ap (λ reports. record (stored c.index_mut-job.result.now) { reports = reports }) c.judge_report.ensures.reports)).map.list
+    (written-read c.args.number c.in-Some.place c.index_mut-job.result.now c.self.inside.jobs.entries c.args.self.now
+    c.self.view_is c.self.invariant c.in-Some.ensures.place c.index_mut-job.ensures.value
+    (judged_job c.args.n c.args.verdict c.args.note) (λ _. refl) (λ _. refl)
+    (λ j h. h ∙ sym (length-judged_reports c.args.n c.args.verdict c.args.note j.reports)) _
+    (ap (λ reports. record (stored c.index_mut-job.result.now) { reports = reports })
+    c.judge_report.ensures.reports)).map.list

@@ -21,7 +21,8 @@ returns-in_err-check_keys c = record {
 pub returns : goal.returns
 returns c = record {
   answer = λ free.
-      outcome-free c.args.bytes.now c.in-Ok.text.now (table_view c.in-Ok-table_from_str.document) _ c.in-Ok.ensures.cases.0 c.in-Ok.ensures.cases.1 c.in-Ok-table_from_str.ensures.ok
+      outcome-free c.args.bytes.now c.in-Ok.text.now (table_view c.in-Ok-table_from_str.document) _
+      c.in-Ok.ensures.cases.0 c.in-Ok.ensures.cases.1 c.in-Ok-table_from_str.ensures.ok
       (c.in_ok-check_keys.ensures (λ m. cc))
       (same-settings _ _ _ _ _ _ c.in_ok-off.ensures c.in_ok-entries.ensures c.in_ok-prepend.ensures);
 }

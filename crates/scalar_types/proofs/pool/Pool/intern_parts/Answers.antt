@@ -47,7 +47,13 @@ returns-clause-number c =
 
 pub returns-clause-grows : goal.returns-clause-grows
 returns-clause-grows c =
-    subst (λ (v : Content). Grows v (record { types = map term c.store.new.types.items; packed = c.store.new.packed.keys; lists = rows c.position_of-2.new.lists.keys })) c.self.view_is (Grows-stored _ _ _ _ _ _ _ _ _ (stored c))
+    subst (λ (v : Content). Grows v (record {
+      types = map term c.store.new.types.items;
+      packed =
+          c.store.new.packed.keys;
+      lists = rows c.position_of-2.new.lists.keys;
+    })) c.self.view_is
+    (Grows-stored _ _ _ _ _ _ _ _ _ (stored c))
 
 pub returns-clause-stands : goal.returns-clause-stands
 returns-clause-stands c =

@@ -24,7 +24,9 @@ invariant_of-self c =
     let value = c.as_slice.ensures.value in
     let place : IsPlaceFor c.args.edit.span c.self.inside.edits.items c.in-Ok.at = rw (← value) c.in-Ok.ensures in
     elim c.match-insert.branch [
-      | in-Ok-insert w ↦ rw w.in-Ok-insert.ensures.items (AreApart-at_place c.self.inside.len c.args.edit c.self.inside.edits.items c.in-Ok.at c.self.invariant c.if-edit-self.false place)
+      | in-Ok-insert w ↦ rw w.in-Ok-insert.ensures.items
+          (AreApart-at_place c.self.inside.len c.args.edit c.self.inside.edits.items c.in-Ok.at c.self.invariant
+          c.if-edit-self.false place)
       | in-Err-insert w ↦ rw w.in-Err-insert.ensures.items c.self.invariant
     ]
 

@@ -31,8 +31,17 @@ loop-edit-preserved c =
     record {
       apart = apart.1;
       left = omega (arith, apart.0, within, e.span.ordered, c.loop-edit.invariant.left, c.split_at.ensures.back_len, c.split_at-in-loop-edit.ensures.back_len);
-      made = rw (c.in_ok-extend_from_slice-2.ensures.items, c.in_ok-extend_from_slice.ensures.items, c.split_at.ensures.front, c.as_slice.ensures, c.split_at-in-loop-edit.ensures.back, c.split_at.ensures.back)
-          (spliced_from-more c.loop-edit.at c.args.self.now.len c.loop-edit.out.items c.loop-edit.rest.now edits c.loop-edit.edit-index e c.loop-edit.invariant.apart c.loop-edit.invariant.left c.loop-edit-test.true c.edit-item.is
+      made = rw (
+        c.in_ok-extend_from_slice-2.ensures.items,
+        c.in_ok-extend_from_slice.ensures.items,
+        c.split_at.ensures.front,
+        c.as_slice.ensures,
+        c.split_at-in-loop-edit.ensures.back,
+        c.split_at.ensures.back,
+      )
+          (spliced_from-more c.loop-edit.at c.args.self.now.len c.loop-edit.out.items c.loop-edit.rest.now edits
+          c.loop-edit.edit-index e c.loop-edit.invariant.apart c.loop-edit.invariant.left c.loop-edit-test.true
+          c.edit-item.is
           ∙ c.loop-edit.invariant.made);
     }
 

@@ -11,7 +11,8 @@ returns-in-Some c =
     let edits = c.as_slice-edits.result.now in
     let value = c.as_slice-edits.ensures.value in
     let apart : AreApart 0 edits c.self.inside.len = rw value c.self.invariant in
-    is_replaced-by_first c.args.place c.self.inside.len edits c.first_after-at.result c.in-Some.edit.now apart c.first_after-at.ensures c.in-Some.ensures.lookup.3.0 c.in-Some.ensures.lookup.1
+    is_replaced-by_first c.args.place c.self.inside.len edits c.first_after-at.result c.in-Some.edit.now apart
+    c.first_after-at.ensures c.in-Some.ensures.lookup.3.0 c.in-Some.ensures.lookup.1
     ∙ ap (λ (es : List Edit). not (is_replaced c.args.place es)) (value ∙ ap (λ (v : EditList). v.edits) c.self.view_is)
 
 pub returns-in-None : goal.returns-in-None

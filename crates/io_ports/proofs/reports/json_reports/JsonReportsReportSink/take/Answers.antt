@@ -10,4 +10,5 @@ returns-clause-written g c began n w =
     let after = g.S.Sink.held c.put_line.new.self.sink in
     let text : c.as_slice.result.now ≡ json_line c.args.report.now = c.as_slice.ensures.value ∙ c.in_ok-line.ensures in
     let put = subst (λ t. IfSome before (λ bytes. Appends t c.put_line.result bytes after)) text c.put_line.ensures.bytes in
-    take_written json_line began c.args.report.now c.put_line.result c.args.self.now.kept.reports.items c.put_line.new.self.reports.items before after c.put_line.ensures.list put n w
+    take_written json_line began c.args.report.now c.put_line.result c.args.self.now.kept.reports.items
+    c.put_line.new.self.reports.items before after c.put_line.ensures.list put n w

@@ -1,3 +1,0 @@
-// Worked calls.
-mod ports;
-mod reports;
