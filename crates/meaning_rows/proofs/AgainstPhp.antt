@@ -364,7 +364,9 @@ empty_at_blanks_of_a_text_tree =
     token.Op "]" none)))) (t token.Op ")" none)))) (t token.Op "?" (node kind.Number (t token.Int "1" none) (t
     token.Op ":" (node kind.Number (t token.Int "2" none) none))))) (t token.Semi ";" none))) (node kind.Echo (t
     token.Keyword "echo" (node kind.Ternary (node kind.EmptyTest (t token.Keyword "empty" (t token.Op "(" (node
-    kind.Offset (node kind.Variable (t token.Variable "$s" none) (t token.Op "[" (node kind.Text (t token.Text "\" 1\"" none) (t token.Op "]" none)))) (t token.Op ")" none)))) (t token.Op "?" (node kind.Number (t token.Int
+    kind.Offset (node kind.Variable (t token.Variable "$s" none)
+    (t token.Op "[" (node kind.Text (t token.Text "\" 1\"" none) (t token.Op "]" none)))) (t token.Op ")" none))))
+    (t token.Op "?" (node kind.Number (t token.Int
     "1" none) (t token.Op ":" (node kind.Number (t token.Int "2" none) none))))) (t token.Semi ";" none))) none)))
 
 empty_at_blanks_of_a_text : Comes 200 (file empty_at_blanks_of_a_text_tree) (file empty_at_blanks_of_a_text_tree) (codes "a.php")

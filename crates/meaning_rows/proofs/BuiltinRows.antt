@@ -1,7 +1,34 @@
 -- Rows of the builtins: what each answers to values, in both versions. A builtin that 8.3 has no more is asked for before
 -- its arguments; its rows here are 7.4's. (PHP manual, the pages of the functions.)
 use Rattle.std.proofs.Common.{[], ◌∷◌, refl}
-use Rattle.builtin_tables.specs.declared.builtin.Builtin.TheVariants.{ArrayKeyExists, ArrayKeys, ArrayValues, Chr, Count, Explode, GetMagicQuotesGpc, GetMagicQuotesRuntime, Implode, Intdiv, Intval, IsArray, IsBool, IsFloat, IsInt, IsNull, IsReal, IsString, Join, Ord, StrRepeat, StrReplace, Strlen, Strpos, Substr, Trim}
+use Rattle.builtin_tables.specs.declared.builtin.Builtin.TheVariants.{
+  ArrayKeyExists,
+  ArrayKeys,
+  ArrayValues,
+  Chr,
+  Count,
+  Explode,
+  GetMagicQuotesGpc,
+  GetMagicQuotesRuntime,
+  Implode,
+  Intdiv,
+  Intval,
+  IsArray,
+  IsBool,
+  IsFloat,
+  IsInt,
+  IsNull,
+  IsReal,
+  IsString,
+  Join,
+  Ord,
+  StrRepeat,
+  StrReplace,
+  Strlen,
+  Strpos,
+  Substr,
+  Trim,
+}
 use Rattle.php_meaning.specs.values.Value.{Null, Text, Object}
 use Rattle.php_meaning.specs.Cause.{Call, Conversion, TypeError, ArithmeticError, DivisionByZeroError, Outside}
 use Rattle.meaning_rows.specs.Values.{text, int, minus, yes, no, key, place, array_of, list_of, gives, throws, Answers, Alike, Refuses}

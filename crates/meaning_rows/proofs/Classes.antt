@@ -304,3 +304,21 @@ method_on_no_object : Comes 200 (file method_on_no_object_tree) (file method_on_
     ((codes "E"), ended)
 unfolding builtin_rows named_constants word_constants is_same_name newer_functions newer_classes newer_constants
 method_on_no_object = (refl, refl)
+
+-- <?php class A { function A() { echo 1; } } $a = new A; $a->A();
+abbrev old_constructor_called_tree : Forest
+old_constructor_called_tree =
+    (node kind.Class (t token.Keyword "class" (t token.Label "A" (t token.Op "{" (node kind.Method (t token.Keyword
+    "function" (t token.Label "A" (t token.Op "(" (t token.Op ")" (node kind.Block (t token.Op "{" (node kind.Echo
+    (t token.Keyword "echo" (node kind.Number (t token.Int "1" none) (t token.Semi ";" none))) (t token.Op "}"
+    none))) none))))) (t token.Op "}" none))))) (node kind.ExprStmt (node kind.Assign (node kind.Variable (t
+    token.Variable "$a" none) (t token.Op "=" (node kind.New (t token.Keyword "new" (t token.Label "A" none))
+    none))) (t token.Semi ";" none)) (node kind.ExprStmt (node kind.MethodCall (node kind.Variable (t token.Variable
+    "$a" none) (t token.Op "->" (t token.Label "A" (t token.Op "(" (node kind.Args none (t token.Op ")" none))))))
+    (t token.Semi ";" none)) none)))
+
+old_constructor_called : Comes 200 (file old_constructor_called_tree) (file old_constructor_called_tree) (codes "a.php")
+    ((codes "11"), ended)
+    ((codes "1"), ended)
+unfolding builtin_rows named_constants word_constants is_same_name newer_functions newer_classes newer_constants
+old_constructor_called = (refl, refl)

@@ -1,5 +1,5 @@
 -- Rows of whole programs: constants, and how they are defined. The 8.3 side is what PHP 8.2 echoes, where it has a meaning here.
-use Rattle.std.proofs.Common.{refl, codes}
+use Rattle.std.proofs.Common.{[], refl, codes}
 use Rattle.php_tree.specs.declared.token.TokenKind.TheVariants as token
 use Rattle.php_tree.specs.declared.kind.NodeKind.TheVariants as kind
 use Rattle.php_tree.specs.Tree.{Forest, none, node}
@@ -264,3 +264,15 @@ bare_word_in_a_namespace : Comes 200 (file bare_word_in_a_namespace_tree) (file 
     ((codes ""), outside Declaration)
 unfolding builtin_rows named_constants word_constants is_same_name newer_functions newer_classes newer_constants
 bare_word_in_a_namespace = (refl, refl)
+
+-- <?php echo E_ALL;
+abbrev constant_of_an_extension_tree : Forest
+constant_of_an_extension_tree =
+    (node kind.Echo (t token.Keyword "echo" (node kind.Constant (t token.Label "E_ALL" none) (t token.Semi ";"
+    none))) none)
+
+constant_of_an_extension : Comes 200 (file constant_of_an_extension_tree) (file constant_of_an_extension_tree) (codes "a.php")
+    ([], outside Declaration)
+    ([], outside Declaration)
+unfolding builtin_rows named_constants word_constants is_same_name newer_functions newer_classes newer_constants
+constant_of_an_extension = (refl, refl)

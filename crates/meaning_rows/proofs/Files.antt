@@ -7,7 +7,8 @@ use Rattle.builtin_tables.specs.Builtins.{builtin_rows}
 use Rattle.builtin_tables.specs.Constants.{named_constants, word_constants}
 use Rattle.builtin_tables.specs.Named.{is_same_name}
 use Rattle.builtin_tables.specs.Newer.{newer_functions, newer_classes, newer_constants}
-use Rattle.meaning_rows.specs.Words.{t, file, ended, Comes}
+use Rattle.php_meaning.specs.Cause.{NoRule, Declaration}
+use Rattle.meaning_rows.specs.Words.{t, file, ended, outside, Comes}
 
 -- lib.php:
 -- <?php $v = 'lib'; function helper() { return 'h'; } return 42;
@@ -35,7 +36,8 @@ included_tree1 =
     kind.Text (t token.Text "'t'" none) (t token.Op ":" (node kind.Text (t token.Text "'f'" none) none))))) (t
     token.Semi ";" none))) none)))
 
-included : Comes 200 ((codes "lib.php", included_tree0) ∷ (codes "a.php", included_tree1) ∷ []) ((codes "lib.php", included_tree0) ∷ (codes "a.php", included_tree1) ∷ []) (codes "a.php")
+included : Comes 200 ((codes "lib.php", included_tree0) ∷ (codes "a.php", included_tree1) ∷ [])
+    ((codes "lib.php", included_tree0) ∷ (codes "a.php", included_tree1) ∷ []) (codes "a.php")
     ((codes "42libht"), ended)
     ((codes "42libht"), ended)
 unfolding builtin_rows named_constants word_constants is_same_name newer_functions newer_classes newer_constants
@@ -56,7 +58,9 @@ required_by_folder_tree1 =
     kind.Constant (t token.Label "__DIR__" none) (t token.Op "." (node kind.Text (t token.Text "'/sub/b.php'" none)
     none))) none)) (t token.Semi ";" none))) none)
 
-required_by_folder : Comes 200 ((codes "sub/b.php", required_by_folder_tree0) ∷ (codes "a.php", required_by_folder_tree1) ∷ []) ((codes "sub/b.php", required_by_folder_tree0) ∷ (codes "a.php", required_by_folder_tree1) ∷ []) (codes "a.php")
+required_by_folder : Comes 200 ((codes "sub/b.php", required_by_folder_tree0)
+    ∷ (codes "a.php", required_by_folder_tree1) ∷ [])
+    ((codes "sub/b.php", required_by_folder_tree0) ∷ (codes "a.php", required_by_folder_tree1) ∷ []) (codes "a.php")
     ((codes "b"), ended)
     ((codes "b"), ended)
 unfolding builtin_rows named_constants word_constants is_same_name newer_functions newer_classes newer_constants
@@ -175,3 +179,60 @@ use_of_functions : Comes 200 (file use_of_functions_tree) (file use_of_functions
     ((codes "afak1"), ended)
 unfolding builtin_rows named_constants word_constants is_same_name newer_functions newer_classes newer_constants
 use_of_functions = (refl, refl)
+
+-- in sub/a.php, b.php and sub/c.php
+-- <?php echo include __DIR__ . '/../b.php', include './c.php', include_once '../sub//c.php'; include '../../b.php';
+abbrev paths_tree : Forest
+paths_tree =
+    (node kind.Echo (t token.Keyword "echo" (node kind.Include (t token.Keyword "include" (node kind.Binary (node
+    kind.Constant (t token.Label "__DIR__" none) (t token.Op "." (node kind.Text (t token.Text "'/../b.php'" none)
+    none))) none)) (t token.Op "," (node kind.Include (t token.Keyword "include" (node kind.Text (t token.Text
+    "'./c.php'" none) none)) (t token.Op "," (node kind.Include (t token.Keyword "include_once" (node kind.Text (t
+    token.Text "'../sub//c.php'" none) none)) (t token.Semi ";" none))))))) (node kind.ExprStmt (node kind.Include
+    (t token.Keyword "include" (node kind.Text (t token.Text "'../../b.php'" none) none)) (t token.Semi ";" none))
+    none))
+
+-- <?php return 'b';
+abbrev paths_b_tree : Forest
+paths_b_tree =
+    (node kind.Return (t token.Keyword "return" (node kind.Text (t token.Text "'b'" none) (t token.Semi ";" none)))
+    none)
+
+-- <?php return 'c';
+abbrev paths_c_tree : Forest
+paths_c_tree =
+    (node kind.Return (t token.Keyword "return" (node kind.Text (t token.Text "'c'" none) (t token.Semi ";" none)))
+    none)
+
+paths_from_the_folder : Comes 200
+    ((codes "sub/a.php", paths_tree) ∷ (codes "b.php", paths_b_tree) ∷ (codes "sub/c.php", paths_c_tree) ∷ [])
+    ((codes "sub/a.php", paths_tree) ∷ (codes "b.php", paths_b_tree) ∷ (codes "sub/c.php", paths_c_tree) ∷ [])
+    (codes "sub/a.php")
+    ((codes "bc1"), outside NoRule)
+    ((codes "bc1"), outside NoRule)
+unfolding builtin_rows named_constants word_constants is_same_name newer_functions newer_classes newer_constants
+paths_from_the_folder = (refl, refl)
+
+-- <?php include 'b.php'; include 'b.php';
+abbrev included_twice_tree : Forest
+included_twice_tree =
+    (node kind.ExprStmt (node kind.Include (t token.Keyword "include" (node kind.Text (t token.Text "'b.php'" none)
+    none)) (t token.Semi ";" none)) (node kind.ExprStmt (node kind.Include (t token.Keyword "include" (node
+    kind.Text (t token.Text "'b.php'" none) none)) (t token.Semi ";" none)) none))
+
+-- in b.php
+-- <?php static $n = 0; echo ++$n;
+abbrev included_twice_b_tree : Forest
+included_twice_b_tree =
+    (node kind.Statics (t token.Keyword "static" (t token.Variable "$n" (t token.Op "=" (node kind.Number (t
+    token.Int "0" none) (t token.Semi ";" none))))) (node kind.Echo (t token.Keyword "echo" (node kind.Prefix (t
+    token.Op "++" (node kind.Variable (t token.Variable "$n" none) none)) (t token.Semi ";" none))) none))
+
+static_of_a_file_included_twice : Comes 200
+    ((codes "a.php", included_twice_tree) ∷ (codes "b.php", included_twice_b_tree) ∷ [])
+    ((codes "a.php", included_twice_tree) ∷ (codes "b.php", included_twice_b_tree) ∷ [])
+    (codes "a.php")
+    ((codes "1"), outside Declaration)
+    ((codes "1"), outside Declaration)
+unfolding builtin_rows named_constants word_constants is_same_name newer_functions newer_classes newer_constants
+static_of_a_file_included_twice = (refl, refl)

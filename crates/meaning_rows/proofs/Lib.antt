@@ -18,5 +18,6 @@ mod FurtherKinds
 mod AgainstPhp
 mod MixedOrders
 mod PageRow
+mod Premises
 mod BuiltinRows
 mod UnlistedLaw

@@ -1,5 +1,5 @@
 -- Rows of whole programs: loops and branches. The 8.3 side is what PHP 8.2 echoes, where it has a meaning here.
-use Rattle.std.proofs.Common.{refl, pos, codes}
+use Rattle.std.proofs.Common.{[], refl, pos, codes}
 use Rattle.php_tree.specs.declared.token.TokenKind.TheVariants as token
 use Rattle.php_tree.specs.declared.kind.NodeKind.TheVariants as kind
 use Rattle.php_tree.specs.Tree.{Forest, none, node}
@@ -7,8 +7,9 @@ use Rattle.builtin_tables.specs.Builtins.{builtin_rows}
 use Rattle.builtin_tables.specs.Constants.{named_constants, word_constants}
 use Rattle.builtin_tables.specs.Named.{is_same_name}
 use Rattle.builtin_tables.specs.Newer.{newer_functions, newer_classes, newer_constants}
+use Rattle.php_meaning.specs.Cause.{NoRule}
 use Rattle.php_meaning.specs.runs.World.{Ended}
-use Rattle.meaning_rows.specs.Words.{t, b, file, ended, Comes}
+use Rattle.meaning_rows.specs.Words.{t, b, file, ended, outside, Comes}
 
 -- <?php for ($i = 0, $s = ''; $i < 3; $i++, $s .= '.') { echo $i, $s; }
 abbrev for_with_commas_tree : Forest
@@ -150,3 +151,40 @@ exits_with_text : Comes 200 (file exits_with_text_tree) (file exits_with_text_tr
     ((codes "bye"), ended)
 unfolding builtin_rows named_constants word_constants is_same_name newer_functions newer_classes newer_constants
 exits_with_text = (refl, refl)
+
+-- <?php $a = [1, 2]; $b = [3]; foreach ($a as &$b[0]) { echo 1; }
+abbrev loop_by_reference_into_an_element_tree : Forest
+loop_by_reference_into_an_element_tree =
+    (node kind.ExprStmt (node kind.Assign (node kind.Variable (t token.Variable "$a" none) (t token.Op "=" (node
+    kind.Array (t token.Op "[" (node kind.Item (node kind.Number (t token.Int "1" none) none) (t token.Op "," (node
+    kind.Item (node kind.Number (t token.Int "2" none) none) (t token.Op "]" none))))) none))) (t token.Semi ";"
+    none)) (node kind.ExprStmt (node kind.Assign (node kind.Variable (t token.Variable "$b" none) (t token.Op "="
+    (node kind.Array (t token.Op "[" (node kind.Item (node kind.Number (t token.Int "3" none) none) (t token.Op "]"
+    none))) none))) (t token.Semi ";" none)) (node kind.Foreach (t token.Keyword "foreach" (t token.Op "(" (node
+    kind.Variable (t token.Variable "$a" none) (t token.Keyword "as" (t token.Op "&" (node kind.Offset (node
+    kind.Variable (t token.Variable "$b" none) (t token.Op "[" (node kind.Number (t token.Int "0" none) (t token.Op
+    "]" none)))) (t token.Op ")" (node kind.Block (t token.Op "{" (node kind.Echo (t token.Keyword "echo" (node
+    kind.Number (t token.Int "1" none) (t token.Semi ";" none))) (t token.Op "}" none))) none)))))))) none)))
+
+loop_by_reference_into_an_element : Comes 200 (file loop_by_reference_into_an_element_tree) (file loop_by_reference_into_an_element_tree) (codes "a.php")
+    ([], outside NoRule)
+    ([], outside NoRule)
+unfolding builtin_rows named_constants word_constants is_same_name newer_functions newer_classes newer_constants
+loop_by_reference_into_an_element = (refl, refl)
+
+-- <?php for ($i = 0 ?><?php $i < 3 ?><?php $i++): echo $i; endfor;
+abbrev closing_tags_in_for_tree : Forest
+closing_tags_in_for_tree =
+    (node kind.For (t token.Keyword "for" (t token.Op "(" (node kind.Assign (node kind.Variable (t token.Variable
+    "$i" none) (t token.Op "=" (node kind.Number (t token.Int "0" none) none))) (t token.Close "?>" (node
+    kind.Binary (node kind.Variable (t token.Variable "$i" none) (t token.Op "<" (node kind.Number (t token.Int "3"
+    none) none))) (t token.Close "?>" (node kind.Postfix (node kind.Variable (t token.Variable "$i" none) (t
+    token.Op "++" none)) (t token.Op ")" (t token.Op ":" (node kind.Echo (t token.Keyword "echo" (node kind.Variable
+    (t token.Variable "$i" none) (t token.Semi ";" none))) (t token.Keyword "endfor" (t token.Semi ";"
+    none)))))))))))) none)
+
+closing_tags_in_for : Comes 200 (file closing_tags_in_for_tree) (file closing_tags_in_for_tree) (codes "a.php")
+    ((codes "012"), ended)
+    ((codes "012"), ended)
+unfolding builtin_rows named_constants word_constants is_same_name newer_functions newer_classes newer_constants
+closing_tags_in_for = (refl, refl)

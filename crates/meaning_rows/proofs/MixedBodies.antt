@@ -108,3 +108,40 @@ mixed_holders : Comes 200 (file mixed_holders_tree) (file mixed_holders_tree) (c
     ((codes "1927"), ended)
 unfolding builtin_rows named_constants word_constants is_same_name newer_functions newer_classes newer_constants
 mixed_holders = (refl, refl)
+
+-- <?php function f($n = null) { $n .= 'x'; return $n; } $o = new stdClass; $o->p[] = 1; $o->q += 2; $t .= 'y'; $o->r['k']['l'] = 3; echo f(), count($o->p), $o->q, $t, $o->r['k']['l'];
+abbrev made_where_they_are_written_tree : Forest
+made_where_they_are_written_tree =
+    (node kind.Function (t token.Keyword "function" (t token.Label "f" (t token.Op "(" (node kind.Param (t
+    token.Variable "$n" (t token.Op "=" (node kind.Constant (t token.Label "null" none) none))) (t token.Op ")"
+    (node kind.Block (t token.Op "{" (node kind.ExprStmt (node kind.CompoundAssign (node kind.Variable (t
+    token.Variable "$n" none) (t token.Op ".=" (node kind.Text (t token.Text "'x'" none) none))) (t token.Semi ";"
+    none)) (node kind.Return (t token.Keyword "return" (node kind.Variable (t token.Variable "$n" none) (t
+    token.Semi ";" none))) (t token.Op "}" none)))) none)))))) (node kind.ExprStmt (node kind.Assign (node
+    kind.Variable (t token.Variable "$o" none) (t token.Op "=" (node kind.New (t token.Keyword "new" (t token.Label
+    "stdClass" none)) none))) (t token.Semi ";" none)) (node kind.ExprStmt (node kind.Assign (node kind.Offset (node
+    kind.Prop (node kind.Variable (t token.Variable "$o" none) (t token.Op "->" (t token.Label "p" none))) (t
+    token.Op "[" (t token.Op "]" none))) (t token.Op "=" (node kind.Number (t token.Int "1" none) none))) (t
+    token.Semi ";" none)) (node kind.ExprStmt (node kind.CompoundAssign (node kind.Prop (node kind.Variable (t
+    token.Variable "$o" none) (t token.Op "->" (t token.Label "q" none))) (t token.Op "+=" (node kind.Number (t
+    token.Int "2" none) none))) (t token.Semi ";" none)) (node kind.ExprStmt (node kind.CompoundAssign (node
+    kind.Variable (t token.Variable "$t" none) (t token.Op ".=" (node kind.Text (t token.Text "'y'" none) none))) (t
+    token.Semi ";" none)) (node kind.ExprStmt (node kind.Assign (node kind.Offset (node kind.Offset (node kind.Prop
+    (node kind.Variable (t token.Variable "$o" none) (t token.Op "->" (t token.Label "r" none))) (t token.Op "["
+    (node kind.Text (t token.Text "'k'" none) (t token.Op "]" none)))) (t token.Op "[" (node kind.Text (t token.Text
+    "'l'" none) (t token.Op "]" none)))) (t token.Op "=" (node kind.Number (t token.Int "3" none) none))) (t
+    token.Semi ";" none)) (node kind.Echo (t token.Keyword "echo" (node kind.Call (t token.Label "f" (t token.Op "("
+    (node kind.Args none (t token.Op ")" none)))) (t token.Op "," (node kind.Call (t token.Label "count" (t token.Op
+    "(" (node kind.Args (node kind.Prop (node kind.Variable (t token.Variable "$o" none) (t token.Op "->" (t
+    token.Label "p" none))) none) (t token.Op ")" none)))) (t token.Op "," (node kind.Prop (node kind.Variable (t
+    token.Variable "$o" none) (t token.Op "->" (t token.Label "q" none))) (t token.Op "," (node kind.Variable (t
+    token.Variable "$t" none) (t token.Op "," (node kind.Offset (node kind.Offset (node kind.Prop (node
+    kind.Variable (t token.Variable "$o" none) (t token.Op "->" (t token.Label "r" none))) (t token.Op "[" (node
+    kind.Text (t token.Text "'k'" none) (t token.Op "]" none)))) (t token.Op "[" (node kind.Text (t token.Text "'l'"
+    none) (t token.Op "]" none)))) (t token.Semi ";" none))))))))))) none)))))))
+
+made_where_they_are_written : Comes 200 (file made_where_they_are_written_tree) (file made_where_they_are_written_tree) (codes "a.php")
+    ((codes "x12y3"), ended)
+    ((codes "x12y3"), ended)
+unfolding builtin_rows named_constants word_constants is_same_name newer_functions newer_classes newer_constants
+made_where_they_are_written = (refl, refl)

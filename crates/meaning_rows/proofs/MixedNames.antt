@@ -219,7 +219,9 @@ mixed_includes_tree1 =
     (t token.Op ")" none))) (t token.Op "?" (node kind.Number (t token.Int "1" none) (t token.Op ":" (node kind.Number
     (t token.Int "0" none) none))))) (t token.Semi ";" none))))))) none))
 
-mixed_includes : Comes 200 ((codes "sub/lib.php", mixed_includes_tree0) ∷ (codes "main.php", mixed_includes_tree1) ∷ []) ((codes "sub/lib.php", mixed_includes_tree0) ∷ (codes "main.php", mixed_includes_tree1) ∷ []) (codes "main.php")
+mixed_includes : Comes 200 ((codes "sub/lib.php", mixed_includes_tree0) ∷ (codes "main.php", mixed_includes_tree1)
+    ∷ []) ((codes "sub/lib.php", mixed_includes_tree0) ∷ (codes "main.php", mixed_includes_tree1) ∷ [])
+    (codes "main.php")
     ((codes "7LS1"), ended)
     ((codes "7LS1"), ended)
 unfolding builtin_rows named_constants word_constants is_same_name newer_functions newer_classes newer_constants

@@ -196,6 +196,7 @@ page_new_tree1 =
 -- what the page echoes in both versions
 abbrev pub PageComes : Type 0
 PageComes =
-    Comes 200 ((codes "lib.php", page_tree0) ∷ (codes "index.php", page_tree1) ∷ []) ((codes "lib.php", page_new_tree0) ∷ (codes "index.php", page_new_tree1) ∷ []) (codes "index.php")
+    Comes 200 ((codes "lib.php", page_tree0) ∷ (codes "index.php", page_tree1) ∷ [])
+    ((codes "lib.php", page_new_tree0) ∷ (codes "index.php", page_new_tree1) ∷ []) (codes "index.php")
     ((codes "<h1>Item 2: Two</h1>\n<ul>\n<li>One</li>\n<li class=\"on\">Two</li>\n</ul>\n<p>Tlow</p>\nwordexact"), ended)
     ((codes "<h1>Item 2: Two</h1>\n<ul>\n<li>One</li>\n<li class=\"on\">Two</li>\n</ul>\n<p>Tlow</p>\nwordexact"), ended)

@@ -13,13 +13,102 @@ use Rattle.php_meaning.specs.names.Tables.{Tables, tables_of}
 use Rattle.php_meaning.specs.Cause.{Cause, NoRule, Call}
 use Rattle.php_meaning.specs.values.Value.{Value}
 use Rattle.php_meaning.specs.runs.World.{Asked, Visit, Moment, Store, Bytes, Place, Going, Outside, Before, World}
-use Rattle.php_meaning.specs.runs.Script.{Return, Throw, Break, Continue, Out, Val, Fresh, At, Jump, Mode, Target, Kid, Again, There, File, Script, Give, Stop, Finish, Look, Put, Echo, Turn, Ask, Run}
+use Rattle.php_meaning.specs.runs.Script.{
+  Return,
+  Throw,
+  Break,
+  Continue,
+  Out,
+  Val,
+  Fresh,
+  At,
+  Jump,
+  Mode,
+  Target,
+  Kid,
+  Again,
+  There,
+  File,
+  Script,
+  Give,
+  Stop,
+  Finish,
+  Look,
+  Put,
+  Echo,
+  Turn,
+  Ask,
+  Run,
+}
 use Rattle.php_meaning.specs.Rules.{rule, file_script}
 use Rattle.php_meaning.specs.runs.Kinds.{is_statement}
-use Rattle.php_meaning.specs.runs.Run.{begun, Program, Mark, file_at, is_stopped, is_refused, Result, Done, Over, then_do, with_turn, play, Entry, FileStart, DeclarationStart, place_in, place_of_file, told, moment_of, value_of, left, starting, unless_stopped, going, repeated, passes, at_node, step, run_file, declared_in, run_declared, unless_refused, start, value_count, place_of_entry, enter, first_world, answer, and_start, start_all}
+use Rattle.php_meaning.specs.runs.Run.{
+  begun,
+  Program,
+  Mark,
+  file_at,
+  is_stopped,
+  is_refused,
+  Result,
+  Done,
+  Over,
+  then_do,
+  with_turn,
+  play,
+  Entry,
+  FileStart,
+  DeclarationStart,
+  place_in,
+  place_of_file,
+  told,
+  moment_of,
+  value_of,
+  left,
+  starting,
+  unless_stopped,
+  going,
+  repeated,
+  passes,
+  at_node,
+  step,
+  run_file,
+  declared_in,
+  run_declared,
+  unless_refused,
+  start,
+  value_count,
+  place_of_entry,
+  enter,
+  first_world,
+  answer,
+  and_start,
+  start_all,
+}
 use Rattle.php_meaning.specs.laws.Laws.{IsInside, SameRun}
 use Rattle.php_meaning.specs.laws.Following.{Same, DoneAlike, OverAlike}
-use Rattle.php_meaning.specs.laws.Across.{Claim, AskedAt, Show, Meets, Extends, world_in, Grown, FollowsAcross, Across, IsRewritten, nothing, token_before, token_behind, same, replaced, kept, wrapped, AreRewritten, no_more, one_more, RewrittenRunsAcross}
+use Rattle.php_meaning.specs.laws.Across.{
+  Claim,
+  AskedAt,
+  Show,
+  Meets,
+  Extends,
+  world_in,
+  Grown,
+  FollowsAcross,
+  Across,
+  IsRewritten,
+  nothing,
+  token_before,
+  token_behind,
+  same,
+  replaced,
+  kept,
+  wrapped,
+  AreRewritten,
+  no_more,
+  one_more,
+  RewrittenRunsAcross,
+}
 use Rattle.php_meaning.proofs.Alike.{passed, kids_behind, answer_same}
 
 below : (p : Place → Bool) (front old : List Asked) → AskedAt p (front ++ old) → AskedAt p old
@@ -51,7 +140,8 @@ grown_more c b a p q = record {
   visits = extends_more c.visits b.visits a.visits p.visits q.visits;
 }
 
-pub then_grown : (w : World) (r : Result) (k : Out → World → Result) → Grown (world_in r) w → ((o : Out) (u : World) → Grown (world_in (k o u)) u) → Grown (world_in (then_do r k)) w
+pub then_grown : (w : World) (r : Result) (k : Out → World → Result) → Grown (world_in r) w
+    → ((o : Out) (u : World) → Grown (world_in (k o u)) u) → Grown (world_in (then_do r k)) w
 then_grown w (Done o u) k g h = grown_more (world_in (k o u)) u w (h o u) g
 then_grown w (Over e u) k g h = g
 
@@ -60,7 +150,8 @@ turn_grown w zero k h = grown w
 turn_grown w (suc n) k h = let g = h (record w { turns = n }) in record { asked = g.asked; visits = g.visits }
 
 module _ (claim : Claim) where
-  pub then_follows : (r q : Result) (k l : Out → World → Result) → FollowsAcross claim r q → ((o : Out) → Across claim (k o) (l o)) → FollowsAcross claim (then_do r k) (then_do q l)
+  pub then_follows : (r q : Result) (k l : Out → World → Result) → FollowsAcross claim r q
+      → ((o : Out) → Across claim (k o) (l o)) → FollowsAcross claim (then_do r k) (then_do q l)
   then_follows (Done o w) q k l f h = bring claim (k o w) (then_do q l) w ((h o).grows w) (λ a. after q (f a))
     where
       after : (q : Result) → DoneAlike o w q → FollowsAcross claim (k o w) (then_do q l)
@@ -122,35 +213,37 @@ pub told_grown : (s : Site) (id : ℕ) (m : Moment) (v : Option Value) (w : Worl
 told_grown s id m v w = record { asked = ([], refl); visits = (record { place = place_in s id; body = s.body; moment = m; value = v; store = w.store } ∷ [], refl) }
 
 module _ (claim : Claim) where
-  left_grown : (s : Site) (id : ℕ) (old : World) (r : Result) → Grown (world_in r) old → Grown (world_in (left s id r)) old
-  left_grown s id old (Done o w) g = grown_more (told s id (moment_of o) (value_of o) w) w old (told_grown s id (moment_of o) (value_of o) w) g
-  left_grown s id old (Over e w) g = g
+  left_grown : (s : Site) (id : ℕ) (m : Mode) (old : World) (r : Result) → Grown (world_in r) old → Grown (world_in (left s id m r)) old
+  left_grown s id m old (Done o w) g =
+      grown_more (told s id (moment_of o) (value_of m o) w) w old (told_grown s id (moment_of o) (value_of m o) w) g
+  left_grown s id m old (Over e w) g = g
 
-  left_met : (s : Site) (id : ℕ) (o : Out) (w : World) → Meets claim (told s id (moment_of o) (value_of o) w) → Meets claim w
-  left_met s id o w m = (m.0, m.1.1)
+  left_met : (s : Site) (id : ℕ) (m : Mode) (o : Out) (w : World) → Meets claim (told s id (moment_of o) (value_of m o) w) → Meets claim w
+  left_met s id m o w z = (z.0, z.1.1)
 
-  left_follows : (s : Site) (id jd : ℕ) (r q : Result) → FollowsAcross claim r q → FollowsAcross claim (left s id r) (left s jd q)
-  left_follows s id jd (Done o w) (Done p u) f = λ a. let g = f (left_met s id o w a) in (g.0, record { store = g.1.store; echo = g.1.echo; turns = g.1.turns })
-  left_follows s id jd (Done o w) (Over e u) f = λ a. absurd (f (left_met s id o w a))
-  left_follows s id jd (Over e w) (Done p u) f = f
-  left_follows s id jd (Over e w) (Over d u) f = f
+  left_follows : (s : Site) (id jd : ℕ) (m n : Mode) (r q : Result) → FollowsAcross claim r q → FollowsAcross claim (left s id m r) (left s jd n q)
+  left_follows s id jd m n (Done o w) (Done p u) f = λ a. let g = f (left_met s id m o w a) in (g.0, record { store = g.1.store; echo = g.1.echo; turns = g.1.turns })
+  left_follows s id jd m n (Done o w) (Over e u) f = λ a. absurd (f (left_met s id m o w a))
+  left_follows s id jd m n (Over e w) (Done p u) f = f
+  left_follows s id jd m n (Over e w) (Over d u) f = f
 
   -- a node that hands on what stands in it
-  handed_follows : (s : Site) (jd : ℕ) (r q : Result) → FollowsAcross claim r q → FollowsAcross claim r (left s jd (then_do q (λ o u. Done o u)))
-  handed_follows s jd (Done o w) (Done p u) f = λ a. let g = f a in (g.0, record { store = g.1.store; echo = g.1.echo; turns = g.1.turns })
-  handed_follows s jd (Done o w) (Over e u) f = λ a. absurd (f a)
-  handed_follows s jd (Over e w) (Done p u) f = λ a i. absurd (f a i)
-  handed_follows s jd (Over e w) (Over d u) f = f
+  handed_follows : (s : Site) (jd : ℕ) (m : Mode) (r q : Result) → FollowsAcross claim r q → FollowsAcross claim r (left s jd m (then_do q (λ o u. Done o u)))
+  handed_follows s jd m (Done o w) (Done p u) f = λ a. let g = f a in (g.0, record { store = g.1.store; echo = g.1.echo; turns = g.1.turns })
+  handed_follows s jd m (Done o w) (Over e u) f = λ a. absurd (f a)
+  handed_follows s jd m (Over e w) (Done p u) f = λ a i. absurd (f a i)
+  handed_follows s jd m (Over e w) (Over d u) f = f
 
   -- a node that is told before and after, unless it is marked
-  pub told_across : (b : Bool) (s : Site) (id jd : ℕ) (m n : World → Result) → Across claim m n
-      → Across claim (λ u. unless_stopped b (place_in s id) u (left s id (m (told s id Before None u)))) (λ u. unless_stopped false (place_in s jd) u (left s jd (n (told s jd Before None u))))
-  told_across true s id jd m n h = record { grows = λ w. grown w; follows = λ w u z a i. absurd i }
-  told_across false s id jd m n h = record {
-    grows = λ w. left_grown s id w (m (told s id Before None w))
+  pub told_across : (b : Bool) (s : Site) (id jd : ℕ) (i j : Mode) (m n : World → Result) → Across claim m n
+      → Across claim (λ u. unless_stopped b (place_in s id) u (left s id i (m (told s id Before None u))))
+      (λ u. unless_stopped false (place_in s jd) u (left s jd j (n (told s jd Before None u))))
+  told_across true s id jd i j m n h = record { grows = λ w. grown w; follows = λ w u z a i. absurd i }
+  told_across false s id jd i j m n h = record {
+    grows = λ w. left_grown s id i w (m (told s id Before None w))
         (grown_more (world_in (m (told s id Before None w))) (told s id Before None w) w (h.grows (told s id Before None w)) (told_grown s id Before None w));
     follows = λ w u z.
-        left_follows s id jd (m (told s id Before None w)) (n (told s jd Before None u))
+        left_follows s id jd i j (m (told s id Before None w)) (n (told s jd Before None u))
         (h.follows (told s id Before None w) (told s jd Before None u) (record { store = z.store; echo = z.echo; turns = z.turns }));
   }
 
@@ -191,12 +284,21 @@ module _ (claim : Claim) {A : Type 0} (free : ℕ) (out off : A → World → Re
   repeated_across zero zero a = h' a
   repeated_across zero (suc left) a = h _ _ (repeated_across zero left) a
   repeated_across (suc n) zero a =
-      let by : (w u : World) → Same w u → Across claim (λ x. elim (nat_lt w.turns (suc n)) [ true ↦ f (repeated free out f n free) a x | false ↦ out a x ]) (λ x. elim (nat_lt u.turns (suc n)) [ true ↦ l (repeated free off l n free) a x | false ↦ off a x ]) =
+      let by : (w u : World) → Same w u
+      → Across claim (λ x. elim (nat_lt w.turns (suc n))
+      [ true ↦ f (repeated free out f n free) a x | false ↦ out a x ])
+      (λ x. elim (nat_lt u.turns (suc n)) [ true ↦ l (repeated free off l n free) a x | false ↦ off a x ]) =
       λ w u s. either_across claim (nat_lt w.turns (suc n)) (nat_lt u.turns (suc n)) _ _ _ _ (ap (λ x. nat_lt x (suc n)) s.turns) (h _ _ (repeated_across n free) a) (h' a) in
       record { grows = λ w. (by w w (record { store = refl; echo = refl; turns = refl })).grows w; follows = λ w u s. (by w u s).follows w u s }
   repeated_across (suc n) (suc left) a =
-      let by : (w u : World) → Same w u → Across claim (λ x. elim (nat_lt w.turns (suc n)) [ true ↦ f (repeated free out f n free) a x | false ↦ f (repeated free out f (suc n) left) a x ]) (λ x. elim (nat_lt u.turns (suc n)) [ true ↦ l (repeated free off l n free) a x | false ↦ l (repeated free off l (suc n) left) a x ]) =
-      λ w u s. either_across claim (nat_lt w.turns (suc n)) (nat_lt u.turns (suc n)) _ _ _ _ (ap (λ x. nat_lt x (suc n)) s.turns) (h _ _ (repeated_across n free) a) (h _ _ (repeated_across (suc n) left) a) in
+      let by : (w u : World) → Same w u
+      → Across claim (λ x. elim (nat_lt w.turns (suc n))
+      [ true ↦ f (repeated free out f n free) a x | false ↦ f (repeated free out f (suc n) left) a x ])
+      (λ x. elim (nat_lt u.turns (suc n))
+      [ true ↦ l (repeated free off l n free) a x | false ↦ l (repeated free off l (suc n) left) a x ]) =
+      λ w u s. either_across claim (nat_lt w.turns (suc n)) (nat_lt u.turns (suc n)) _ _ _ _
+      (ap (λ x. nat_lt x (suc n)) s.turns) (h _ _ (repeated_across n free) a)
+      (h _ _ (repeated_across (suc n) left) a) in
       record { grows = λ w. (by w w (record { store = refl; echo = refl; turns = refl })).grows w; follows = λ w u s. (by w u s).follows w u s }
 
 children_rewritten : {claim : Claim} {t t' : Tables} {id : ℕ} {s : Site} {f g : Forest} → IsRewritten claim t t' id s f g → kids (form g) ≡ kids (form f)
@@ -234,7 +336,8 @@ module _ (claim : Claim) (t t' : Tables) (marks : List Mark) (lower low : Entry 
       let past : (Mode → World → Result) → Mode → World → Result =
       λ again n a. play true (place_in s jd) (going low lid again) (rule t' s j n (form d)) a in
       let one : (x y : Mode → World → Result) → ((i : Mode) → Across claim (x i) (y i)) → (i : Mode) → Across claim (pass x i) (past y i) =
-      λ x y a i. script_across (place_in s id) (place_in s jd) p (going lower kid x) (going low lid y) (going_across kid lid g x y a) (rule t s k i (form c)) (rule t' s j i (form d)) (e i) in
+      λ x y a i. script_across (place_in s id) (place_in s jd) p (going lower kid x) (going low lid y)
+      (going_across kid lid g x y a) (rule t s k i (form c)) (rule t' s j i (form d)) (e i) in
       let both : (n : ℕ) → Across claim (pass (passes (place_in s id) pass n) m) (past (passes (place_in s jd) past n) m) =
       λ n. one _ _ (repeated_across claim 1 _ _ (λ i. over_across claim (place_in s id) (place_in s jd) NoRule NoRule) pass past one n 1) m in
       record {
@@ -245,20 +348,20 @@ module _ (claim : Claim) (t t' : Tables) (marks : List Mark) (lower low : Entry 
       }
 
   -- a node without a rule is outside, whatever stands in its place
-  pub no_rule_across : (a stop : Bool) (s : Site) (id : ℕ) (n : World → Result) (q : World → Result)
+  pub no_rule_across : (a stop : Bool) (s : Site) (id : ℕ) (m : Mode) (n : World → Result) (q : World → Result)
       → a ≡ false → ((u : World) → n u ≡ Over (Outside (place_in s id) NoRule) u)
-      → Across claim (λ w. starting a w (λ u. unless_stopped stop (place_in s id) u (left s id (n (told s id Before None u))))) q
-  no_rule_across a stop s id n q e f =
-      subst (λ x. Across claim (λ w. starting x w (λ u. unless_stopped stop (place_in s id) u (left s id (n (told s id Before None u))))) q)
+      → Across claim (λ w. starting a w (λ u. unless_stopped stop (place_in s id) u (left s id m (n (told s id Before None u))))) q
+  no_rule_across a stop s id m n q e f =
+      subst (λ x. Across claim (λ w. starting x w (λ u. unless_stopped stop (place_in s id) u (left s id m (n (told s id Before None u))))) q)
       (sym e) (record { grows = λ w. grows stop w; follows = λ w u z. is_outside stop w (q u) })
     where
-      grows : (b : Bool) (w : World) → Grown (world_in (unless_stopped b (place_in s id) w (left s id (n (told s id Before None w))))) w
+      grows : (b : Bool) (w : World) → Grown (world_in (unless_stopped b (place_in s id) w (left s id m (n (told s id Before None w))))) w
       grows true w = grown w
-      grows false w = subst (λ x. Grown (world_in (left s id x)) w) (sym (f (told s id Before None w))) (told_grown s id Before None w)
+      grows false w = subst (λ x. Grown (world_in (left s id m x)) w) (sym (f (told s id Before None w))) (told_grown s id Before None w)
 
-      is_outside : (b : Bool) (w : World) (r : Result) → FollowsAcross claim (unless_stopped b (place_in s id) w (left s id (n (told s id Before None w)))) r
+      is_outside : (b : Bool) (w : World) (r : Result) → FollowsAcross claim (unless_stopped b (place_in s id) w (left s id m (n (told s id Before None w)))) r
       is_outside true w r = λ a i. absurd i
-      is_outside false w r = subst (λ x. FollowsAcross claim (left s id x) r) (sym (f (told s id Before None w))) (λ a i. absurd i)
+      is_outside false w r = subst (λ x. FollowsAcross claim (left s id m x) r) (sym (f (told s id Before None w))) (λ a i. absurd i)
 
   pub step_across : (id : ℕ) (s : Site) {f g : Forest} → IsRewritten claim t t' id s f g → (jd i : ℕ) (m : Mode)
       → Across claim (step false t marks lower s f id i m) (step true t' [] low s g jd i m)
@@ -267,7 +370,7 @@ module _ (claim : Claim) (t t' : Tables) (marks : List Mark) (lower low : Entry 
   step_across id s (token_behind d) jd i m = step_across id s d jd i m
   step_across id s (same {k = k} {j = j} {c = c} {d = d} {f = f} {g = g} r plain p q) jd zero m =
       starting_across claim (is_statement k) (is_statement j) _ _ r.statement
-      (told_across claim (is_stopped marks s.file id) s id jd _ _
+      (told_across claim (is_stopped marks s.file id) s id jd m m _ _
       (node_across s k j c d id jd plain (step false t marks lower (within k c s) c (suc id)) (step true t' [] low (within j d s) d (suc jd)) r.script
       (λ i n. subst (λ x. Across claim (step false t marks lower (within k c s) c (suc id) i n) (step true t' [] low x d (suc jd) i n)) (sym r.within)
       (step_across (suc id) (within k c s) p (suc jd) i n)) m))
@@ -278,7 +381,7 @@ module _ (claim : Claim) (t t' : Tables) (marks : List Mark) (lower low : Entry 
       let kid : ℕ → Mode → World → Result = step false t marks lower (within k c s) c (suc id) in
       let pass : (Mode → World → Result) → Mode → World → Result =
       λ again n a. play false (place_in s id) (going lower kid again) (rule t s k n (form c)) a in
-      no_rule_across (is_statement k) (is_stopped marks s.file id) s id (at_node false t lower s k c id kid m) _ r.statement
+      no_rule_across (is_statement k) (is_stopped marks s.file id) s id m (at_node false t lower s k c id kid m) _ r.statement
       (λ a. ap (λ x. play false (place_in s id) (going lower kid (passes (place_in s id) pass a.turns)) x a) (r.script m))
   step_across id s (replaced {k = k} {j = j} {c = c} {d = d} {f = f} {g = g} r q) jd (suc i) m =
       subst (λ x. Across claim (step false t marks lower (beside k c s) f (suc (id + count c)) i m) (step true t' [] low x g (suc (jd + count d)) i m)) (sym r.beside)
@@ -288,11 +391,12 @@ module _ (claim : Claim) (t t' : Tables) (marks : List Mark) (lower low : Entry 
       subst (λ x. Across claim (step false t marks lower (beside k c s) f (suc (id + count c)) i m) (step true t' [] low x g (suc (jd + count d)) i m)) (sym r.beside)
       (step_across (suc (id + count c)) (beside k c s) q (suc (jd + count d)) i m)
   step_across id s (wrapped {k = k} {j = j} {c = c} {d = d} {f = f} {g = g} r p q) jd zero m =
-      let inner : Across claim (step false t marks lower s (node k c none) id zero m) (step true t' [] low s (node j d none) (suc jd) zero m) = step_across id s p (suc jd) zero m in
+      let inner : Across claim (step false t marks lower s (node k c none) id zero m)
+      (step true t' [] low s (node j d none) (suc jd) zero m) = step_across id s p (suc jd) zero m in
       record {
         grows = λ w. inner.grows w;
         follows = λ w u e.
-            handed_follows claim s jd _ _ (inner.follows w (told s jd Before None u) (record { store = e.store; echo = e.echo; turns = e.turns }));
+            handed_follows claim s jd m _ _ (inner.follows w (told s jd Before None u) (record { store = e.store; echo = e.echo; turns = e.turns }));
       }
   step_across id s (wrapped {k = k} {j = j} {c = c} {d = d} {f = f} {g = g} r p q) jd (suc i) m =
       subst (λ x. Across claim (step false t marks lower (beside k c s) f (suc (id + count c)) i m) (step true t' [] low x g (suc (jd + (suc (count d) + 0))) i m)) r
@@ -322,22 +426,29 @@ module _ (claim : Claim) (t t' : Tables) (marks : List Mark) (lower low : Entry 
       (node_across s k j c d id jd plain (step false t marks lower (within k c s) c (suc id)) (step true t' [] low (within j d s) d (suc jd)) r.script
       (λ i o. subst (λ z. Across claim (step false t marks lower (within k c s) c (suc id) i o) (step true t' [] low z d (suc jd) i o)) (sym r.within)
       (step_across (suc id) (within k c s) p (suc jd) i o)) m)
-      (subst (λ z. Across claim (declared_in false t marks lower (within k c s) c (suc id) n m (λ w. declared_in false t marks lower (beside k c s) f (suc (id + count c)) n m x w)) (declared_in true t' [] low z d (suc jd) n m (λ w. declared_in true t' [] low (beside j d s) g (suc (jd + count d)) n m y w))) (sym r.within)
+      (subst (λ z. Across claim (declared_in false t marks lower (within k c s) c (suc id) n m
+      (λ w. declared_in false t marks lower (beside k c s) f (suc (id + count c)) n m x w))
+      (declared_in true t' [] low z d (suc jd) n m
+      (λ w. declared_in true t' [] low (beside j d s) g (suc (jd + count d)) n m y w))) (sym r.within)
       (declared_across (suc id) (within k c s) p (suc jd) n m _ _
-      (subst (λ z. Across claim (declared_in false t marks lower (beside k c s) f (suc (id + count c)) n m x) (declared_in true t' [] low z g (suc (jd + count d)) n m y)) (sym r.beside)
+      (subst (λ z. Across claim (declared_in false t marks lower (beside k c s) f (suc (id + count c)) n m x)
+      (declared_in true t' [] low z g (suc (jd + count d)) n m y)) (sym r.beside)
       (declared_across (suc (id + count c)) (beside k c s) q (suc (jd + count d)) n m x y a))))
   declared_across id s (replaced {k = k} {j = j} {c = c} {d = d} {f = f} {g = g} r q) jd n m x y a =
       passed_over id s k j c d f g r.declaration r.undeclared r.none_inside r.none_instead jd n m x y
-      (subst (λ z. Across claim (declared_in false t marks lower (beside k c s) f (suc (id + count c)) n m x) (declared_in true t' [] low z g (suc (jd + count d)) n m y)) (sym r.beside)
+      (subst (λ z. Across claim (declared_in false t marks lower (beside k c s) f (suc (id + count c)) n m x)
+      (declared_in true t' [] low z g (suc (jd + count d)) n m y)) (sym r.beside)
       (declared_across (suc (id + count c)) (beside k c s) q (suc (jd + count d)) n m x y a))
   declared_across id s (kept {k = k} {j = j} {c = c} {d = d} {f = f} {g = g} r q) jd n m x y a =
       neither_across claim (is_declaration k) (is_declaration j) (nat_eq s.number n) (nat_eq s.number n) _ _ _ _ r.declaration r.undeclared
       (r.inside marks lower low h (suc id) (suc jd) n m _ _
-      (subst (λ z. Across claim (declared_in false t marks lower (beside k c s) f (suc (id + count c)) n m x) (declared_in true t' [] low z g (suc (jd + count d)) n m y)) (sym r.beside)
+      (subst (λ z. Across claim (declared_in false t marks lower (beside k c s) f (suc (id + count c)) n m x)
+      (declared_in true t' [] low z g (suc (jd + count d)) n m y)) (sym r.beside)
       (declared_across (suc (id + count c)) (beside k c s) q (suc (jd + count d)) n m x y a)))
   declared_across id s (wrapped {k = k} {j = j} {c = c} {d = d} {f = f} {g = g} r p q) jd n m x y a =
       declared_across id s p (suc jd) n m _ _
-      (subst (λ z. Across claim (declared_in false t marks lower (beside k c s) f (suc (id + count c)) n m x) (declared_in true t' [] low z g (suc (jd + (suc (count d) + 0))) n m y)) r
+      (subst (λ z. Across claim (declared_in false t marks lower (beside k c s) f (suc (id + count c)) n m x)
+      (declared_in true t' [] low z g (suc (jd + (suc (count d) + 0))) n m y)) r
       (declared_across (suc (id + count c)) (beside k c s) q (suc (jd + (suc (count d) + 0))) n m x y a))
 
   file_across : ((path : Bytes) (n : ℕ) → file_script t' path n ≡ file_script t path n) → (path : Bytes) → claim.handled (place_of_file path) ≡ false → {f g : Forest}
@@ -355,7 +466,9 @@ module _ (claim : Claim) (t t' : Tables) (marks : List Mark) (lower low : Entry 
   found_across early path h' no_more = record { grows = λ w. grown w; follows = λ w u e a i. absurd i }
   found_across early path h' (one_more {path = p} {f = f} {g = g} {fs = fs} {gs = gs} d ds) =
       (elim (bytes_eq p path)
-      as (λ b. (b ≡ true → p ≡ path) → Across claim (run_file false t marks lower path (cond b (Some f) (file_at fs path))) (run_file true t' [] low path (cond b (Some g) (file_at gs path)))) [
+      as (λ b. (b ≡ true → p ≡ path)
+      → Across claim (run_file false t marks lower path (cond b (Some f) (file_at fs path)))
+      (run_file true t' [] low path (cond b (Some g) (file_at gs path)))) [
         | true ↦ λ y. file_across early path h' (subst (λ q. IsRewritten claim t t' 0 (file_site q) f g) (y refl) d)
         | false ↦ λ y. found_across early path h' ds
       ]) ((bytes_eq-Decides p path).0)
@@ -365,8 +478,12 @@ module _ (claim : Claim) (t t' : Tables) (marks : List Mark) (lower low : Entry 
   declaration_across b m no_more = record { grows = λ w. grown w; follows = λ w u e a i. absurd i }
   declaration_across b m (one_more {path = p} {f = f} {g = g} {fs = fs} {gs = gs} d ds) =
       (elim (bytes_eq p b.file)
-      as (λ c. (c ≡ true → p ≡ b.file) → Across claim (run_declared false t marks lower b m (cond c (Some f) (file_at fs b.file))) (run_declared true t' [] low b m (cond c (Some g) (file_at gs b.file)))) [
-        | true ↦ λ y. declared_across 0 (file_site b.file) (subst (λ q. IsRewritten claim t t' 0 (file_site q) f g) (y refl) d) 0 b.number m _ _ (record { grows = λ w. grown w; follows = λ w u e a i. absurd i })
+      as (λ c. (c ≡ true → p ≡ b.file)
+      → Across claim (run_declared false t marks lower b m (cond c (Some f) (file_at fs b.file)))
+      (run_declared true t' [] low b m (cond c (Some g) (file_at gs b.file)))) [
+        | true ↦ λ y. declared_across 0 (file_site b.file)
+            (subst (λ q. IsRewritten claim t t' 0 (file_site q) f g) (y refl) d) 0 b.number m _ _
+            (record { grows = λ w. grown w; follows = λ w u e a i. absurd i })
         | false ↦ λ y. declaration_across b m ds
       ]) ((bytes_eq-Decides p b.file).0)
 
@@ -379,7 +496,10 @@ refused_across claim false path m n h = record {
       (record { store = ap (λ (st : Store). record st { started = path ∷ st.started }) s.store; echo = s.echo; turns = s.turns });
 }
 
-module _ (claim : Claim) (t t' : Tables) (early : (path : Bytes) (n : ℕ) → file_script t' path n ≡ file_script t path n) (marks : List Mark) (source written : Program) (same_files : AreRewritten claim t t' source.files written.files) (plain : (path : Bytes) → claim.handled (place_of_file path) ≡ false) where
+module _ (claim : Claim) (t t' : Tables) (early : (path : Bytes) (n : ℕ)
+    → file_script t' path n ≡ file_script t path n) (marks : List Mark) (source written : Program)
+    (same_files : AreRewritten claim t t' source.files written.files)
+    (plain : (path : Bytes) → claim.handled (place_of_file path) ≡ false) where
   start_across : (lower low : Entry → World → Result) → ((e : Entry) → Across claim (lower e) (low e))
       → (e : Entry) → Across claim (start false t source marks lower e) (start true t' written [] low e)
   start_across lower low h (FileStart path) =
@@ -404,7 +524,8 @@ and_start_across claim path k l h (Jump (Throw n)) = record { grows = λ w. grow
 and_start_across claim path k l h (Jump (Break n)) = record { grows = λ w. grown w; follows = λ w u s a i. absurd i }
 and_start_across claim path k l h (Jump (Continue n)) = record { grows = λ w. grown w; follows = λ w u s a i. absurd i }
 
-start_all_across : (claim : Claim) (k l : Bytes → World → Result) → ((path : Bytes) → Across claim (k path) (l path)) → (first : Option Bytes) (entry : Bytes) → Across claim (start_all k first entry) (start_all l first entry)
+start_all_across : (claim : Claim) (k l : Bytes → World → Result) → ((path : Bytes) → Across claim (k path) (l path))
+    → (first : Option Bytes) (entry : Bytes) → Across claim (start_all k first entry) (start_all l first entry)
 start_all_across claim k l h None entry = h entry
 start_all_across claim k l h (Some path) entry = record {
   grows = λ w. then_grown w (k path w) (and_start path (k entry)) ((h path).grows w) (λ o u. (and_start_across claim path (k entry) (l entry) (h entry) o).grows u);

@@ -13,11 +13,78 @@ use Rattle.scope_names.specs.Sites.{Site, file_site, is_declaration, declaration
 use Rattle.php_meaning.specs.names.Tables.{Tables, tables_of}
 use Rattle.php_meaning.specs.Cause.{Cause, NoRule, Call}
 use Rattle.php_meaning.specs.runs.World.{Store, Bytes, Place, Going, Outside, Before, World}
-use Rattle.php_meaning.specs.runs.Script.{Return, Throw, Break, Continue, Out, Val, Fresh, At, Jump, Mode, Target, Kid, Again, There, File, Script, Give, Stop, Finish, Look, Put, Echo, Turn, Ask, Run}
+use Rattle.php_meaning.specs.runs.Script.{
+  Return,
+  Throw,
+  Break,
+  Continue,
+  Out,
+  Val,
+  Fresh,
+  At,
+  Jump,
+  Mode,
+  Target,
+  Kid,
+  Again,
+  There,
+  File,
+  Script,
+  Give,
+  Stop,
+  Finish,
+  Look,
+  Put,
+  Echo,
+  Turn,
+  Ask,
+  Run,
+}
 use Rattle.php_meaning.specs.Rules.{rule, file_script}
 use Rattle.php_meaning.specs.runs.Kinds.{is_statement}
 use Rattle.php_meaning.specs.runs.Input.{Input}
-use Rattle.php_meaning.specs.runs.Run.{begun, Program, Mark, file_at, is_stopped, is_refused, Result, Done, Over, then_do, with_turn, play, Entry, FileStart, DeclarationStart, place_in, place_of_file, told, left, starting, unless_stopped, going, repeated, passes, at_node, step, run_file, declared_in, run_declared, unless_refused, start, value_count, place_of_entry, enter, first_world, end_of_file, answer, and_start, start_all, run_of}
+use Rattle.php_meaning.specs.runs.Run.{
+  begun,
+  Program,
+  Mark,
+  file_at,
+  is_stopped,
+  is_refused,
+  Result,
+  Done,
+  Over,
+  then_do,
+  with_turn,
+  play,
+  Entry,
+  FileStart,
+  DeclarationStart,
+  place_in,
+  place_of_file,
+  told,
+  left,
+  starting,
+  unless_stopped,
+  going,
+  repeated,
+  passes,
+  at_node,
+  step,
+  run_file,
+  declared_in,
+  run_declared,
+  unless_refused,
+  start,
+  value_count,
+  place_of_entry,
+  enter,
+  first_world,
+  end_of_file,
+  answer,
+  and_start,
+  start_all,
+  run_of,
+}
 use Rattle.php_meaning.specs.laws.Laws.{IsInside, SameRun}
 use Rattle.php_meaning.specs.laws.Following.{Same, Follows, Alike}
 use Rattle.php_meaning.specs.laws.SameScripts.{HasScriptsOf, nothing, token_before, token_behind, same, replaced, kept, wrapped, HaveScriptsOf, no_more, one_more, DeclareAlike}
@@ -55,18 +122,18 @@ module _ (v : Bool) (here there : Place) (go to : Target → World → Result) (
       then_follows (go x w) (to x u) (λ o a. play v here go (k o) a) (λ o a. play v there to (k o) a) ((h x).follows w u s)
       (λ o. record { follows = λ a b t. play_follows (k o) a b t })
 
-left_follows : (s : Site) (id jd : ℕ) (r q : Result) → Follows r q → Follows (left s id r) (left s jd q)
-left_follows s id jd (Done o w) (Done p u) f = (f.0, record { store = f.1.store; echo = f.1.echo; turns = f.1.turns })
-left_follows s id jd (Done o w) (Over e u) f = absurd f
-left_follows s id jd (Over e w) (Done p u) f = f
-left_follows s id jd (Over e w) (Over d u) f = f
+left_follows : (s : Site) (id jd : ℕ) (m n : Mode) (r q : Result) → Follows r q → Follows (left s id m r) (left s jd n q)
+left_follows s id jd m n (Done o w) (Done p u) f = (f.0, record { store = f.1.store; echo = f.1.echo; turns = f.1.turns })
+left_follows s id jd m n (Done o w) (Over e u) f = absurd f
+left_follows s id jd m n (Over e w) (Done p u) f = f
+left_follows s id jd m n (Over e w) (Over d u) f = f
 
 -- a node that hands on what stands in it
-handed_follows : (s : Site) (jd : ℕ) (r q : Result) → Follows r q → Follows r (left s jd (then_do q (λ o u. Done o u)))
-handed_follows s jd (Done o w) (Done p u) f = (f.0, record { store = f.1.store; echo = f.1.echo; turns = f.1.turns })
-handed_follows s jd (Done o w) (Over e u) f = absurd f
-handed_follows s jd (Over e w) (Done p u) f = λ i. absurd (f i)
-handed_follows s jd (Over e w) (Over d u) f = f
+handed_follows : (s : Site) (jd : ℕ) (m : Mode) (r q : Result) → Follows r q → Follows r (left s jd m (then_do q (λ o u. Done o u)))
+handed_follows s jd m (Done o w) (Done p u) f = (f.0, record { store = f.1.store; echo = f.1.echo; turns = f.1.turns })
+handed_follows s jd m (Done o w) (Over e u) f = absurd f
+handed_follows s jd m (Over e w) (Done p u) f = λ i. absurd (f i)
+handed_follows s jd m (Over e w) (Over d u) f = f
 
 stopped_follows : (b : Bool) (here : Place) (w : World) (r q : Result) → Follows r q → Follows (unless_stopped b here w r) q
 stopped_follows true here w r q f = λ i. absurd i
@@ -146,7 +213,8 @@ no_declaration true n e = absurd (let f : ⊥ = omega (arith, e) in f)
 no_declaration false n e = (refl, e)
 
 -- where nothing is declared, nothing is found
-pub none_found : (v : Bool) (t : Tables) (ms : List Mark) (go : Entry → World → Result) (s : Site) (f : Forest) → declarations f ≡ zero → (id n : ℕ) (m : Mode) (x : World → Result) (w : World)
+pub none_found : (v : Bool) (t : Tables) (ms : List Mark) (go : Entry → World → Result) (s : Site) (f : Forest)
+    → declarations f ≡ zero → (id n : ℕ) (m : Mode) (x : World → Result) (w : World)
     → declared_in v t ms go s f id n m x w ≡ x w
 none_found v t ms go s none e id n m x w = refl
 none_found v t ms go s (leaf a f) e id n m x w = none_found v t ms go s f e id n m x w
@@ -171,7 +239,8 @@ passed v t ms go s k c f e z id n m x w =
     ] ≡ declared_in v t ms go (beside k c s) f (suc (id + count c)) n m x w) (sym e)
     (none_found v t ms go (within k c s) c z (suc id) n m (λ u. declared_in v t ms go (beside k c s) f (suc (id + count c)) n m x u) w)
 
-module _ (v : Bool) (t t' : Tables) (early : (path : Bytes) (n : ℕ) → file_script t' path n ≡ file_script t path n) (marks : List Mark) (lower low : Entry → World → Result) (h : (e : Entry) → Alike (lower e) (low e)) where
+module _ (v : Bool) (t t' : Tables) (early : (path : Bytes) (n : ℕ) → file_script t' path n ≡ file_script t path n)
+    (marks : List Mark) (lower low : Entry → World → Result) (h : (e : Entry) → Alike (lower e) (low e)) where
   going_alike : (kid lid : ℕ → Mode → World → Result) → ((i : ℕ) (m : Mode) → Alike (kid i m) (lid i m))
       → (again anew : Mode → World → Result) → ((m : Mode) → Alike (again m) (anew m))
       → (x : Target) → Alike (going lower kid again x) (going low lid anew x)
@@ -181,7 +250,8 @@ module _ (v : Bool) (t t' : Tables) (early : (path : Bytes) (n : ℕ) → file_s
   going_alike kid lid g again anew a (File path) = h (FileStart path)
 
   -- a script and the same one by other words
-  script_follows : (here there : Place) (go to : Target → World → Result) → ((x : Target) → Alike (go x) (to x)) → (a b : Script) → b ≡ a → (w u : World) → Same w u → Follows (play v here go a w) (play v there to b u)
+  script_follows : (here there : Place) (go to : Target → World → Result) → ((x : Target) → Alike (go x) (to x))
+      → (a b : Script) → b ≡ a → (w u : World) → Same w u → Follows (play v here go a w) (play v there to b u)
   script_follows here there go to g a b e w u s = subst (λ x. Follows (play v here go a w) (play v there to x u)) (sym e) (play_follows v here there go to g a w u s)
 
   node_alike : (s : Site) (k j : NodeKind) (c d : Forest) (id jd : ℕ) (kid lid : ℕ → Mode → World → Result)
@@ -194,7 +264,10 @@ module _ (v : Bool) (t t' : Tables) (early : (path : Bytes) (n : ℕ) → file_s
       let past : (Mode → World → Result) → Mode → World → Result =
       λ again n a. play v (place_in s jd) (going low lid again) (rule t' s j n (form d)) a in
       let one : (x y : Mode → World → Result) → ((i : Mode) → Alike (x i) (y i)) → (i : Mode) → Alike (pass x i) (past y i) =
-      λ x y a i. record { follows = λ w u z. script_follows (place_in s id) (place_in s jd) (going lower kid x) (going low lid y) (going_alike kid lid g x y a) (rule t s k i (form c)) (rule t' s j i (form d)) (e i) w u z } in
+      λ x y a i. record {
+        follows = λ w u z. script_follows (place_in s id) (place_in s jd) (going lower kid x)
+            (going low lid y) (going_alike kid lid g x y a) (rule t s k i (form c)) (rule t' s j i (form d)) (e i) w u z;
+      } in
       let both : (n : ℕ) → Alike (pass (passes (place_in s id) pass n) m) (past (passes (place_in s jd) past n) m) =
       λ n. one _ _ (repeated_alike 1 _ _ (λ i. over_alike (place_in s id) (place_in s jd) NoRule NoRule) pass past one n 1) m in
       record {
@@ -204,20 +277,21 @@ module _ (v : Bool) (t t' : Tables) (early : (path : Bytes) (n : ℕ) → file_s
       }
 
   -- a node without a rule is outside, whatever stands in its place
-  no_rule_follows : (a stop : Bool) (s : Site) (id : ℕ) (n : World → Result) (w : World) (q : Result)
+  no_rule_follows : (a stop : Bool) (s : Site) (id : ℕ) (m : Mode) (n : World → Result) (w : World) (q : Result)
       → a ≡ false → ((u : World) → n u ≡ Over (Outside (place_in s id) NoRule) u)
-      → Follows (starting a w (λ u. unless_stopped stop (place_in s id) u (left s id (n (told s id Before None u))))) q
-  no_rule_follows a stop s id n w q e f =
-      subst (λ x. Follows (starting x w (λ u. unless_stopped stop (place_in s id) u (left s id (n (told s id Before None u))))) q)
+      → Follows (starting a w (λ u. unless_stopped stop (place_in s id) u (left s id m (n (told s id Before None u))))) q
+  no_rule_follows a stop s id m n w q e f =
+      subst (λ x. Follows (starting x w (λ u. unless_stopped stop (place_in s id) u (left s id m (n (told s id Before None u))))) q)
       (sym e)
-      (subst (λ x. Follows (unless_stopped stop (place_in s id) w (left s id x)) q) (sym (f (told s id Before None w)))
+      (subst (λ x. Follows (unless_stopped stop (place_in s id) w (left s id m x)) q) (sym (f (told s id Before None w)))
       (is_outside stop))
     where
-      is_outside : (b : Bool) → Follows (unless_stopped b (place_in s id) w (left s id (Over (Outside (place_in s id) NoRule) (told s id Before None w)))) q
+      is_outside : (b : Bool) → Follows (unless_stopped b (place_in s id) w (left s id m (Over (Outside (place_in s id) NoRule) (told s id Before None w)))) q
       is_outside true = λ i. absurd i
       is_outside false = λ i. absurd i
 
-  step_follows : (s : Site) {f g : Forest} → HasScriptsOf t t' s f g → (id jd i : ℕ) (m : Mode) (w u : World) → Same w u → Follows (step v t marks lower s f id i m w) (step v t' [] low s g jd i m u)
+  step_follows : (s : Site) {f g : Forest} → HasScriptsOf t t' s f g → (id jd i : ℕ) (m : Mode) (w u : World)
+      → Same w u → Follows (step v t marks lower s f id i m w) (step v t' [] low s g jd i m u)
   step_follows s nothing id jd i m w u e = λ x. absurd x
   step_follows s (token_before d) id jd i m w u e = step_follows s d id jd i m w u e
   step_follows s (token_behind d) id jd i m w u e = step_follows s d id jd i m w u e
@@ -225,7 +299,7 @@ module _ (v : Bool) (t t' : Tables) (early : (path : Bytes) (n : ℕ) → file_s
       starting_follows (is_statement k) (is_statement j) w u _ _ r.statement e (record {
         follows = λ a b z.
             stopped_follows (is_stopped marks s.file id) (place_in s id) a _ _
-            (left_follows s id jd _ _
+            (left_follows s id jd m m _ _
             ((node_alike s k j c d id jd (step v t marks lower (within k c s) c (suc id)) (step v t' [] low (within j d s) d (suc jd)) r.script
             (λ i n. subst (λ x. Alike (step v t marks lower (within k c s) c (suc id) i n) (step v t' [] low x d (suc jd) i n)) (sym r.within)
             (record { follows = λ x y y'. step_follows (within k c s) p (suc id) (suc jd) i n x y y' }))
@@ -238,7 +312,7 @@ module _ (v : Bool) (t t' : Tables) (early : (path : Bytes) (n : ℕ) → file_s
       let kid : ℕ → Mode → World → Result = step v t marks lower (within k c s) c (suc id) in
       let pass : (Mode → World → Result) → Mode → World → Result =
       λ again n a. play v (place_in s id) (going lower kid again) (rule t s k n (form c)) a in
-      no_rule_follows (is_statement k) (is_stopped marks s.file id) s id (at_node v t lower s k c id kid m) w _ r.statement
+      no_rule_follows (is_statement k) (is_stopped marks s.file id) s id m (at_node v t lower s k c id kid m) w _ r.statement
       (λ a. ap (λ x. play v (place_in s id) (going lower kid (passes (place_in s id) pass a.turns)) x a) (r.script m))
   step_follows s (replaced {k} {j} {c} {d} {f} {g} r q) id jd (suc i) m w u e =
       subst (λ x. Follows (step v t marks lower (beside k c s) f (suc (id + count c)) i m w) (step v t' [] low x g (suc (jd + count d)) i m u)) (sym r.beside)
@@ -248,7 +322,7 @@ module _ (v : Bool) (t t' : Tables) (early : (path : Bytes) (n : ℕ) → file_s
       subst (λ x. Follows (step v t marks lower (beside k c s) f (suc (id + count c)) i m w) (step v t' [] low x g (suc (jd + count d)) i m u)) (sym r.beside)
       (step_follows (beside k c s) q (suc (id + count c)) (suc (jd + count d)) i m w u e)
   step_follows s (wrapped {k} {j} {c} {d} {f} {g} r p q) id jd zero m w u e =
-      handed_follows s jd _ _ (step_follows s p id (suc jd) zero m w (told s jd Before None u) (record { store = e.store; echo = e.echo; turns = e.turns }))
+      handed_follows s jd m _ _ (step_follows s p id (suc jd) zero m w (told s jd Before None u) (record { store = e.store; echo = e.echo; turns = e.turns }))
   step_follows s (wrapped {k} {j} {c} {d} {f} {g} r p q) id jd (suc i) m w u e =
       subst (λ x. Follows (step v t marks lower (beside k c s) f (suc (id + count c)) i m w) (step v t' [] low x g (suc (jd + (suc (count d) + 0))) i m u)) r
       (step_follows (beside k c s) q (suc (id + count c)) (suc (jd + (suc (count d) + 0))) i m w u e)
@@ -264,14 +338,18 @@ module _ (v : Bool) (t t' : Tables) (early : (path : Bytes) (n : ℕ) → file_s
       (node_alike s k j c d id jd (step v t marks lower (within k c s) c (suc id)) (step v t' [] low (within j d s) d (suc jd)) r.script
       (λ i o. subst (λ z. Alike (step v t marks lower (within k c s) c (suc id) i o) (step v t' [] low z d (suc jd) i o)) (sym r.within)
       (record { follows = λ w u z. step_follows (within k c s) p (suc id) (suc jd) i o w u z })) m)
-      (subst (λ z. Alike (declared_in v t marks lower (within k c s) c (suc id) n m (λ w. declared_in v t marks lower (beside k c s) f (suc (id + count c)) n m x w)) (declared_in v t' [] low z d (suc jd) n m (λ w. declared_in v t' [] low (beside j d s) g (suc (jd + count d)) n m y w))) (sym r.within)
+      (subst (λ z. Alike (declared_in v t marks lower (within k c s) c (suc id) n m
+      (λ w. declared_in v t marks lower (beside k c s) f (suc (id + count c)) n m x w))
+      (declared_in v t' [] low z d (suc jd) n m
+      (λ w. declared_in v t' [] low (beside j d s) g (suc (jd + count d)) n m y w))) (sym r.within)
       (declared_alike (within k c s) p (suc id) (suc jd) n m _ _
       (subst (λ z. Alike (declared_in v t marks lower (beside k c s) f (suc (id + count c)) n m x) (declared_in v t' [] low z g (suc (jd + count d)) n m y)) (sym r.beside)
       (declared_alike (beside k c s) q (suc (id + count c)) (suc (jd + count d)) n m x y a))))
   declared_alike s (replaced {k} {j} {c} {d} {f} {g} r q) id jd n m x y a = record {
     follows = λ w u z.
         subst (λ p. Follows p (declared_in v t' [] low s (node j d g) jd n m y u)) (sym (passed v t marks lower s k c f r.declaration r.none_inside id n m x w))
-        (subst (λ p. Follows (declared_in v t marks lower (beside k c s) f (suc (id + count c)) n m x w) p) (sym (passed v t' [] low s j d g r.undeclared r.none_instead jd n m y u))
+        (subst (λ p. Follows (declared_in v t marks lower (beside k c s) f (suc (id + count c)) n m x w) p)
+        (sym (passed v t' [] low s j d g r.undeclared r.none_instead jd n m y u))
         (subst (λ p. Follows (declared_in v t marks lower (beside k c s) f (suc (id + count c)) n m x w) (declared_in v t' [] low p g (suc (jd + count d)) n m y u)) (sym r.beside)
         ((declared_alike (beside k c s) q (suc (id + count c)) (suc (jd + count d)) n m x y a).follows w u z)));
   }
@@ -285,7 +363,8 @@ module _ (v : Bool) (t t' : Tables) (early : (path : Bytes) (n : ℕ) → file_s
       (subst (λ z. Alike (declared_in v t marks lower (beside k c s) f (suc (id + count c)) n m x) (declared_in v t' [] low z g (suc (jd + (suc (count d) + 0))) n m y)) r
       (declared_alike (beside k c s) q (suc (id + count c)) (suc (jd + (suc (count d) + 0))) n m x y a))
 
-  file_follows : (path : Bytes) {f g : Forest} → HasScriptsOf t t' (file_site path) f g → (w u : World) → Same w u → Follows (run_file v t marks lower path (Some f) w) (run_file v t' [] low path (Some g) u)
+  file_follows : (path : Bytes) {f g : Forest} → HasScriptsOf t t' (file_site path) f g → (w u : World) → Same w u
+      → Follows (run_file v t marks lower path (Some f) w) (run_file v t' [] low path (Some g) u)
   file_follows path {f} {g} d w u e =
       script_follows (place_of_file path) (place_of_file path) _ _
       (going_alike _ _ (λ j n. record { follows = λ x y z. step_follows (file_site path) d 0 0 j n x y z }) _ _ (λ m. record { follows = λ x y z i. absurd i }))
@@ -296,7 +375,8 @@ module _ (v : Bool) (t t' : Tables) (early : (path : Bytes) (n : ℕ) → file_s
   found_follows path no_more w u e = λ i. absurd i
   found_follows path (one_more {path = p} {f} {g} {fs} {gs} d ds) w u e =
       (elim (bytes_eq p path)
-      as (λ b. (b ≡ true → p ≡ path) → Follows (run_file v t marks lower path (cond b (Some f) (file_at fs path)) w) (run_file v t' [] low path (cond b (Some g) (file_at gs path)) u)) [
+      as (λ b. (b ≡ true → p ≡ path) → Follows (run_file v t marks lower path (cond b (Some f) (file_at fs path)) w)
+      (run_file v t' [] low path (cond b (Some g) (file_at gs path)) u)) [
         | true ↦ λ y. file_follows path (subst (λ q. HasScriptsOf t t' (file_site q) f g) (y refl) d) w u e
         | false ↦ λ y. found_follows path ds w u e
       ]) ((bytes_eq-Decides p path).0)
@@ -306,12 +386,16 @@ module _ (v : Bool) (t t' : Tables) (early : (path : Bytes) (n : ℕ) → file_s
   declaration_follows b m no_more w u e = λ i. absurd i
   declaration_follows b m (one_more {path = p} {f} {g} {fs} {gs} d ds) w u e =
       (elim (bytes_eq p b.file)
-      as (λ c. (c ≡ true → p ≡ b.file) → Follows (run_declared v t marks lower b m (cond c (Some f) (file_at fs b.file)) w) (run_declared v t' [] low b m (cond c (Some g) (file_at gs b.file)) u)) [
-        | true ↦ λ y. (declared_alike (file_site b.file) (subst (λ q. HasScriptsOf t t' (file_site q) f g) (y refl) d) 0 0 b.number m _ _ (record { follows = λ x x' z i. absurd i })).follows w u e
+      as (λ c. (c ≡ true → p ≡ b.file)
+      → Follows (run_declared v t marks lower b m (cond c (Some f) (file_at fs b.file)) w)
+      (run_declared v t' [] low b m (cond c (Some g) (file_at gs b.file)) u)) [
+        | true ↦ λ y. (declared_alike (file_site b.file) (subst (λ q. HasScriptsOf t t' (file_site q) f g) (y refl) d)
+            0 0 b.number m _ _ (record { follows = λ x x' z i. absurd i })).follows w u e
         | false ↦ λ y. declaration_follows b m ds w u e
       ]) ((bytes_eq-Decides p b.file).0)
 
-module _ (v : Bool) (t t' : Tables) (early : (path : Bytes) (n : ℕ) → file_script t' path n ≡ file_script t path n) (marks : List Mark) (source written : Program) (same_files : HaveScriptsOf t t' source.files written.files) where
+module _ (v : Bool) (t t' : Tables) (early : (path : Bytes) (n : ℕ) → file_script t' path n ≡ file_script t path n)
+    (marks : List Mark) (source written : Program) (same_files : HaveScriptsOf t t' source.files written.files) where
   start_alike : (lower low : Entry → World → Result) → ((e : Entry) → Alike (lower e) (low e))
       → (e : Entry) → Alike (start v t source marks lower e) (start v t' written [] low e)
   start_alike lower low h (FileStart path) = record {
@@ -342,7 +426,8 @@ and_start_alike path k l h (Jump (Throw n)) = record { follows = λ w u s. (refl
 and_start_alike path k l h (Jump (Break n)) = record { follows = λ w u s i. absurd i }
 and_start_alike path k l h (Jump (Continue n)) = record { follows = λ w u s i. absurd i }
 
-start_all_alike : (k l : Bytes → World → Result) → ((path : Bytes) → Alike (k path) (l path)) → (first : Option Bytes) (entry : Bytes) → Alike (start_all k first entry) (start_all l first entry)
+start_all_alike : (k l : Bytes → World → Result) → ((path : Bytes) → Alike (k path) (l path))
+    → (first : Option Bytes) (entry : Bytes) → Alike (start_all k first entry) (start_all l first entry)
 start_all_alike k l h None entry = h entry
 start_all_alike k l h (Some path) entry = record {
   follows = λ w u s.

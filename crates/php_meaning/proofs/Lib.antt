@@ -13,6 +13,7 @@ mod TextLiteralRows
 mod OperatorRows
 mod RunRows
 mod ProgramRows
+mod VisitRows
 mod ComparisonRows
 mod TextRows
 mod KeyRows

@@ -21,8 +21,37 @@ use Rattle.php_meaning.specs.calls.Bodies.{global_all}
 use Rattle.php_meaning.specs.expressions.Expressions.{array_literal, isset, unset_all}
 use Rattle.php_meaning.specs.Rules.{rule, reading, reading_quietly, locating, running, run_all, return, choices, exit, echo_all, ternary, at_top, held_again, standing_still}
 use Rattle.php_meaning.specs.runs.Run.{Program, is_newer, run}
-use Rattle.php_meaning.specs.laws.Laws.{IsInside, SameRun, ParensChangeNoRun, ParensKeepMeaning, MarksOnlyStop, Parenthesized, ends, token, inner, parens, AreParenthesized, no_files, file}
-use Rattle.php_meaning.specs.laws.SameScripts.{HasScriptsOf, nothing, token_before, token_behind, same, wrapped, HaveScriptsOf, no_more, one_more, DeclareAlike, SameScriptsKeepMeaning, NamesAsOneToken, counts_children, OtherTokensCountNothing}
+use Rattle.php_meaning.specs.laws.Laws.{
+  IsInside,
+  SameRun,
+  ParensChangeNoRun,
+  ParensKeepMeaning,
+  MarksOnlyStop,
+  Parenthesized,
+  ends,
+  token,
+  inner,
+  parens,
+  AreParenthesized,
+  no_files,
+  file,
+}
+use Rattle.php_meaning.specs.laws.SameScripts.{
+  HasScriptsOf,
+  nothing,
+  token_before,
+  token_behind,
+  same,
+  wrapped,
+  HaveScriptsOf,
+  no_more,
+  one_more,
+  DeclareAlike,
+  SameScriptsKeepMeaning,
+  NamesAsOneToken,
+  counts_children,
+  OtherTokensCountNothing,
+}
 use Rattle.php_meaning.proofs.Alike.{scripts_alike}
 use Rattle.php_meaning.proofs.Unasked.{same_where_unasked}
 

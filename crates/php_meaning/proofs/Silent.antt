@@ -15,14 +15,112 @@ use Rattle.php_meaning.specs.Cause.{NoRule, Outcome, Gives, Outside, Came, Retur
 use Rattle.php_meaning.specs.values.Convert.{to_text, to_truth}
 use Rattle.php_meaning.specs.runs.World as End
 use Rattle.php_meaning.specs.runs.World.{Store, Asked, Bytes, Place, Before, World}
-use Rattle.php_meaning.specs.runs.Script.{Return, Throw, Break, Continue, Out, Val, Fresh, At, Jump, Mode, Read, Quiet, Write, Target, Kid, Again, There, File, Script, Give, Stop, Finish, Look, Put, Echo, Turn, Ask, Run, value_then, given, comes, Top, Name, Unchanged, Standing, Location, location_then}
+use Rattle.php_meaning.specs.runs.Script.{
+  Return,
+  Throw,
+  Break,
+  Continue,
+  Out,
+  Val,
+  Fresh,
+  At,
+  Jump,
+  Mode,
+  Read,
+  Quiet,
+  Write,
+  Target,
+  Kid,
+  Again,
+  There,
+  File,
+  Script,
+  Give,
+  Stop,
+  Finish,
+  Look,
+  Put,
+  Echo,
+  Turn,
+  Ask,
+  Run,
+  value_then,
+  given,
+  comes,
+  Top,
+  Name,
+  Unchanged,
+  Standing,
+  Location,
+  location_then,
+}
 use Rattle.php_meaning.specs.values.Arithmetic.{joined}
 use Rattle.php_meaning.specs.expressions.Operators.{of_values, binary}
 use Rattle.php_meaning.specs.literals.Literals.{constant_named, name_of}
 use Rattle.php_meaning.specs.literals.TextLiterals.{text_literal}
-use Rattle.php_meaning.specs.Rules.{first_text, run_all, declare_early, is_early, file_script, echo_all, choices, constant, ternary, short_ternary, reading, reading_quietly, locating, running, rule, at_top, run_top, is_unfit, held_again, standing_still}
+use Rattle.php_meaning.specs.Rules.{
+  first_text,
+  run_all,
+  declare_early,
+  is_early,
+  file_script,
+  echo_all,
+  choices,
+  constant,
+  ternary,
+  short_ternary,
+  reading,
+  reading_quietly,
+  locating,
+  running,
+  rule,
+  at_top,
+  run_top,
+  is_unfit,
+  held_again,
+  standing_still,
+}
 use Rattle.php_meaning.specs.runs.Kinds.{is_statement}
-use Rattle.php_meaning.specs.runs.Run.{begun, Program, Mark, file_at, is_stopped, is_refused, Result, Done, Over, then_do, with_turn, play, Entry, FileStart, DeclarationStart, place_in, place_of_file, told, left, starting, unless_stopped, going, repeated, passes, at_node, step, run_file, declared_in, run_declared, unless_refused, start, value_count, place_of_entry, enter, first_world, and_start, start_all, is_newer}
+use Rattle.php_meaning.specs.runs.Run.{
+  begun,
+  Program,
+  Mark,
+  file_at,
+  is_stopped,
+  is_refused,
+  Result,
+  Done,
+  Over,
+  then_do,
+  with_turn,
+  play,
+  Entry,
+  FileStart,
+  DeclarationStart,
+  place_in,
+  place_of_file,
+  told,
+  left,
+  starting,
+  unless_stopped,
+  going,
+  repeated,
+  passes,
+  at_node,
+  step,
+  run_file,
+  declared_in,
+  run_declared,
+  unless_refused,
+  start,
+  value_count,
+  place_of_entry,
+  enter,
+  first_world,
+  and_start,
+  start_all,
+  is_newer,
+}
 use Rattle.php_meaning.specs.laws.Asking.{may_ask, asks_nothing, AsksNowhere, InsideIsCovered}
 use Rattle.php_meaning.proofs.Unasked.{asked_in, answer_asked}
 
@@ -45,12 +143,6 @@ value_then_never k h (Val v) = h v
 value_then_never k h (Fresh v) = h v
 value_then_never k h (At l) = tt
 value_then_never k h (Jump w) = tt
-
-location_then_never : (k : Location → Script) → ((l : Location) → NeverAsks (k l)) → (o : Out) → NeverAsks (location_then k o)
-location_then_never k h (Val v) = tt
-location_then_never k h (Fresh v) = tt
-location_then_never k h (At l) = h l
-location_then_never k h (Jump w) = tt
 
 given_never : {A : Type 0} (r : Outcome A) (k : A → Script) → ((a : A) → NeverAsks (k a)) → NeverAsks (given r k)
 given_never (Gives a) k h = h a
@@ -108,7 +200,7 @@ choices_never i (suc (suc n)) = value_then_never _ (λ v. cond_never (to_truth v
 -- `.` joins texts
 dot_never : (b : Bool) (rest : Script) → IsTrue b → NeverAsks (cond b (binary (Some (of_values joined))) rest)
 dot_never true rest h =
-    value_then_never _ (λ a. value_then_never _ (λ c. location_then_never _ (λ l. given_never (outcome_map Returns (joined a c)) comes comes_never)))
+    value_then_never _ (λ a. value_then_never _ (λ c. value_then_never _ (λ u. given_never (outcome_map Returns (joined a c)) comes comes_never)))
 dot_never false rest h = cc
 
 is_dot : (b : Bool) → IsTrue (not (not b)) → IsTrue b
@@ -234,14 +326,14 @@ module _ (v : Bool) (here : Place) (go : Target → World → Result) (h : (t : 
   play_quiet (Ask point k) a w = absurd a
   play_quiet (Run t k) a w = then_quiet w.asked (go t w) (λ o u. play v here go (k o) u) (h t w) (λ o u. play_quiet (k o) (a o) u)
 
-left_quiet : (s : Site) (id : ℕ) (r : Result) → asked_in (left s id r) ≡ asked_in r
-left_quiet s id (Done o w) = refl
-left_quiet s id (Over e w) = refl
+left_quiet : (s : Site) (id : ℕ) (m : Mode) (r : Result) → asked_in (left s id m r) ≡ asked_in r
+left_quiet s id m (Done o w) = refl
+left_quiet s id m (Over e w) = refl
 
-told_quiet : (stop : Bool) (s : Site) (id : ℕ) (m : World → Result) → Silent m
-    → Silent (λ u. unless_stopped stop (place_in s id) u (left s id (m (told s id Before None u))))
-told_quiet true s id m h = λ w. refl
-told_quiet false s id m h = λ w. left_quiet s id (m (told s id Before None w)) ∙ h (told s id Before None w)
+told_quiet : (stop : Bool) (s : Site) (id : ℕ) (i : Mode) (m : World → Result) → Silent m
+    → Silent (λ u. unless_stopped stop (place_in s id) u (left s id i (m (told s id Before None u))))
+told_quiet true s id i m h = λ w. refl
+told_quiet false s id i m h = λ w. left_quiet s id i (m (told s id Before None w)) ∙ h (told s id Before None w)
 
 front_of : (a b : Bool) → IsTrue (a && b) → IsTrue a
 front_of true b h = refl
@@ -291,7 +383,7 @@ module _ (v : Bool) (t : Tables) (marks : List Mark) (lower : Entry → World �
       let inside : IsTrue (asks_nothing c) = front_of (asks_nothing c) (asks_nothing f) (back_of (not (may_ask k (texts (form c)))) _ a) in
       let kid : ℕ → Mode → World → Result = step v t marks lower (within k c s) c (suc id) in
       starting_quiet (is_statement k) _
-      (told_quiet (is_stopped marks s.file id) s id (at_node v t lower s k c id kid m)
+      (told_quiet (is_stopped marks s.file id) s id m (at_node v t lower s k c id kid m)
       (node_quiet s k c id kid (front_of _ _ a) (λ j n. step_quiet (within k c s) c inside (suc id) j n) m))
   step_quiet s (node k c f) a id (suc i) m =
       step_quiet (beside k c s) f (back_of (asks_nothing c) (asks_nothing f) (back_of (not (may_ask k (texts (form c)))) _ a)) (suc (id + count c)) i m
@@ -365,7 +457,8 @@ asks_nowhere v p marks entry input n a =
     let t : Tables = tables_of p.files in
     let starts : Bytes → World → Result = λ path. start (is_newer v) t p marks (enter (is_newer v) t p marks n) (FileStart path) in
     answer_asked entry (start_all starts p.prepend entry (first_world input n))
-    ∙ start_all_quiet starts (λ path. start_quiet (is_newer v) t p marks a (enter (is_newer v) t p marks n) (enter_quiet (is_newer v) t p marks a n) (FileStart path)) p.prepend entry (first_world input n)
+    ∙ start_all_quiet starts (λ path. start_quiet (is_newer v) t p marks a (enter (is_newer v) t p marks n)
+    (enter_quiet (is_newer v) t p marks a n) (FileStart path)) p.prepend entry (first_world input n)
 
 pub inside_is_covered : InsideIsCovered
 inside_is_covered source written marks a keeps entry input n i =

@@ -8,10 +8,74 @@ use Rattle.scope_names.specs.Sites.{Site, file_site, is_declaration, within, bes
 use Rattle.php_meaning.specs.names.Tables.{Tables, tables_of}
 use Rattle.php_meaning.specs.Cause.{NoRule}
 use Rattle.php_meaning.specs.runs.World.{Bytes, Place, Going, Ended, Threw, Outside, Before, World}
-use Rattle.php_meaning.specs.runs.Script.{Return, Throw, Break, Continue, Out, Val, Fresh, At, Jump, Mode, Target, Kid, Again, There, File, Script, Give, Stop, Finish, Look, Put, Echo, Turn, Ask, Run}
+use Rattle.php_meaning.specs.runs.Script.{
+  Return,
+  Throw,
+  Break,
+  Continue,
+  Out,
+  Val,
+  Fresh,
+  At,
+  Jump,
+  Mode,
+  Target,
+  Kid,
+  Again,
+  There,
+  File,
+  Script,
+  Give,
+  Stop,
+  Finish,
+  Look,
+  Put,
+  Echo,
+  Turn,
+  Ask,
+  Run,
+}
 use Rattle.php_meaning.specs.Rules.{rule, file_script}
 use Rattle.php_meaning.specs.runs.Kinds.{is_statement}
-use Rattle.php_meaning.specs.runs.Run.{begun, Program, Mark, file_at, is_stopped, is_refused, Result, Done, Over, then_do, with_turn, play, Entry, FileStart, DeclarationStart, place_in, place_of_file, told, left, starting, unless_stopped, going, repeated, passes, at_node, step, run_file, declared_in, run_declared, unless_refused, start, value_count, enter, first_world, and_start, start_all, is_newer}
+use Rattle.php_meaning.specs.runs.Run.{
+  begun,
+  Program,
+  Mark,
+  file_at,
+  is_stopped,
+  is_refused,
+  Result,
+  Done,
+  Over,
+  then_do,
+  with_turn,
+  play,
+  Entry,
+  FileStart,
+  DeclarationStart,
+  place_in,
+  place_of_file,
+  told,
+  left,
+  starting,
+  unless_stopped,
+  going,
+  repeated,
+  passes,
+  at_node,
+  step,
+  run_file,
+  declared_in,
+  run_declared,
+  unless_refused,
+  start,
+  value_count,
+  enter,
+  first_world,
+  and_start,
+  start_all,
+  is_newer,
+}
 use Rattle.php_meaning.specs.laws.Laws.{IsSpent, GoingTookAllTurns}
 
 abbrev Spends : (World → Result) → Type 0
@@ -46,14 +110,14 @@ module _ (v : Bool) (here : Place) (go : Target → World → Result) (h : (t : 
 
 -- ---- nodes
 
-left_spent : (s : Site) (id : ℕ) (r : Result) → IsSpent r → IsSpent (left s id r)
-left_spent s id (Done o w) e = tt
-left_spent s id (Over x w) e = e
+left_spent : (s : Site) (id : ℕ) (m : Mode) (r : Result) → IsSpent r → IsSpent (left s id m r)
+left_spent s id m (Done o w) e = tt
+left_spent s id m (Over x w) e = e
 
-told_spent : (stop : Bool) (s : Site) (id : ℕ) (m : World → Result) → Spends m
-    → Spends (λ u. unless_stopped stop (place_in s id) u (left s id (m (told s id Before None u))))
-told_spent true s id m h = λ w. tt
-told_spent false s id m h = λ w. left_spent s id (m (told s id Before None w)) (h (told s id Before None w))
+told_spent : (stop : Bool) (s : Site) (id : ℕ) (i : Mode) (m : World → Result) → Spends m
+    → Spends (λ u. unless_stopped stop (place_in s id) u (left s id i (m (told s id Before None u))))
+told_spent true s id i m h = λ w. tt
+told_spent false s id i m h = λ w. left_spent s id i (m (told s id Before None w)) (h (told s id Before None w))
 
 either_spent : (b : Bool) (f g : World → Result) → Spends f → Spends g → Spends (λ w. elim b [ true ↦ f w | false ↦ g w ])
 either_spent true f g p q = p
@@ -94,7 +158,7 @@ module _ (v : Bool) (t : Tables) (marks : List Mark) (lower : Entry → World �
   step_spent s (node k c f) id zero m =
       let kid : ℕ → Mode → World → Result = step v t marks lower (within k c s) c (suc id) in
       starting_spent (is_statement k) _
-      (told_spent (is_stopped marks s.file id) s id (at_node v t lower s k c id kid m)
+      (told_spent (is_stopped marks s.file id) s id m (at_node v t lower s k c id kid m)
       (node_spent s k c id kid (λ j n. step_spent (within k c s) c (suc id) j n) m))
   step_spent s (node k c f) id (suc i) m = step_spent (beside k c s) f (suc (id + count c)) i m
 

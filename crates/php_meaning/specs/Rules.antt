@@ -1,7 +1,33 @@
 -- What each kind of node does. A rule sees the program's tables, where its node stands, its kind, how it is evaluated, and
 -- its form: its own tokens and where the child nodes are, and nothing of what stands in them. A kind without a rule has no
 -- meaning.
-use Rattle.std.specs.Prelude.{ℕ, zero, suc, Bool, true, false, not, ◌&&◌, ◌||◌, nat_eq, nat_le, cond, if◌then◌else◌, List, [], ◌∷◌, ◌++◌, codes, pos, ℤ, filter, is_some, Option, Some, None}
+use Rattle.std.specs.Prelude.{
+  ℕ,
+  zero,
+  suc,
+  Bool,
+  true,
+  false,
+  not,
+  ◌&&◌,
+  ◌||◌,
+  nat_eq,
+  nat_le,
+  cond,
+  if◌then◌else◌,
+  List,
+  [],
+  ◌∷◌,
+  ◌++◌,
+  codes,
+  pos,
+  ℤ,
+  filter,
+  is_some,
+  Option,
+  Some,
+  None,
+}
 use Rattle.std.specs.Str.{bytes_eq, str_to_ascii_lowercase}
 use Rattle.php_tree.specs.declared.kind.NodeKind.{NodeKind}
 use Rattle.php_tree.specs.declared.kind.NodeKind.TheVariants as kind
@@ -24,14 +50,100 @@ use Rattle.scope_names.specs.Imports.{OfFunction}
 use Rattle.php_meaning.specs.names.Tables.{Tables}
 use Rattle.php_meaning.specs.names.Tables as table
 use Rattle.php_meaning.specs.runs.Stores.{cells_of}
-use Rattle.php_meaning.specs.runs.Script.{Return, Throw, Break, Continue, Out, At, Jump, Mode, Read, Quiet, Write, Unset, Name, Later, Left, Behind, Against, Into, Given, Handed, Entered, Item, InProperty, InCell, File, Script, Give, Stop, Finish, Look, Put, Echo, Run, Kid, give, child_value, given, asking, comes, value_then, throws, Top, Unchanged, Standing, Location, stands}
+use Rattle.php_meaning.specs.runs.Paths.{path_from}
+use Rattle.php_meaning.specs.runs.Script.{
+  Return,
+  Throw,
+  Break,
+  Continue,
+  Out,
+  At,
+  Jump,
+  Mode,
+  Read,
+  Quiet,
+  Write,
+  Unset,
+  Name,
+  Later,
+  Left,
+  Behind,
+  Against,
+  Into,
+  Given,
+  Handed,
+  Entered,
+  Item,
+  InProperty,
+  InCell,
+  File,
+  Script,
+  Give,
+  Stop,
+  Finish,
+  Look,
+  Put,
+  Echo,
+  Run,
+  Kid,
+  give,
+  child_value,
+  given,
+  asking,
+  comes,
+  value_then,
+  throws,
+  Top,
+  Unchanged,
+  Standing,
+  Location,
+  stands,
+}
 use Rattle.php_meaning.specs.expressions.Operators.{operation, binary, of_values, signs, prefix}
 use Rattle.php_meaning.specs.expressions.Assigning.{numbered, Properties, kept_then, unset}
-use Rattle.php_meaning.specs.expressions.Expressions.{plain_name, in_variable, variable_value, read_offset, offset_location, with_array, item, array_literal, variable_quietly, assign, assign_reference, operator_of, stepped, isset, empty_test, coalesce, both, either, unset_all, one_alone, compound_by, variable_still, offset_standing, property_standing}
+use Rattle.php_meaning.specs.expressions.Expressions.{
+  plain_name,
+  in_variable,
+  variable_value,
+  read_offset,
+  offset_location,
+  with_array,
+  item,
+  array_literal,
+  variable_quietly,
+  assign,
+  assign_reference,
+  operator_of,
+  stepped,
+  isset,
+  empty_test,
+  coalesce,
+  both,
+  either,
+  unset_all,
+  one_alone,
+  compound_by,
+  variable_still,
+  offset_standing,
+  property_standing,
+}
 use Rattle.php_meaning.specs.literals.Nowdocs.{is_blank}
-use Rattle.php_meaning.specs.expressions.QuotedTexts.{quoted_text, is_outside_variable}
+use Rattle.php_meaning.specs.expressions.QuotedTexts.{quoted_text, is_filled}
 use Rattle.php_meaning.specs.statements.Loops.{while_pass, do_pass, for_first, for_later, foreach, foreach_pass, foreach_behind, switch, case_against, case_statements}
-use Rattle.php_meaning.specs.calls.Bodies.{function_named, declared_function, function_name, is_function, reach_function, call, arguments, body_script, parameter, global_all, statics, declare}
+use Rattle.php_meaning.specs.calls.Bodies.{
+  function_named,
+  declared_function,
+  function_name,
+  is_function,
+  reach_function,
+  call,
+  arguments,
+  body_script,
+  parameter,
+  global_all,
+  statics,
+  declare,
+}
 use Rattle.php_meaning.specs.classes.Lines.{is_early_class}
 use Rattle.php_meaning.specs.classes.Declaring.{is_class_fit, reach_class}
 use Rattle.php_meaning.specs.classes.Types.{type_against}
@@ -252,16 +364,6 @@ function_call t s f = elim (before_word (codes "(") (texts f)) [
 
 -- ---- includes
 
--- the folder of a path, with the slash at its end
-abbrev pub folder : Bytes → Bytes → Bytes
-folder part [] = []
-folder part (b ∷ bs) = if nat_eq b 47 then part ++ b ∷ folder [] bs else folder (part ++ b ∷ []) bs
-
--- a path without a slash in front
-abbrev pub relative : Bytes → Bytes
-relative [] = []
-relative (b ∷ bs) = if nat_eq b 47 then bs else b ∷ bs
-
 abbrev pub included : Out → Script
 included (Jump (Return v)) = give v
 included (Jump (Throw n)) = Give (Jump (Throw n))
@@ -281,7 +383,8 @@ include_path s w path = Look (λ st.
     else (if is_once w && is_started st.started path then give (Truth true) else Run (File path) included))
 
 abbrev pub include : Site → Bytes → Script
-include s w = child_value 0 (λ v. given (to_text v) (λ t. include_path s w (folder [] s.file ++ relative t)))
+include s w = child_value 0 (λ v. given (to_text v) (λ t.
+    elim (path_from s.file t) [ None ↦ Stop NoRule | Some path ↦ include_path s w path ]))
 
 -- ---- files
 
@@ -380,7 +483,7 @@ reading_quietly t s k f = reading t s k f
 -- as a location
 abbrev pub locating : Tables → Site → NodeKind → Form → Script
 locating t s kind.Variable f =
-    cond (nat_eq (kids f) 0 && not (bytes_eq (first_text (texts f)) (codes "$this")) && not (is_outside_variable (plain_name (first_text (texts f))))) (Give (At (in_variable (plain_name (first_text (texts f)))))) (Stop NoRule)
+    cond (nat_eq (kids f) 0 && not (is_filled (plain_name (first_text (texts f))))) (Give (At (in_variable (plain_name (first_text (texts f)))))) (Stop NoRule)
 locating t s kind.Offset f = offset_location f (λ l. Give (At l))
 locating t s kind.BraceOffset f = offset_location f (λ l. Give (At l))
 locating t s kind.Prop f = child_value 0 (λ v. Give (At (record { root = InProperty v (member_word 1 f); offsets = [] })))
@@ -389,8 +492,9 @@ locating t s k f = Stop NoRule
 
 -- in all the other modes
 abbrev pub running : Tables → Site → NodeKind → Mode → Form → Script
-running t s kind.Variable Name f = cond (nat_eq (kids f) 0 && not (is_outside_variable (plain_name (first_text (texts f))))) (give (Text (plain_name (first_text (texts f))))) (Stop NoRule)
-running t s kind.Variable Unset f = cond (is_outside_variable (plain_name (first_text (texts f)))) (Stop NoRule) (unset (properties_at t s) s (in_variable (plain_name (first_text (texts f)))) (give Null))
+running t s kind.Variable Name f = cond (nat_eq (kids f) 0 && not (is_filled (plain_name (first_text (texts f))))) (give (Text (plain_name (first_text (texts f))))) (Stop NoRule)
+running t s kind.Variable Unset f = cond (is_filled (plain_name (first_text (texts f)))) (Stop NoRule)
+    (unset (properties_at t s) s (in_variable (plain_name (first_text (texts f)))) (give Null))
 running t s kind.Constant Name f = give (Text (name_of (texts f)))
 running t s kind.Prop Unset f = child_value 0 (λ v. unset_property t s v (member_word 1 f))
 running t s kind.Offset Unset f = offset_location f (λ l. unset (properties_at t s) s l (give Null))
@@ -434,8 +538,8 @@ held_again k v f = Give stands
 
 -- what came to a location before: the plain variables among its keys, and one that it is a property of, hold what they held
 abbrev pub standing_still : NodeKind → Location → Form → Script
-standing_still kind.Variable l f = Give (At l)
-standing_still kind.StaticProp l f = Give (At l)
+standing_still kind.Variable l f = Give stands
+standing_still kind.StaticProp l f = Give stands
 standing_still kind.Offset l f = offset_standing l
 standing_still kind.BraceOffset l f = offset_standing l
 standing_still kind.Prop l f = property_standing l l.root

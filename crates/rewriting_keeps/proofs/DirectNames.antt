@@ -1,5 +1,33 @@
 -- In a file that 7.4 reads no trivia stand before the name in `${name`.
-use Rattle.std.proofs.Common.{◌≡◌, ℕ, Bool, true, false, not, cond, ◌&&◌, nat_le, List, [], ◌∷◌, ◌++◌, map, take, drop, Option, None, Some, refl, ap, sym, ◌∙◌, subst, append_assoc, inl, inr}
+use Rattle.std.proofs.Common.{
+  ◌≡◌,
+  ℕ,
+  Bool,
+  true,
+  false,
+  not,
+  cond,
+  ◌&&◌,
+  nat_le,
+  List,
+  [],
+  ◌∷◌,
+  ◌++◌,
+  map,
+  take,
+  drop,
+  Option,
+  None,
+  Some,
+  refl,
+  ap,
+  sym,
+  ◌∙◌,
+  subst,
+  append_assoc,
+  inl,
+  inr,
+}
 use Rattle.std.specs.Prelude.{◌⊎◌}
 use Rattle.php_tree.specs.declared.token.TokenKind.{TokenKind}
 use Rattle.php_tree.specs.declared.token.TokenKind.TheVariants as token
@@ -7,10 +35,61 @@ use Rattle.php_tree.specs.declared.token.Token.{Token}
 use Rattle.php_tree.specs.declared.version.Version.TheVariants.{V74}
 use Rattle.php_tree.specs.Tree.{Forest, none, leaf, node, File, leaves, file_leaves}
 use Rattle.php_spellings.specs.declared.table.Kind.{Kind}
-use Rattle.php_spellings.specs.declared.table.Kind.TheVariants.{Space, Comment, Tag, OpenEcho, InlineHtml, Variable, Word, Label, Keyword, Name, Decimal, Octal, Hexadecimal, Binary, Digits, Float, Text, Quote, Backtick, HeredocStart, Cast, Op, AttributeOpen, Semi, Close, Piece, CurlyOpen, DollarBrace, VarName, QuotedEnd}
+use Rattle.php_spellings.specs.declared.table.Kind.TheVariants.{
+  Space,
+  Comment,
+  Tag,
+  OpenEcho,
+  InlineHtml,
+  Variable,
+  Word,
+  Label,
+  Keyword,
+  Name,
+  Decimal,
+  Octal,
+  Hexadecimal,
+  Binary,
+  Digits,
+  Float,
+  Text,
+  Quote,
+  Backtick,
+  HeredocStart,
+  Cast,
+  Op,
+  AttributeOpen,
+  Semi,
+  Close,
+  Piece,
+  CurlyOpen,
+  DollarBrace,
+  VarName,
+  QuotedEnd,
+}
 use Rattle.php_spellings.specs.Words.{token_of, whole_number, is_keyword, value_from, greatest_int}
 use Rattle.php_spellings.specs.Bytes.{begins_by}
-use Rattle.php_lexer.specs.Modes.{Mode, html, code, named, quoted, offset, property, Turn, stay, enter, leave, turn_of, code_turn, is_byte, begins_property, label_in, kind_of, rows_of, IsLongest}
+use Rattle.php_lexer.specs.Modes.{
+  Mode,
+  html,
+  code,
+  named,
+  quoted,
+  offset,
+  property,
+  Turn,
+  stay,
+  enter,
+  leave,
+  turn_of,
+  code_turn,
+  is_byte,
+  begins_property,
+  label_in,
+  kind_of,
+  rows_of,
+  IsLongest,
+}
 use Rattle.php_spellings.specs.declared.table.Mark.TheVariants.{Double, Back, Here}
 use Rattle.php_lexer.specs.Lexed.{Lexeme, Stack, start, turn_at, turned_by, after, left_top, left_below, Lexed, ends, trivia, token as one, lexeme}
 use Rattle.php_relexing.specs.Written.{is_var_name}
@@ -70,7 +149,8 @@ calm_turn property Label text rest h = refl
 calm_turn property k text rest h = refl
 
 -- `${` leads to that mode in a quoted text alone
-dollar_turn : (m : Mode) (text rest : List ℕ) → (is_calm (turn_of V74 m DollarBrace text rest) ≡ true) ⊎ ((under : Mode) × ((turn_of V74 m DollarBrace text rest ≡ enter named under) × (is_named under ≡ false)))
+dollar_turn : (m : Mode) (text rest : List ℕ) → (is_calm (turn_of V74 m DollarBrace text rest) ≡ true)
+    ⊎ ((under : Mode) × ((turn_of V74 m DollarBrace text rest ≡ enter named under) × (is_named under ≡ false)))
 dollar_turn html text rest = inl refl
 dollar_turn code text rest = inl refl
 dollar_turn named text rest = inl refl

@@ -16,7 +16,24 @@ use Rattle.php_shapes.specs.Notation as rule
 use Rattle.php_shapes.specs.Places.{Operand, may_stand, is_prefix}
 use Rattle.php_shapes.specs.Places as shapes
 use Rattle.php_shapes.specs.Quoted.{interpolated, quoted_part, simple_key}
-use Rattle.php_shapes.specs.Shapes.{Shape, is_balanced, Fits, is_nothing, is_word, is_kind, is_place, is_inside, is_both, is_first, is_second, no_more, once_more, is_tokens, IsNode, is_node}
+use Rattle.php_shapes.specs.Shapes.{
+  Shape,
+  is_balanced,
+  Fits,
+  is_nothing,
+  is_word,
+  is_kind,
+  is_place,
+  is_inside,
+  is_both,
+  is_first,
+  is_second,
+  no_more,
+  once_more,
+  is_tokens,
+  IsNode,
+  is_node,
+}
 use Rattle.php_meaning.specs.runs.World.{Bytes}
 use Rattle.php_meaning.specs.runs.Kinds.{is_expression}
 use Rattle.syntax_rules.specs.Keeps as formed
@@ -241,17 +258,24 @@ mutual
       let parts = subst NamesAreDirect same w in
       subst (λ (g : Forest). IsQuoted (g +++ h)) (sym same)
       (as_kind (λ x. IsQuoted (leaf x (node j c (leaf y h)))) token.CurlyOpen x (told.curly x p)
-      (as_token (λ y. IsQuoted (leaf (token_of token.CurlyOpen x.lead x.text x.start) (node j c (leaf y h)))) token.Op (codes "}") y (told.close_brace y q).kind (told.close_brace y q).text
+      (as_token (λ y. IsQuoted (leaf (token_of token.CurlyOpen x.lead x.text x.start) (node j c (leaf y h)))) token.Op
+      (codes "}") y (told.close_brace y q).kind (told.close_brace y q).text
       (formed.code (node_formed n (parts.1.0, tt)) o)))
-  piece_part (is_second (is_second (is_second (is_first (is_both {f} (is_word {x} p) (is_both (is_word {x = n} m) (is_both {h = i} (is_first is_nothing) (is_word {x = y} q) a) b) d))))) w h o =
+  piece_part (is_second (is_second (is_second (is_first (is_both {f} (is_word {x} p)
+      (is_both (is_word {x = n} m) (is_both {h = i} (is_first is_nothing) (is_word {x = y} q) a) b) d))))) w h o =
       let same : f ≡ leaf x (leaf n (leaf y none)) = d ∙ ap (leaf x) b ∙ ap (λ (g : Forest). leaf x (leaf n g)) a in
       let parts = subst NamesAreDirect same w in
       subst (λ (g : Forest). IsQuoted (g +++ h)) (sym same)
       (as_kind (λ x. IsQuoted (leaf x (leaf n (leaf y h)))) token.DollarBrace x (told.dollar x p)
       (as_direct (λ n. IsQuoted (leaf (token_of token.DollarBrace x.lead x.text x.start) (leaf n (leaf y h)))) token.VarName n (told.var_name n m) (parts.1.0 (told.var_name n m))
-      (as_token (λ y. IsQuoted (leaf (token_of token.DollarBrace x.lead x.text x.start) (leaf (token_of token.VarName [] n.text n.start) (leaf y h)))) token.Op (codes "}") y (told.close_brace y q).kind (told.close_brace y q).text
+      (as_token (λ y. IsQuoted (leaf (token_of token.DollarBrace x.lead x.text x.start)
+      (leaf (token_of token.VarName [] n.text n.start) (leaf y h)))) token.Op (codes "}") y
+      (told.close_brace y q).kind (told.close_brace y q).text
       (formed.name o))))
-  piece_part (is_second (is_second (is_second (is_first (is_both {f} (is_word {x} p) (is_both (is_word {x = n} m) (is_both {h = i} (is_second (is_both (is_word {x = b} u) (is_both (is_place {k = j} {c} v z) (is_word {x = s} l) ea) eb)) (is_word {x = y} q) a) e) d))))) w h o =
+  piece_part (is_second (is_second (is_second (is_first (is_both {f} (is_word {x} p)
+      (is_both (is_word {x = n} m) (is_both {h = i} (is_second
+      (is_both (is_word {x = b} u) (is_both (is_place {k = j} {c} v z) (is_word {x = s} l) ea) eb))
+      (is_word {x = y} q) a) e) d))))) w h o =
       let same : f ≡ leaf x (leaf n (leaf b (node j c (leaf s (leaf y none))))) =
       d ∙ ap (leaf x) e ∙ ap (λ (g : Forest). leaf x (leaf n g)) a
       ∙ ap (λ (g : Forest). leaf x (leaf n (g +++ leaf y none))) eb
@@ -259,17 +283,29 @@ mutual
       let parts = subst NamesAreDirect same w in
       subst (λ (g : Forest). IsQuoted (g +++ h)) (sym same)
       (as_kind (λ x. IsQuoted (leaf x (leaf n (leaf b (node j c (leaf s (leaf y h))))))) token.DollarBrace x (told.dollar x p)
-      (as_direct (λ n. IsQuoted (leaf (token_of token.DollarBrace x.lead x.text x.start) (leaf n (leaf b (node j c (leaf s (leaf y h))))))) token.VarName n (told.var_name n m) (parts.1.0 (told.var_name n m))
-      (as_token (λ b. IsQuoted (leaf (token_of token.DollarBrace x.lead x.text x.start) (leaf (token_of token.VarName [] n.text n.start) (leaf b (node j c (leaf s (leaf y h))))))) token.Op (codes "[") b (told.open_bracket b u).kind (told.open_bracket b u).text
-      (as_token (λ s. IsQuoted (leaf (token_of token.DollarBrace x.lead x.text x.start) (leaf (token_of token.VarName [] n.text n.start) (leaf (token_of token.Op b.lead (codes "[") b.start) (node j c (leaf s (leaf y h))))))) token.Op (codes "]") s (told.close_bracket s l).kind (told.close_bracket s l).text
-      (as_token (λ y. IsQuoted (leaf (token_of token.DollarBrace x.lead x.text x.start) (leaf (token_of token.VarName [] n.text n.start) (leaf (token_of token.Op b.lead (codes "[") b.start) (node j c (leaf (token_of token.Op s.lead (codes "]") s.start) (leaf y h))))))) token.Op (codes "}") y (told.close_brace y q).kind (told.close_brace y q).text
+      (as_direct (λ n. IsQuoted (leaf (token_of token.DollarBrace x.lead x.text x.start)
+      (leaf n (leaf b (node j c (leaf s (leaf y h))))))) token.VarName n (told.var_name n m)
+      (parts.1.0 (told.var_name n m))
+      (as_token (λ b. IsQuoted (leaf (token_of token.DollarBrace x.lead x.text x.start)
+      (leaf (token_of token.VarName [] n.text n.start) (leaf b (node j c (leaf s (leaf y h))))))) token.Op
+      (codes "[") b (told.open_bracket b u).kind (told.open_bracket b u).text
+      (as_token (λ s. IsQuoted (leaf (token_of token.DollarBrace x.lead x.text x.start)
+      (leaf (token_of token.VarName [] n.text n.start)
+      (leaf (token_of token.Op b.lead (codes "[") b.start) (node j c (leaf s (leaf y h))))))) token.Op (codes "]")
+      s (told.close_bracket s l).kind (told.close_bracket s l).text
+      (as_token (λ y. IsQuoted (leaf (token_of token.DollarBrace x.lead x.text x.start)
+      (leaf (token_of token.VarName [] n.text n.start)
+      (leaf (token_of token.Op b.lead (codes "[") b.start)
+      (node j c (leaf (token_of token.Op s.lead (codes "]") s.start) (leaf y h))))))) token.Op (codes "}") y
+      (told.close_brace y q).kind (told.close_brace y q).text
       (formed.offset (stands j c v) (node_formed z (parts.1.1.1.0, tt)) o))))))
   piece_part (is_second (is_second (is_second (is_second (is_both {f} (is_word {x} p) (is_both (is_place {k = j} {c} m n) (is_word {x = y} q) e) d))))) w h o =
       let same : f ≡ leaf x (node j c (leaf y none)) = d ∙ ap (leaf x) e in
       let parts = subst NamesAreDirect same w in
       subst (λ (g : Forest). IsQuoted (g +++ h)) (sym same)
       (as_kind (λ x. IsQuoted (leaf x (node j c (leaf y h)))) token.DollarBrace x (told.dollar x p)
-      (as_token (λ y. IsQuoted (leaf (token_of token.DollarBrace x.lead x.text x.start) (node j c (leaf y h)))) token.Op (codes "}") y (told.close_brace y q).kind (told.close_brace y q).text
+      (as_token (λ y. IsQuoted (leaf (token_of token.DollarBrace x.lead x.text x.start) (node j c (leaf y h))))
+      token.Op (codes "}") y (told.close_brace y q).kind (told.close_brace y q).text
       (formed.expression (stands j c m) (node_formed n (parts.1.0, tt)) o)))
 
   node_formed : {j : NodeKind} {c : Forest} → IsNode V74 j c → NamesAreDirect (node j c none) → AreFormed (node j c none)
@@ -279,7 +315,10 @@ mutual
       subst (λ (b : Forest). AreFormed (node kind.Quoted b none)) (sym same)
       (formed.text (opening x.kind (told.text_start x p))
       (pieces a (direct_front g (leaf y none) parts.1) (leaf y none) (as_kind (λ y. IsQuoted (leaf y none)) token.QuotedEnd y (told.text_end y q) formed.closing)) formed.nothing)
-  node_formed (is_node {k = kind.BraceOffset} {c} (is_both (is_place {k = i} {c = b} m1 n1) (is_both (is_word {x} p) (is_both (is_place {k = j} {c = d} m2 n2) (is_word {x = u} q) e1) e2) e3) near fine) w =
+  node_formed (is_node {k = kind.BraceOffset} {c}
+      (is_both (is_place {k = i} {c = b} m1 n1)
+      (is_both (is_word {x} p) (is_both (is_place {k = j} {c = d} m2 n2) (is_word {x = u} q) e1) e2) e3) near fine) w
+      =
       let same : c ≡ node i b (leaf x (node j d (leaf u none))) = e3 ∙ ap (node i b) (e2 ∙ ap (leaf x) e1) in
       let parts = subst NamesAreDirect same w.0 in
       subst (λ (z : Forest). AreFormed (node kind.BraceOffset z none)) (sym same)

@@ -9,7 +9,23 @@ use Rattle.tracked_changes.specs.Tokens.{is_text, retexted, put_also}
 use Rattle.tracked_changes.proofs.Joining.{before-append}
 use Rattle.tracked_changes.proofs.Keeping.{SameToken, SameBytes, same_leaf, same_node, same_if, same_draft_if, retexted_keeps}
 use Rattle.tracked_changes.proofs.Walking.{pieces-then}
-use Rattle.syntax_rules.specs.DollarBrace.{is_dollar_brace, curly, named, plain, with_offset, with_node, opened, ends_bare, before_last, escaped, is_piece, begins_dollar_brace, part, parts, DollarBraceIsWritten}
+use Rattle.syntax_rules.specs.DollarBrace.{
+  is_dollar_brace,
+  curly,
+  named,
+  plain,
+  with_offset,
+  with_node,
+  opened,
+  ends_bare,
+  before_last,
+  escaped,
+  is_piece,
+  begins_dollar_brace,
+  part,
+  parts,
+  DollarBraceIsWritten,
+}
 
 curly_keeps : (t : NewToken) → SameToken (curly t) t
 curly_keeps t = retexted_keeps token.CurlyOpen (codes "{") t

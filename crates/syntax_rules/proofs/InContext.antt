@@ -1,5 +1,33 @@
 -- What is put round a node, as it is asked for where the node stands.
-use Rattle.std.proofs.Common.{◌≡◌, ℕ, suc, ◌+◌, Bool, true, false, ◌&&◌, if◌then◌else◌, List, [], ◌∷◌, ◌++◌, length, Option, Some, None, refl, ap, sym, ◌∙◌, arith, append_assoc, append-nil, length-append, unwrap_or, slice_get}
+use Rattle.std.proofs.Common.{
+  ◌≡◌,
+  ℕ,
+  suc,
+  ◌+◌,
+  Bool,
+  true,
+  false,
+  ◌&&◌,
+  if◌then◌else◌,
+  List,
+  [],
+  ◌∷◌,
+  ◌++◌,
+  length,
+  Option,
+  Some,
+  None,
+  refl,
+  ap,
+  sym,
+  ◌∙◌,
+  arith,
+  append_assoc,
+  append-nil,
+  length-append,
+  unwrap_or,
+  slice_get,
+}
 use Rattle.php_tree.specs.declared.kind.NodeKind.{NodeKind}
 use Rattle.php_tree.specs.Tree.{Forest, none, leaf, node, Tree, count}
 use Rattle.tracked_changes.specs.patches.Patches.{Patches, Wrapping}

@@ -85,7 +85,8 @@ rewriting_keeps_meaning r files prepend marks h entry input n covered =
     let joined : AreNamed middle.files written.files = are_named r files h in
     let across_versions : SameRun (run V74 source marks entry input n) (run V83 middle [] entry input n) =
     rewritten_runs_across nowhere source middle marks
-    (subst (λ t. AreRewritten nowhere (tables_of source.files) t source.files middle.files) (sym (tables_same changed)) (across nowhere (λ p. refl) (tables_of source.files) changed))
+    (subst (λ t. AreRewritten nowhere (tables_of source.files) t source.files middle.files)
+    (sym (tables_same changed)) (across nowhere (λ p. refl) (tables_of source.files) changed))
     (alike (tables_of source.files) (tables_of middle.files) (tables_same changed)) refl (λ p. refl) entry input n covered.inside
     (asks_at_none _ covered.unasked) (shows_all _) in
     let in_one_token : SameRun (run V83 middle [] entry input n) (run V83 written [] entry input n) =

@@ -1,5 +1,35 @@
 -- Names in one token: each node has the form that it had.
-use Rattle.std.proofs.Common.{◌≡◌, ℕ, zero, suc, ◌+◌, Bool, true, false, not, ◌&&◌, ◌||◌, ◌==◌, cond, if◌then◌else◌, IsTrue, List, [], ◌∷◌, ◌++◌, codes, Option, None, refl, ap, sym, ◌∙◌, subst, append-nil, append_assoc}
+use Rattle.std.proofs.Common.{
+  ◌≡◌,
+  ℕ,
+  zero,
+  suc,
+  ◌+◌,
+  Bool,
+  true,
+  false,
+  not,
+  ◌&&◌,
+  ◌||◌,
+  ◌==◌,
+  cond,
+  if◌then◌else◌,
+  IsTrue,
+  List,
+  [],
+  ◌∷◌,
+  ◌++◌,
+  codes,
+  Option,
+  None,
+  refl,
+  ap,
+  sym,
+  ◌∙◌,
+  subst,
+  append-nil,
+  append_assoc,
+}
 use Rattle.std.specs.Str.{bytes_eq, str_to_ascii_lowercase}
 use Rattle.std.proofs.lemmas.Slice.Eq.{bytes_eq-Decides}
 use Rattle.php_tree.specs.declared.token.TokenKind.{TokenKind}
@@ -21,7 +51,24 @@ use Rattle.tracked_changes.specs.Pieces.{before, after, changed}
 use Rattle.tracked_changes.specs.Draft as draft
 use Rattle.tracked_changes.specs.Draft.{NewToken, Draft, new_leaf, new_node, rewritten, rewritten_token}
 use Rattle.tracked_changes.proofs.Joining.{before-append, after-append}
-use Rattle.syntax_rules.specs.SplitName.{split_name, is_nothing, is_label, is_name, is_keyword, is_op, begins_root, is_one, one_name, deleted, in_front, whole_names, space_before, keyword_behind, keyword_last, apart}
+use Rattle.syntax_rules.specs.SplitName.{
+  split_name,
+  is_nothing,
+  is_label,
+  is_name,
+  is_keyword,
+  is_op,
+  begins_root,
+  is_one,
+  one_name,
+  deleted,
+  in_front,
+  whole_names,
+  space_before,
+  keyword_behind,
+  keyword_last,
+  apart,
+}
 use Rattle.syntax_rules.specs.declared.rules.Rules.{Rules}
 use Rattle.syntax_rules.specs.Together.{names_by}
 use Rattle.syntax_rules.specs.SplitName as names
@@ -85,7 +132,8 @@ why_one : (t u : NewToken) → is_one t u ≡ true → Why t u
 why_one t u h =
     by_cases (names.is_backslash t) (is_label u.kind) (is_name u.kind) (begins_root (before u.text)) (is_label t.kind) (names.is_namespace t) refl refl refl refl refl refl h
   where
-    by_cases : (a b c d e f : Bool) → names.is_backslash t ≡ a → is_label u.kind ≡ b → is_name u.kind ≡ c → begins_root (before u.text) ≡ d → is_label t.kind ≡ e → names.is_namespace t ≡ f
+    by_cases : (a b c d e f : Bool) → names.is_backslash t ≡ a → is_label u.kind ≡ b → is_name u.kind ≡ c
+        → begins_root (before u.text) ≡ d → is_label t.kind ≡ e → names.is_namespace t ≡ f
         → ((a && (b || (c && not d))) || ((e || f) && c && d)) ≡ true → Why t u
     by_cases true true c d e f a b c' d' e' f' h = root a (ap (λ x. x || is_name u.kind) b)
       where
@@ -223,7 +271,8 @@ in_front_whole n t f draft.no_more h g w = record { parts_are = ap (part_before 
 in_front_whole n t f (new_node k c d) h g w = record { parts_are = ap (part_before (rewritten_token t)) w.parts_are; head = proper_head t (new_node k c d) h }
 in_front_whole n t f (new_leaf u d) h g w = chosen (is_one t u && (n || is_nothing (before u.lead))) refl
   where
-    chosen : (b : Bool) → (is_one t u && (n || is_nothing (before u.lead))) ≡ b → Whole (leaf (rewritten_token t) f) (cond b (new_leaf (one_name t u) d) (new_leaf t (new_leaf u d)))
+    chosen : (b : Bool) → (is_one t u && (n || is_nothing (before u.lead))) ≡ b
+        → Whole (leaf (rewritten_token t) f) (cond b (new_leaf (one_name t u) d) (new_leaf t (new_leaf u d)))
     chosen false x = record { parts_are = ap (part_before (rewritten_token t)) w.parts_are; head = proper_head t (new_leaf u d) h }
     chosen true x =
         let y : Why t u = why_one t u (first_of (is_one t u) (n || is_nothing (before u.lead)) x) in
@@ -287,7 +336,8 @@ placed_stays at none = no_token
 placed_stays at (leaf t f) = one_token (record { kind_is = refl; text_is = refl }) (placed_stays (behind at t) f)
 placed_stays at (node k c f) = one_node (placed_stays at c) (placed_stays (end_of at c) f)
 
-spaced : (b : Bool) (t : NewToken) → IsToken (rewritten_token t).kind (rewritten_token t).text (rewritten_token (cond b (record t { lead = t.lead ++ changed [] (codes " ") ∷ [] }) t))
+spaced : (b : Bool) (t : NewToken) → IsToken (rewritten_token t).kind (rewritten_token t).text
+    (rewritten_token (cond b (record t { lead = t.lead ++ changed [] (codes " ") ∷ [] }) t))
 spaced true t = record { kind_is = refl; text_is = refl }
 spaced false t = record { kind_is = refl; text_is = refl }
 

@@ -21,7 +21,26 @@ use Rattle.syntax_rules.specs.UnsetCast.{of_variable, unset_cast}
 use Rattle.syntax_rules.specs.DollarBrace.{dollar_brace, is_piece, begins_dollar_brace, ends_bare, before_last, escaped, opened, parts}
 use Rattle.syntax_rules.specs.SplitName.{is_name, is_label, is_op, is_keyword}
 use Rattle.syntax_rules.specs.Together.{rewriting, node_by, token_by}
-use Rattle.syntax_rules.specs.Keeps.{token_of, opens_text, is_common, AreFormed, nothing, token_first, common, braced, a_cast, text, IsQuoted, closing, piece, simple, code, name, offset, expression}
+use Rattle.syntax_rules.specs.Keeps.{
+  token_of,
+  opens_text,
+  is_common,
+  AreFormed,
+  nothing,
+  token_first,
+  common,
+  braced,
+  a_cast,
+  text,
+  IsQuoted,
+  closing,
+  piece,
+  simple,
+  code,
+  name,
+  offset,
+  expression,
+}
 use Rattle.syntax_rules.proofs.Walked.{braced_is, cast_by, cast_is, chosen, common_stays, opening_kind, quoted_is}
 use Rattle.syntax_rules.proofs.NamesKept.{IsKept, as_it_was, put_in_code, IsProper, leads}
 
@@ -68,12 +87,14 @@ piece_proper : (r : Rules) (lead word : List ℕ) (start : ℕ) (d : Draft) (b :
 piece_proper r lead word start d false p = (λ h. no h, λ l h. no h, p)
 piece_proper r lead word start d true p =
     elim (ends_bare false (word ++ []))
-    as (λ b. IsProper (new_leaf (if b then record (token_by r (token_of token.Piece lead word start)) { text = before_last (word ++ []) } else token_by r (token_of token.Piece lead word start)) d))
+    as (λ b. IsProper (new_leaf (if b then record (token_by r (token_of token.Piece lead word start))
+    { text = before_last (word ++ []) } else token_by r (token_of token.Piece lead word start)) d))
     [ true ↦ (λ h. no h, λ l h. no h, p) | false ↦ (λ h. no h, λ l h. no h, p) ]
 
 text_proper : (r : Rules) (x : Token) (d : Draft) → IsTrue (opens_text x.kind) → IsProper (parts d) → IsProper (parts (new_leaf (token_by r x) d))
 text_proper r x d h p =
-    subst (λ b. IsProper (if b then opened (token_by r x) (parts d) else new_leaf (if is_piece x.kind && begins_dollar_brace d then escaped (token_by r x) else token_by r x) (parts d)))
+    subst (λ b. IsProper (if b then opened (token_by r x) (parts d) else new_leaf
+    (if is_piece x.kind && begins_dollar_brace d then escaped (token_by r x) else token_by r x) (parts d)))
     (sym (opening_kind x.kind h).0)
     (subst (λ b. IsProper (new_leaf (if b && begins_dollar_brace d then escaped (token_by r x) else token_by r x) (parts d))) (sym (opening_kind x.kind h).1)
     (λ h. refl, λ l h. as_it_was refl, p))

@@ -1,5 +1,33 @@
 -- A quoted text in 7.4 does what the rewritten one does in 8.3: `{$x}` for `${x}`, `{$x[..]}` for `${x[..]}`.
-use Rattle.std.proofs.Common.{◌≡◌, ℕ, zero, suc, ◌+◌, Bool, true, false, ◌&&◌, ◌||◌, if◌then◌else◌, cond, IsTrue, List, [], ◌∷◌, ◌++◌, length, codes, Option, None, Some, refl, ap, sym, ◌∙◌, subst}
+use Rattle.std.proofs.Common.{
+  ◌≡◌,
+  ℕ,
+  zero,
+  suc,
+  ◌+◌,
+  Bool,
+  true,
+  false,
+  ◌&&◌,
+  ◌||◌,
+  if◌then◌else◌,
+  cond,
+  IsTrue,
+  List,
+  [],
+  ◌∷◌,
+  ◌++◌,
+  length,
+  codes,
+  Option,
+  None,
+  Some,
+  refl,
+  ap,
+  sym,
+  ◌∙◌,
+  subst,
+}
 use Rattle.std.specs.Str.{bytes_eq}
 use Rattle.php_tree.specs.declared.token.TokenKind.{TokenKind}
 use Rattle.php_tree.specs.declared.token.TokenKind.TheVariants as token
@@ -16,8 +44,50 @@ use Rattle.scope_names.specs.Sites.{Site}
 use Rattle.php_meaning.specs.expressions.Expressions.{offset_of}
 use Rattle.scope_names.specs.Form.{Form, Word, Child, Part, word, child, part_of, part_before, parts, bits, form, joins, is_name_part, is_namespace, first_is, is_backslash}
 use Rattle.php_meaning.specs.runs.Stores.{cells_of, held_or_null, variable_cell}
-use Rattle.php_meaning.specs.runs.Script.{Throw, Jump, Out, Val, Fresh, At, Mode, Read, Target, Kid, Script, Give, Stop, Look, Run, give, value_then, child_value, given, came_then, throws}
-use Rattle.php_meaning.specs.expressions.QuotedTexts.{object_then, variable_read, Style, piece, ends_line, Standing, InText, InCode, BeforeBrace, BehindDollar, BehindName, InBrackets, BeforeBracket, text_then, text_at, quoted, ends_here, object_of, is_filled}
+use Rattle.php_meaning.specs.runs.Script.{
+  Throw,
+  Jump,
+  Out,
+  Val,
+  Fresh,
+  At,
+  Mode,
+  Read,
+  Target,
+  Kid,
+  Script,
+  Give,
+  Stop,
+  Look,
+  Run,
+  give,
+  value_then,
+  child_value,
+  given,
+  came_then,
+  throws,
+}
+use Rattle.php_meaning.specs.expressions.QuotedTexts.{
+  object_then,
+  variable_read,
+  Style,
+  piece,
+  ends_line,
+  Standing,
+  InText,
+  InCode,
+  BeforeBrace,
+  BehindDollar,
+  BehindName,
+  InBrackets,
+  BeforeBracket,
+  text_then,
+  text_at,
+  quoted,
+  ends_here,
+  object_of,
+  is_filled,
+}
 use Rattle.php_meaning.specs.runs.Run.{Result, Done, Over, then_do, play, Entry, going, place_in, told, left}
 use Rattle.php_meaning.specs.laws.Following.{Same}
 use Rattle.php_meaning.specs.laws.Across.{Claim, world_in, Grown, Meets, FollowsAcross, Across}
@@ -76,23 +146,23 @@ module _ (claim : Claim) (here there : Place) (go to : Target → World → Resu
 -- ---- variables
 
 -- a node within another one, once the other one is left
-pub left_then : (s : Site) (id : ℕ) (r : Result) (k l : Out → World → Result)
-    → then_do (left s id (then_do r k)) l ≡ then_do r (λ o u. then_do (left s id (k o u)) l)
-left_then s id (Done o w) k l = refl
-left_then s id (Over e w) k l = refl
+pub left_then : (s : Site) (id : ℕ) (m : Mode) (r : Result) (k l : Out → World → Result)
+    → then_do (left s id m (then_do r k)) l ≡ then_do r (λ o u. then_do (left s id m (k o u)) l)
+left_then s id m (Done o w) k l = refl
+left_then s id m (Over e w) k l = refl
 
 pub same_told : {w u : World} (s : Site) (id : ℕ) (m : Moment) (v : Option Value) → Same w u → Same w (told s id m v u)
 same_told s id m v e = record { store = e.store; echo = e.echo; turns = e.turns }
 
 -- what a node does that reads a variable, before what goes on with its value
 abbrev pub variable_node : (s : Site) (id : ℕ) (go : Target → World → Result) (name : Bytes) → World → Result
-variable_node s id go name u = left s id (play true (place_in s id) go (variable_read name give) (told s id Before None u))
+variable_node s id go name u = left s id Read (play true (place_in s id) go (variable_read name give) (told s id Before None u))
 
 module _ (claim : Claim) (here : Place) (go to : Target → World → Result) (s : Site) (id : ℕ) (name : Bytes) (m : Value → Script)
     (onward : Out → World → Result) (h : (v : Value) → Across claim (play false here go (m v)) (onward (Val v))) where
   -- by the object that the code runs in
   object_follows : (o : Option ℕ) (w u : World) → Same w u
-      → FollowsAcross claim (play false here go (object_then o m) w) (then_do (left s id (play true (place_in s id) to (object_then o give) (told s id Before None u))) onward)
+      → FollowsAcross claim (play false here go (object_then o m) w) (then_do (left s id Read (play true (place_in s id) to (object_then o give) (told s id Before None u))) onward)
   object_follows None w u e = λ a i. absurd i
   object_follows (Some n) w u e =
       (h (Object n)).follows w (told s id After (Some (Object n)) (told s id Before None u)) (same_told s id After (Some (Object n)) (same_told s id Before None e))
@@ -104,9 +174,13 @@ module _ (claim : Claim) (here : Place) (go to : Target → World → Result) (s
   variable_follows : (b : Bool) (w u : World) → Same w u
       → FollowsAcross claim
       (play false here go (if b then Look (λ st. object_then (object_of name st) m) else Look (λ st. m (held_or_null st (variable_cell name st)))) w)
-      (then_do (left s id (play true (place_in s id) to (if b then Look (λ st. object_then (object_of name st) give) else Look (λ st. give (held_or_null st (variable_cell name st)))) (told s id Before None u))) onward)
+      (then_do (left s id Read (play true (place_in s id) to
+      (if b then Look (λ st. object_then (object_of name st) give) else Look
+      (λ st. give (held_or_null st (variable_cell name st)))) (told s id Before None u))) onward)
   variable_follows true w u e =
-      subst (λ st. FollowsAcross claim (play false here go (object_then (object_of name w.store) m) w) (then_do (left s id (play true (place_in s id) to (object_then (object_of name st) give) (told s id Before None u))) onward))
+      subst (λ st. FollowsAcross claim (play false here go (object_then (object_of name w.store) m) w)
+      (then_do (left s id Read (play true (place_in s id) to (object_then (object_of name st) give)
+      (told s id Before None u))) onward))
       (sym e.store) (object_follows (object_of name w.store) w u e)
   variable_follows false w u e =
       let v : Store → Value = λ st. held_or_null st (variable_cell name st) in
@@ -135,7 +209,8 @@ module _ (claim : Claim) (here there : Place) (go to over : Target → World →
   behind_text o u = play true there to (value_then (λ v. text_then v l) o) u
 
   offset_follows : (o : Outcome Came) (w u : World) → Same w u
-      → FollowsAcross claim (play false here go (given o (came_then (λ v. text_then v k))) w) (then_do (left s id (play true (place_in s id) over (given o (came_then give)) u)) behind_text)
+      → FollowsAcross claim (play false here go (given o (came_then (λ v. text_then v k))) w)
+      (then_do (left s id Read (play true (place_in s id) over (given o (came_then give)) u)) behind_text)
   offset_follows (Outside c) w u e = λ a i. absurd i
   offset_follows (Gives (Returns v)) w u e =
       (text_alike claim here there go to v k l h).follows w (told s id After (Some v) u) (same_told s id After (Some v) e)
@@ -150,18 +225,18 @@ module _ (claim : Claim) (here there : Place) (go to over : Target → World →
   offset_grows (Gives (Throws c)) w = let g = grown w in record { asked = g.asked; visits = g.visits }
 
   offset_across : (v key : Value)
-      → Across claim (play false here go (text_at v key k)) (λ u. then_do (left s id (play true (place_in s id) over (offset_of Strict v key) u)) behind_text)
+      → Across claim (play false here go (text_at v key k)) (λ u. then_do (left s id Read (play true (place_in s id) over (offset_of Strict v key) u)) behind_text)
   offset_across v key = record {
     grows = λ w. offset_grows (at_offset (cells_of w.store) Strict v key) w;
     follows = λ w u e.
         subst (λ st. FollowsAcross claim (play false here go (given (at_offset (cells_of w.store) Strict v key) (came_then (λ x. text_then x k))) w)
-        (then_do (left s id (play true (place_in s id) over (given (at_offset (cells_of st) Strict v key) (came_then give)) u)) behind_text)) (sym e.store)
+        (then_do (left s id Read (play true (place_in s id) over (given (at_offset (cells_of st) Strict v key) (came_then give)) u)) behind_text)) (sym e.store)
         (offset_follows (at_offset (cells_of w.store) Strict v key) w u e);
   }
 
   key_across : (v : Value) (o : Out)
       → Across claim (play false here go (value_then (λ key. text_at v key k) o))
-      (λ u. then_do (left s id (play true (place_in s id) over (value_then (λ key. offset_of Strict v key) o) u)) behind_text)
+      (λ u. then_do (left s id Read (play true (place_in s id) over (value_then (λ key. offset_of Strict v key) o) u)) behind_text)
   key_across v (Val key) = offset_across v key
   key_across v (Fresh key) = offset_across v key
   key_across v (At x) = record { grows = λ w. grown w; follows = λ w u e a i. absurd i }
@@ -171,16 +246,16 @@ module _ (claim : Claim) (here there : Place) (go to over : Target → World →
   pub keyed_across : (v : Value) (i : ℕ) (kid lid : World → Result) → Across claim kid lid
       → ((w : World) → go (Kid i Read) w ≡ kid w) → ((u : World) → over (Kid 1 Read) u ≡ lid u)
       → Across claim (play false here go (child_value i (λ key. text_at v key k)))
-      (λ u. then_do (left s id (play true (place_in s id) over (child_value 1 (λ key. offset_of Strict v key)) u)) behind_text)
+      (λ u. then_do (left s id Read (play true (place_in s id) over (child_value 1 (λ key. offset_of Strict v key)) u)) behind_text)
   keyed_across v i kid lid g e d = record {
     grows = λ w.
         subst (λ r. Grown (world_in (then_do r (λ o x. play false here go (value_then (λ key. text_at v key k) o) x))) w) (sym (e w))
         (then_grown w (kid w) _ (g.grows w) (λ o x. (key_across v o).grows x));
     follows = λ w u z.
-        subst (λ r. FollowsAcross claim r (then_do (left s id (play true (place_in s id) over (child_value 1 (λ key. offset_of Strict v key)) u)) behind_text))
+        subst (λ r. FollowsAcross claim r (then_do (left s id Read (play true (place_in s id) over (child_value 1 (λ key. offset_of Strict v key)) u)) behind_text))
         (ap (λ r. then_do r (λ o x. play false here go (value_then (λ key. text_at v key k) o) x)) (sym (e w)))
         (subst (λ r. FollowsAcross claim (then_do (kid w) (λ o x. play false here go (value_then (λ key. text_at v key k) o) x)) r)
-        (sym (ap (λ r. then_do (left s id (then_do r (λ o x. play true (place_in s id) over (value_then (λ key. offset_of Strict v key) o) x))) behind_text) (d u)
-        ∙ left_then s id (lid u) _ behind_text))
+        (sym (ap (λ r. then_do (left s id Read (then_do r (λ o x. play true (place_in s id) over (value_then (λ key. offset_of Strict v key) o) x))) behind_text) (d u)
+        ∙ left_then s id Read (lid u) _ behind_text))
         (then_follows claim (kid w) (lid u) _ _ (g.follows w u z) (λ o. key_across v o)));
   }

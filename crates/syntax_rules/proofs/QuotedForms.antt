@@ -64,7 +64,9 @@ pub name_form : (lead text name_text shut_lead : List ℕ) (start name_start shu
     → form (leaf (token_of token.DollarBrace lead text start) (leaf (token_of token.VarName [] name_text name_start) (leaf (token_of token.Op shut_lead (codes "}") shut_start) f)))
     ≡ Word token.DollarBrace text ∷ Word token.VarName name_text ∷ Word token.Op (codes "}") ∷ form f
 name_form lead text name_text shut_lead start name_start shut_start f =
-    word_form (itself token.DollarBrace lead text start) refl refl (leaf (token_of token.VarName [] name_text name_start) (leaf (token_of token.Op shut_lead (codes "}") shut_start) f))
+    word_form (itself token.DollarBrace lead text start) refl refl
+    (leaf (token_of token.VarName [] name_text name_start)
+    (leaf (token_of token.Op shut_lead (codes "}") shut_start) f))
     ∙ ap (λ x. Word token.DollarBrace text ∷ x) (word_form (itself token.VarName [] name_text name_start) refl refl (leaf (token_of token.Op shut_lead (codes "}") shut_start) f))
     ∙ ap (λ x. Word token.DollarBrace text ∷ Word token.VarName name_text ∷ x) (word_form (itself token.Op shut_lead (codes "}") shut_start) refl refl f)
 
@@ -76,11 +78,25 @@ pub offset_form : (lead text name_text open_lead shut_lead end_lead : List ℕ) 
     (leaf (token_of token.Op shut_lead (codes "]") shut_start) (leaf (token_of token.Op end_lead (codes "}") end_start) f))))))
     ≡ Word token.DollarBrace text ∷ Word token.VarName name_text ∷ Word token.Op (codes "[") ∷ Child ∷ Word token.Op (codes "]") ∷ Word token.Op (codes "}") ∷ form f
 offset_form lead text name_text open_lead shut_lead end_lead start name_start open_start shut_start end_start k c f =
-    word_form (itself token.DollarBrace lead text start) refl refl (leaf (token_of token.VarName [] name_text name_start) (leaf (token_of token.Op open_lead (codes "[") open_start) (node k c (leaf (token_of token.Op shut_lead (codes "]") shut_start) (leaf (token_of token.Op end_lead (codes "}") end_start) f)))))
-    ∙ ap (λ x. Word token.DollarBrace text ∷ x) (word_form (itself token.VarName [] name_text name_start) refl refl (leaf (token_of token.Op open_lead (codes "[") open_start) (node k c (leaf (token_of token.Op shut_lead (codes "]") shut_start) (leaf (token_of token.Op end_lead (codes "}") end_start) f)))))
-    ∙ ap (λ x. Word token.DollarBrace text ∷ Word token.VarName name_text ∷ x) (word_form (itself token.Op open_lead (codes "[") open_start) refl refl (node k c (leaf (token_of token.Op shut_lead (codes "]") shut_start) (leaf (token_of token.Op end_lead (codes "}") end_start) f))))
-    ∙ ap (λ x. Word token.DollarBrace text ∷ Word token.VarName name_text ∷ Word token.Op (codes "[") ∷ Child ∷ x) (word_form (itself token.Op shut_lead (codes "]") shut_start) refl refl (leaf (token_of token.Op end_lead (codes "}") end_start) f))
-    ∙ ap (λ x. Word token.DollarBrace text ∷ Word token.VarName name_text ∷ Word token.Op (codes "[") ∷ Child ∷ Word token.Op (codes "]") ∷ x) (word_form (itself token.Op end_lead (codes "}") end_start) refl refl f)
+    word_form (itself token.DollarBrace lead text start) refl refl
+    (leaf (token_of token.VarName [] name_text name_start)
+    (leaf (token_of token.Op open_lead (codes "[") open_start)
+    (node k c (leaf (token_of token.Op shut_lead (codes "]") shut_start)
+    (leaf (token_of token.Op end_lead (codes "}") end_start) f)))))
+    ∙ ap (λ x. Word token.DollarBrace text ∷ x)
+    (word_form (itself token.VarName [] name_text name_start) refl refl
+    (leaf (token_of token.Op open_lead (codes "[") open_start)
+    (node k c (leaf (token_of token.Op shut_lead (codes "]") shut_start)
+    (leaf (token_of token.Op end_lead (codes "}") end_start) f)))))
+    ∙ ap (λ x. Word token.DollarBrace text ∷ Word token.VarName name_text ∷ x)
+    (word_form (itself token.Op open_lead (codes "[") open_start) refl refl
+    (node k c (leaf (token_of token.Op shut_lead (codes "]") shut_start)
+    (leaf (token_of token.Op end_lead (codes "}") end_start) f))))
+    ∙ ap (λ x. Word token.DollarBrace text ∷ Word token.VarName name_text ∷ Word token.Op (codes "[") ∷ Child ∷ x)
+    (word_form (itself token.Op shut_lead (codes "]") shut_start) refl refl
+    (leaf (token_of token.Op end_lead (codes "}") end_start) f))
+    ∙ ap (λ x. Word token.DollarBrace text ∷ Word token.VarName name_text ∷ Word token.Op (codes "[") ∷ Child
+    ∷ Word token.Op (codes "]") ∷ x) (word_form (itself token.Op end_lead (codes "}") end_start) refl refl f)
 
 -- ---- what is looked at behind a part
 
@@ -99,7 +115,8 @@ closing_same (code {lead} {text} {shut_lead} {start} {shut_start} {k} {j} {c} {d
 closing_same (name {lead} {text} {word = w} {shut_lead} {start} {word_start} {shut_start} {f} {g} {u} {x} e n l p) =
     ap closing_word (code_form (of_kind {u = u} e) refl refl l kind.Variable (leaf x none) g) ∙ closing_same p
     ∙ sym (ap closing_word (name_form lead text w shut_lead start word_start shut_start f))
-closing_same (offset {lead} {text} {word = w} {open_lead} {shut_lead} {end_lead} {start} {word_start} {open_start} {shut_start} {end_start} {k} {j} {c} {d} {f} {g} {u} {x} {o} {q} e n l z r p) =
+closing_same (offset {lead} {text} {word = w} {open_lead} {shut_lead} {end_lead} {start} {word_start} {open_start}
+    {shut_start} {end_start} {k} {j} {c} {d} {f} {g} {u} {x} {o} {q} e n l z r p) =
     ap closing_word (code_form (of_kind {u = u} e) refl refl l kind.Offset (node kind.Variable (leaf x none) (leaf o (node j d (leaf q none)))) g) ∙ closing_same p
     ∙ sym (ap closing_word (offset_form lead text w open_lead shut_lead end_lead start word_start open_start shut_start end_start k c f))
 closing_same (expression {lead} {text} {shut_lead} {start} {shut_start} {k} {j} {c} {d} {f} {g} {u} {a} {b} {q} e l z r p) =
@@ -128,14 +145,20 @@ front_same q a b c (escaped {lead} {text} {new} {start} {f = f} {g = g} e h i p)
     ∙ sym (ap q (word_form (itself token.Piece lead text start) refl refl f))
 front_same q a b c (simple {f = f} {g = g} r p) = c (form g) (form f)
 front_same q a b c (code {lead} {text} {shut_lead} {start} {shut_start} {k} {j} {c = x} {d} {f} {g} i l r p) =
-    ap q (code_form i refl refl l j d g) ∙ b token.CurlyOpen token.CurlyOpen text text (Child ∷ Word token.Op (codes "}") ∷ form g) (Child ∷ Word token.Op (codes "}") ∷ form f) refl refl
+    ap q (code_form i refl refl l j d g) ∙ b token.CurlyOpen token.CurlyOpen text text
+    (Child ∷ Word token.Op (codes "}") ∷ form g) (Child ∷ Word token.Op (codes "}") ∷ form f) refl refl
     ∙ sym (ap q (code_form (itself token.CurlyOpen lead text start) refl refl (itself token.Op shut_lead (codes "}") shut_start) k x f))
 front_same q a b c (name {lead} {text} {word = w} {shut_lead} {start} {word_start} {shut_start} {f} {g} {u} {x} e n l p) =
-    ap q (code_form (of_kind {u = u} e) refl refl l kind.Variable (leaf x none) g) ∙ b token.CurlyOpen token.DollarBrace u.text text (Child ∷ Word token.Op (codes "}") ∷ form g) (Word token.VarName w ∷ Word token.Op (codes "}") ∷ form f) refl refl
+    ap q (code_form (of_kind {u = u} e) refl refl l kind.Variable (leaf x none) g)
+    ∙ b token.CurlyOpen token.DollarBrace u.text text (Child ∷ Word token.Op (codes "}") ∷ form g)
+    (Word token.VarName w ∷ Word token.Op (codes "}") ∷ form f) refl refl
     ∙ sym (ap q (name_form lead text w shut_lead start word_start shut_start f))
-front_same q a b c (offset {lead} {text} {word = w} {open_lead} {shut_lead} {end_lead} {start} {word_start} {open_start} {shut_start} {end_start} {k} {j} {c = y} {d} {f} {g} {u} {x} {o} {q = m} e n l z r p) =
+front_same q a b c (offset {lead} {text} {word = w} {open_lead} {shut_lead} {end_lead} {start} {word_start}
+    {open_start} {shut_start} {end_start} {k} {j} {c = y} {d} {f} {g} {u} {x} {o} {q = m} e n l z r p) =
     ap q (code_form (of_kind {u = u} e) refl refl l kind.Offset (node kind.Variable (leaf x none) (leaf o (node j d (leaf m none)))) g)
-    ∙ b token.CurlyOpen token.DollarBrace u.text text (Child ∷ Word token.Op (codes "}") ∷ form g) (Word token.VarName w ∷ Word token.Op (codes "[") ∷ Child ∷ Word token.Op (codes "]") ∷ Word token.Op (codes "}") ∷ form f) refl refl
+    ∙ b token.CurlyOpen token.DollarBrace u.text text (Child ∷ Word token.Op (codes "}") ∷ form g)
+    (Word token.VarName w ∷ Word token.Op (codes "[") ∷ Child ∷ Word token.Op (codes "]")
+    ∷ Word token.Op (codes "}") ∷ form f) refl refl
     ∙ sym (ap q (offset_form lead text w open_lead shut_lead end_lead start word_start open_start shut_start end_start k y f))
 front_same q a b c (expression {lead} {text} {shut_lead} {start} {shut_start} {k} {j} {c = y} {d} {f} {g} {u} {a = v} {b = x} {q = m} e l z r p) =
     ap q (code_form (of_kind {u = u} e) refl refl l kind.Variable (leaf v (leaf x (node j d (leaf m none)))) g)
@@ -202,7 +225,8 @@ source_opening (code {lead} {text} {shut_lead} {start} {shut_start} {k = k} {c =
 source_opening (name {lead} {text} {word = w} {shut_lead} {start} {word_start} {shut_start} {f = f} e n l p) t =
     not_named_before (itself token.DollarBrace lead text start) refl refl t
     (leaf (token_of token.VarName [] w word_start) (leaf (token_of token.Op shut_lead (codes "}") shut_start) f))
-source_opening (offset {lead} {text} {word = w} {open_lead} {shut_lead} {end_lead} {start} {word_start} {open_start} {shut_start} {end_start} {k = k} {c = c} {f = f} e n l z r p) t =
+source_opening (offset {lead} {text} {word = w} {open_lead} {shut_lead} {end_lead} {start} {word_start} {open_start}
+    {shut_start} {end_start} {k = k} {c = c} {f = f} e n l z r p) t =
     not_named_before (itself token.DollarBrace lead text start) refl refl t
     (leaf (token_of token.VarName [] w word_start) (leaf (token_of token.Op open_lead (codes "[") open_start) (node k c
     (leaf (token_of token.Op shut_lead (codes "]") shut_start) (leaf (token_of token.Op end_lead (codes "}") end_start) f)))))

@@ -1,5 +1,32 @@
 -- Parts of quoted texts: children, `{$x}` for `${x}`, and `{$x[..]}` for `${x[..]}`.
-use Rattle.std.proofs.Common.{◌≡◌, ℕ, zero, suc, ◌+◌, Bool, true, false, ◌&&◌, cond, IsTrue, List, [], ◌∷◌, ◌++◌, codes, Option, None, Some, refl, ap, sym, ◌∙◌, subst, arith, add-zero}
+use Rattle.std.proofs.Common.{
+  ◌≡◌,
+  ℕ,
+  zero,
+  suc,
+  ◌+◌,
+  Bool,
+  true,
+  false,
+  ◌&&◌,
+  cond,
+  IsTrue,
+  List,
+  [],
+  ◌∷◌,
+  ◌++◌,
+  codes,
+  Option,
+  None,
+  Some,
+  refl,
+  ap,
+  sym,
+  ◌∙◌,
+  subst,
+  arith,
+  add-zero,
+}
 use Rattle.std.proofs.Math.Nat.{add-suc}
 use Rattle.php_tree.specs.declared.token.TokenKind.{TokenKind}
 use Rattle.php_tree.specs.declared.token.TokenKind.TheVariants as token
@@ -16,20 +43,133 @@ use Rattle.scope_names.specs.Form.{Form, Word, Child, form}
 use Rattle.scope_names.specs.Sites.{Site, is_declaration, declarations, one_if, within, beside}
 use Rattle.php_meaning.specs.runs.Kinds.{is_expression, is_statement}
 use Rattle.php_meaning.specs.names.Tables.{Tables}
-use Rattle.php_meaning.specs.runs.Script.{Out, Val, Mode, Read, Quiet, Write, Unset, Name, Later, Left, Behind, Against, Into, Given, Entered, Item, Target, Kid, Script, Give, Stop, Run, give, given, value_then, child_value}
+use Rattle.php_meaning.specs.runs.Script.{
+  Out,
+  Val,
+  Mode,
+  Read,
+  Quiet,
+  Write,
+  Unset,
+  Name,
+  Later,
+  Left,
+  Behind,
+  Against,
+  Into,
+  Given,
+  Entered,
+  Item,
+  Target,
+  Kid,
+  Script,
+  Give,
+  Stop,
+  Run,
+  give,
+  given,
+  value_then,
+  child_value,
+}
 use Rattle.php_meaning.specs.values.Offsets.{Strict}
 use Rattle.php_meaning.specs.expressions.Expressions.{plain_name, offset_of}
-use Rattle.php_meaning.specs.expressions.QuotedTexts.{variable_read, Style, InQuotes, InHeredoc, piece, ends_line, InText, InCode, BeforeBrace, InBrackets, BeforeBracket, text_then, text_at, quoted, quoted_by, quoted_text, closing_word, ends_here, begins_dollar}
+use Rattle.php_meaning.specs.expressions.QuotedTexts.{
+  variable_read,
+  Style,
+  InQuotes,
+  InHeredoc,
+  piece,
+  ends_line,
+  InText,
+  InCode,
+  BeforeBrace,
+  InBrackets,
+  BeforeBracket,
+  text_then,
+  text_at,
+  quoted,
+  quoted_by,
+  quoted_text,
+  closing_word,
+  ends_here,
+  begins_dollar,
+}
 use Rattle.php_meaning.specs.expressions.QuotedTexts as texts
 use Rattle.php_meaning.specs.Rules.{rule, cast, casts, cast_word}
 use Rattle.php_meaning.specs.runs.Run.{Mark, Result, then_do, play, Entry, is_stopped, place_in, told, left, going, passes, at_node, step, declared_in}
 use Rattle.php_meaning.specs.laws.SameScripts.{HasScriptOf}
-use Rattle.php_meaning.specs.laws.Across.{Claim, world_in, Grown, FollowsAcross, Across, DoesAcross, IsRewritten, nothing, token_before, token_behind, same, replaced, kept, wrapped}
+use Rattle.php_meaning.specs.laws.Across.{
+  Claim,
+  world_in,
+  Grown,
+  FollowsAcross,
+  Across,
+  DoesAcross,
+  IsRewritten,
+  nothing,
+  token_before,
+  token_behind,
+  same,
+  replaced,
+  kept,
+  wrapped,
+}
 use Rattle.php_meaning.proofs.Across.{grown, told_across, step_across, declared_across}
 use Rattle.syntax_rules.specs.Keeps.{token_of}
-use Rattle.syntax_rules.proofs.Rewrites.{IsToken, begins, Rewrites, ends, same_token, inner, changed, parens, Changed, brackets, float, null, curled, Curled, closing, piece as a_piece, escaped, simple, code, name, offset, expression}
-use Rattle.syntax_rules.proofs.QuotedForms.{word_form, itself, of_kind, code_form, name_form, offset_form, closing_same, ends_behind, no_dollar, dollar_first, bare_same, source_opening, target_opening}
-use Rattle.syntax_rules.proofs.QuotedAcross.{same_told, left_then, variable_node, Plays, gives_alike, stops_alike, given_alike, value_alike, runs_alike, text_alike, variable_across, keyed_across, behind_text}
+use Rattle.syntax_rules.proofs.Rewrites.{
+  IsToken,
+  begins,
+  Rewrites,
+  ends,
+  same_token,
+  inner,
+  changed,
+  parens,
+  Changed,
+  brackets,
+  float,
+  null,
+  curled,
+  Curled,
+  closing,
+  piece as a_piece,
+  escaped,
+  simple,
+  code,
+  name,
+  offset,
+  expression,
+}
+use Rattle.syntax_rules.proofs.QuotedForms.{
+  word_form,
+  itself,
+  of_kind,
+  code_form,
+  name_form,
+  offset_form,
+  closing_same,
+  ends_behind,
+  no_dollar,
+  dollar_first,
+  bare_same,
+  source_opening,
+  target_opening,
+}
+use Rattle.syntax_rules.proofs.QuotedAcross.{
+  same_told,
+  left_then,
+  variable_node,
+  Plays,
+  gives_alike,
+  stops_alike,
+  given_alike,
+  value_alike,
+  runs_alike,
+  text_alike,
+  variable_across,
+  keyed_across,
+  behind_text,
+}
 
 -- ---- common steps
 
@@ -87,7 +227,9 @@ next_lid t low s u jd j k d g lid b e n m w = e (suc n) m w ∙ ap (λ z. step t
 abbrev unused : (t : Tables) (low : Entry → World → Result) (s : Site) (x : Token) (jd : ℕ) → World → Target → World → Result
 unused t low s x jd u =
     going low (step true t [] low s (leaf x none) (suc jd))
-    (passes (place_in s jd) (λ again n y. play true (place_in s jd) (going low (step true t [] low s (leaf x none) (suc jd)) again) (rule t s kind.Variable n (form (leaf x none))) y) u.turns)
+    (passes (place_in s jd) (λ again n y. play true (place_in s jd)
+    (going low (step true t [] low s (leaf x none) (suc jd)) again)
+    (rule t s kind.Variable n (form (leaf x none))) y) u.turns)
 
 -- a variable's node
 variable_step : (t : Tables) (low : Entry → World → Result) (s : Site) (x : Token) (g : Forest) (jd : ℕ) (word : Bytes) → x.text ≡ 36 ∷ word → (u : World)
@@ -122,9 +264,13 @@ module _ (claim : Claim) (t : Tables) (marks : List Mark) (lower low : Entry →
     named_onward o y = play true there (going low lid anew) (value_then new_named o) y
 
     read_named : (over : Target → World → Result)
-        → Across claim (play false here (going lower kid again) (variable_read word (λ y. text_then y (λ b. quoted style (InText false) (bytes ++ b) i f)))) (λ u. then_do (variable_node s jd over word u) named_onward)
+        → Across claim (play false here (going lower kid again)
+        (variable_read word (λ y. text_then y (λ b. quoted style (InText false) (bytes ++ b) i f))))
+        (λ u. then_do (variable_node s jd over word u) named_onward)
     read_named over = variable_across claim here (going lower kid again) over s jd word (λ y. text_then y (λ b. quoted style (InText false) (bytes ++ b) i f)) named_onward
-        (λ y. text_alike claim here there (going lower kid again) (going low lid anew) y (λ b. quoted style (InText false) (bytes ++ b) i f) (λ b. quoted style BeforeBrace (bytes ++ b) (suc j) (Word token.Op (codes "}") ∷ g)) p)
+        (λ y. text_alike claim here there (going lower kid again) (going low lid anew) y
+        (λ b. quoted style (InText false) (bytes ++ b) i f)
+        (λ b. quoted style BeforeBrace (bytes ++ b) (suc j) (Word token.Op (codes "}") ∷ g)) p)
 
     pub named_alike : SourceToTarget
         (quoted style (InText fresh) bytes i (Word token.DollarBrace text ∷ Word token.VarName word ∷ Word token.Op (codes "}") ∷ f))
@@ -132,15 +278,20 @@ module _ (claim : Claim) (t : Tables) (marks : List Mark) (lower low : Entry →
     named_alike = record {
       grows = λ w. (read_named (unused t low s x jd w)).grows w;
       follows = λ w u z.
-          subst (λ r. FollowsAcross claim (play false here (going lower kid again) (variable_read word (λ y. text_then y (λ b. quoted style (InText false) (bytes ++ b) i f))) w) (then_do r named_onward))
+          subst (λ r. FollowsAcross claim (play false here (going lower kid again)
+          (variable_read word (λ y. text_then y (λ b. quoted style (InText false) (bytes ++ b) i f))) w)
+          (then_do r named_onward))
           (sym (l 0 Read u ∙ variable_step t low s x rest jd word n u))
           ((read_named (unused t low s x jd u)).follows w u z);
     }
 
   -- `{$x[..]}` for `${x[..]}`, before what goes on alike
-  module _ (style : Style) (fresh : Bool) (s : Site) (id jd i j : ℕ) (a b : NodeKind) (c d source : Forest) (x o y : Token) (text new word : Bytes) (f g : Form) (rest : Forest) (bytes : Bytes)
+  module _ (style : Style) (fresh : Bool) (s : Site) (id jd i j : ℕ) (a b : NodeKind) (c d source : Forest)
+      (x o y : Token) (text new word : Bytes) (f g : Form) (rest : Forest) (bytes : Bytes)
       (n : x.text ≡ 36 ∷ word)
-      (r : Across claim (step false t marks lower s (node a c none) id 0 Read) (step true t [] low (beside kind.Variable (leaf x none) s) (node b d none) (suc (suc jd + count (leaf x none))) 0 Read))
+      (r : Across claim (step false t marks lower s (node a c none) id 0 Read)
+      (step true t [] low (beside kind.Variable (leaf x none) s) (node b d none)
+      (suc (suc jd + count (leaf x none))) 0 Read))
       (k : Kids false t marks lower s (node a c source) id i kid)
       (l : Kids true t [] low s (node kind.Offset (node kind.Variable (leaf x none) (leaf o (node b d (leaf y none)))) rest) jd j lid)
       (p : (z : Bytes) → SourceToTarget (quoted style (InText false) (bytes ++ z) (suc i) f) (quoted style (InText false) (bytes ++ z) (suc j) g)) where
@@ -159,30 +310,37 @@ module _ (claim : Claim) (t : Tables) (marks : List Mark) (lower low : Entry →
     -- what the node of the offset runs
     abbrev offset_over : World → Target → World → Result
     offset_over u = going low (step true t [] low s offset_parts (suc jd))
-        (passes (place_in s jd) (λ again n w. play true (place_in s jd) (going low (step true t [] low s offset_parts (suc jd)) again) (rule t s kind.Offset n (form offset_parts)) w) u.turns)
+        (passes (place_in s jd) (λ again n w. play true (place_in s jd)
+        (going low (step true t [] low s offset_parts (suc jd)) again)
+        (rule t s kind.Offset n (form offset_parts)) w) u.turns)
 
     abbrev text_onward : Out → World → Result
     text_onward e w = play true there (going low lid anew) (value_then (λ value. text_then value target_rest) e) w
 
     abbrev offset_onward : World → Out → World → Result
-    offset_onward u e w = then_do (left s jd (play true (place_in s jd) (offset_over u) (value_then (λ value. child_value 1 (λ key. offset_of Strict value key)) e) w)) text_onward
+    offset_onward u e w = then_do (left s jd Read (play true (place_in s jd) (offset_over u)
+        (value_then (λ value. child_value 1 (λ key. offset_of Strict value key)) e) w)) text_onward
 
-    read_offset : (u : World) → Across claim (play false here (going lower kid again) (variable_read word old_offset)) (λ w. then_do (variable_node s (suc jd) (unused t low s x (suc jd) u) word w) (offset_onward u))
+    read_offset : (u : World) → Across claim (play false here (going lower kid again) (variable_read word old_offset))
+        (λ w. then_do (variable_node s (suc jd) (unused t low s x (suc jd) u) word w) (offset_onward u))
     read_offset u = variable_across claim here (going lower kid again) (unused t low s x (suc jd) u) s (suc jd) word old_offset (offset_onward u)
         (λ value. keyed_across claim here there (going lower kid again) (going low lid anew) (offset_over u) s jd source_rest target_rest p value i
-        (step false t marks lower s (node a c none) id 0 Read) (step true t [] low (beside kind.Variable (leaf x none) s) (node b d none) (suc (suc jd + count (leaf x none))) 0 Read)
+        (step false t marks lower s (node a c none) id 0 Read)
+        (step true t [] low (beside kind.Variable (leaf x none) s) (node b d none)
+        (suc (suc jd + count (leaf x none))) 0 Read)
         r (λ w. k 0 Read w) (λ w. refl))
 
     there_is : (u : World) → play true there (going low lid anew) (child_value j (λ value. text_then value target_rest)) u
         ≡ then_do (variable_node s (suc jd) (unused t low s x (suc jd) (told s jd Before None u)) word (told s jd Before None u)) (offset_onward u)
     there_is u =
         ap (λ e. then_do e text_onward) (l 0 Read u)
-        ∙ left_then s jd (step true t [] low s offset_parts (suc jd) 0 Read (told s jd Before None u))
+        ∙ left_then s jd Read (step true t [] low s offset_parts (suc jd) 0 Read (told s jd Before None u))
         (λ e w. play true (place_in s jd) (offset_over u) (value_then (λ value. child_value 1 (λ key. offset_of Strict value key)) e) w) text_onward
         ∙ ap (λ e. then_do e (offset_onward u)) (variable_step t low s x (leaf o (node b d (leaf y none))) (suc jd) word n (told s jd Before None u))
 
     pub offset_alike : SourceToTarget
-        (quoted style (InText fresh) bytes i (Word token.DollarBrace text ∷ Word token.VarName word ∷ Word token.Op (codes "[") ∷ Child ∷ Word token.Op (codes "]") ∷ Word token.Op (codes "}") ∷ f))
+        (quoted style (InText fresh) bytes i (Word token.DollarBrace text ∷ Word token.VarName word
+        ∷ Word token.Op (codes "[") ∷ Child ∷ Word token.Op (codes "]") ∷ Word token.Op (codes "}") ∷ f))
         (quoted style (InText fresh) bytes j (Word token.CurlyOpen new ∷ Child ∷ Word token.Op (codes "}") ∷ g))
     offset_alike = record {
       grows = λ w. (read_offset w).grows w;

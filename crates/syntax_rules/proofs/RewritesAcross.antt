@@ -1,5 +1,32 @@
 -- Rewritten trees do in 8.3 what the source's do in 7.4.
-use Rattle.std.proofs.Common.{◌≡◌, ℕ, zero, suc, ◌+◌, Bool, true, false, ◌&&◌, cond, IsTrue, List, [], ◌∷◌, ◌++◌, codes, Option, None, Some, refl, ap, sym, ◌∙◌, subst, arith, add-zero}
+use Rattle.std.proofs.Common.{
+  ◌≡◌,
+  ℕ,
+  zero,
+  suc,
+  ◌+◌,
+  Bool,
+  true,
+  false,
+  ◌&&◌,
+  cond,
+  IsTrue,
+  List,
+  [],
+  ◌∷◌,
+  ◌++◌,
+  codes,
+  Option,
+  None,
+  Some,
+  refl,
+  ap,
+  sym,
+  ◌∙◌,
+  subst,
+  arith,
+  add-zero,
+}
 use Rattle.std.proofs.Math.Nat.{add-suc}
 use Rattle.php_tree.specs.declared.token.TokenKind.{TokenKind}
 use Rattle.php_tree.specs.declared.token.TokenKind.TheVariants as token
@@ -16,22 +43,152 @@ use Rattle.scope_names.specs.Form.{Form, Word, Child, form}
 use Rattle.scope_names.specs.Sites.{Site, is_declaration, declarations, one_if, within, beside}
 use Rattle.php_meaning.specs.runs.Kinds.{is_expression, is_statement}
 use Rattle.php_meaning.specs.names.Tables.{Tables}
-use Rattle.php_meaning.specs.runs.Script.{Out, Val, Mode, Read, Quiet, Write, Unset, Name, Later, Left, Behind, Against, Into, Given, Entered, Item, Target, Kid, Script, Give, Stop, Run, give, given, value_then, child_value, Top, Unchanged, stands}
+use Rattle.php_meaning.specs.runs.Script.{
+  Out,
+  Val,
+  Mode,
+  Read,
+  Quiet,
+  Write,
+  Unset,
+  Name,
+  Later,
+  Left,
+  Behind,
+  Against,
+  Into,
+  Given,
+  Entered,
+  Item,
+  Target,
+  Kid,
+  Script,
+  Give,
+  Stop,
+  Run,
+  give,
+  given,
+  value_then,
+  child_value,
+  Top,
+  Unchanged,
+  stands,
+}
 use Rattle.php_meaning.specs.values.Offsets.{Strict}
 use Rattle.php_meaning.specs.expressions.Expressions.{plain_name, offset_of}
-use Rattle.php_meaning.specs.expressions.QuotedTexts.{variable_read, Style, InQuotes, InHeredoc, piece, ends_line, InText, InCode, BeforeBrace, InBrackets, BeforeBracket, text_then, text_at, quoted, quoted_by, quoted_text, closing_word, ends_here, begins_dollar}
+use Rattle.php_meaning.specs.expressions.QuotedTexts.{
+  variable_read,
+  Style,
+  InQuotes,
+  InHeredoc,
+  piece,
+  ends_line,
+  InText,
+  InCode,
+  BeforeBrace,
+  InBrackets,
+  BeforeBracket,
+  text_then,
+  text_at,
+  quoted,
+  quoted_by,
+  quoted_text,
+  closing_word,
+  ends_here,
+  begins_dollar,
+}
 use Rattle.php_meaning.specs.expressions.QuotedTexts as texts
 use Rattle.php_meaning.specs.Rules.{rule, cast, casts, cast_word, cast_again}
 use Rattle.php_meaning.specs.runs.Run.{Mark, Result, then_do, play, Entry, is_stopped, place_in, told, left, going, passes, at_node, step, declared_in}
 use Rattle.php_meaning.specs.laws.SameScripts.{HasScriptOf}
-use Rattle.php_meaning.specs.laws.Across.{Claim, world_in, Grown, FollowsAcross, Across, DoesAcross, IsRewritten, nothing, token_before, token_behind, same, replaced, kept, wrapped}
+use Rattle.php_meaning.specs.laws.Across.{
+  Claim,
+  world_in,
+  Grown,
+  FollowsAcross,
+  Across,
+  DoesAcross,
+  IsRewritten,
+  nothing,
+  token_before,
+  token_behind,
+  same,
+  replaced,
+  kept,
+  wrapped,
+}
 use Rattle.php_meaning.proofs.Across.{grown, told_across, step_across, declared_across}
 use Rattle.syntax_rules.specs.DoTheSame.{UnsetCastsAreNull, BracesDoTheSame, ending}
 use Rattle.syntax_rules.specs.Keeps.{token_of}
-use Rattle.syntax_rules.proofs.Rewrites.{IsToken, begins, Rewrites, ends, same_token, inner, changed, parens, Changed, brackets, float, null, curled, Curled, closing, piece as a_piece, escaped, simple, code, name, offset, expression}
-use Rattle.syntax_rules.proofs.RewrittenTables.{forms_same, changed_declares, old_expression, new_expression, within_same, beside_same, plain_beside, node_beside, beside_variable, changed_beside, offset_beside, expression_beside, declarations_same}
-use Rattle.syntax_rules.proofs.QuotedForms.{word_form, itself, of_kind, code_form, name_form, offset_form, closing_same, ends_behind, no_dollar, dollar_first, bare_same, source_opening, target_opening}
-use Rattle.syntax_rules.proofs.QuotedAcross.{same_told, left_then, variable_node, Plays, gives_alike, stops_alike, given_alike, value_alike, runs_alike, text_alike, variable_across, keyed_across, behind_text}
+use Rattle.syntax_rules.proofs.Rewrites.{
+  IsToken,
+  begins,
+  Rewrites,
+  ends,
+  same_token,
+  inner,
+  changed,
+  parens,
+  Changed,
+  brackets,
+  float,
+  null,
+  curled,
+  Curled,
+  closing,
+  piece as a_piece,
+  escaped,
+  simple,
+  code,
+  name,
+  offset,
+  expression,
+}
+use Rattle.syntax_rules.proofs.RewrittenTables.{
+  forms_same,
+  changed_declares,
+  old_expression,
+  new_expression,
+  within_same,
+  beside_same,
+  plain_beside,
+  node_beside,
+  beside_variable,
+  changed_beside,
+  offset_beside,
+  expression_beside,
+  declarations_same,
+}
+use Rattle.syntax_rules.proofs.QuotedForms.{
+  word_form,
+  itself,
+  of_kind,
+  code_form,
+  name_form,
+  offset_form,
+  closing_same,
+  ends_behind,
+  no_dollar,
+  dollar_first,
+  bare_same,
+  source_opening,
+  target_opening,
+}
+use Rattle.syntax_rules.proofs.QuotedAcross.{
+  same_told,
+  left_then,
+  variable_node,
+  Plays,
+  gives_alike,
+  stops_alike,
+  given_alike,
+  value_alike,
+  runs_alike,
+  text_alike,
+  variable_across,
+  keyed_across,
+  behind_text,
+}
 use Rattle.syntax_rules.proofs.QuotedParts.{piece_alike, by_forms, further_first, Kids, next_lid, child_then, named_alike, offset_alike}
 use Rattle.syntax_rules.proofs.UnsetCastAcross.{unset_cast_across}
 
@@ -105,7 +262,8 @@ module _ (claim : Claim) (t : Tables) where
       → ((e : Entry) → Across claim (lower e) (low e)) → (id jd : ℕ) (kid lid : ℕ → Mode → World → Result) (again anew : Mode → World → Result)
       → ((i : ℕ) (m : Mode) (w : World) → kid i m w ≡ step false t marks lower s f (suc id) i m w)
       → ((i : ℕ) (m : Mode) (w : World) → lid i m w ≡ step true t [] low s g (suc jd) i m w)
-      → (m : Mode) → Plays claim (place_in s id) (place_in s jd) (going lower kid again) (going low lid anew) (rule t s kind.Quoted m (form (leaf x f))) (rule t s kind.Quoted m (form (leaf y g)))
+      → (m : Mode) → Plays claim (place_in s id) (place_in s jd) (going lower kid again) (going low lid anew)
+      (rule t s kind.Quoted m (form (leaf x f))) (rule t s kind.Quoted m (form (leaf y g)))
   quoted_mode {f} {g} x y e p q s marks lower low h id jd kid lid again anew k l = by_mode
     where
       opened : Plays claim (place_in s id) (place_in s jd) (going lower kid again) (going low lid anew) (quoted_text (form (leaf x f))) (quoted_text (form (leaf y g)))
@@ -115,7 +273,8 @@ module _ (claim : Claim) (t : Tables) where
           (λ style fresh. q marks lower low h style (place_in s id) (place_in s jd) s (suc id) (suc jd) 0 0 kid lid again anew
           (λ n m w. ap (λ z. kid z m w) (further_first n) ∙ k n m w) (λ n m w. ap (λ z. lid z m w) (further_first n) ∙ l n m w) fresh [])
 
-      by_mode : (m : Mode) → Plays claim (place_in s id) (place_in s jd) (going lower kid again) (going low lid anew) (rule t s kind.Quoted m (form (leaf x f))) (rule t s kind.Quoted m (form (leaf y g)))
+      by_mode : (m : Mode) → Plays claim (place_in s id) (place_in s jd) (going lower kid again) (going low lid anew)
+          (rule t s kind.Quoted m (form (leaf x f))) (rule t s kind.Quoted m (form (leaf y g)))
       by_mode Read = opened
       by_mode Quiet = opened
       by_mode Top = opened
@@ -131,7 +290,9 @@ module _ (claim : Claim) (t : Tables) where
       let lid : ℕ → Mode → World → Result = step true t [] low s (leaf y g) (suc jd) in
       let old : ℕ → Mode → World → Result = passes (place_in s id) (λ again n u. play false (place_in s id) (going lower kid again) (rule t s kind.Quoted n (form (leaf x f))) u) in
       let new : ℕ → Mode → World → Result = passes (place_in s jd) (λ again n u. play true (place_in s jd) (going low lid again) (rule t s kind.Quoted n (form (leaf y g))) u) in
-      let both : (a b : ℕ) → Plays claim (place_in s id) (place_in s jd) (going lower kid (old a)) (going low lid (new b)) (rule t s kind.Quoted m (form (leaf x f))) (rule t s kind.Quoted m (form (leaf y g))) =
+      let both : (a b : ℕ) → Plays claim (place_in s id) (place_in s jd) (going lower kid (old a))
+      (going low lid (new b)) (rule t s kind.Quoted m (form (leaf x f)))
+      (rule t s kind.Quoted m (form (leaf y g))) =
       λ a b. quoted_mode x y e p q s marks lower low h id jd kid lid (old a) (new b) (λ i n w. refl) (λ i n w. refl) m in
       record {
         grows = λ w. (both w.turns w.turns).grows w;
@@ -143,7 +304,7 @@ module _ (claim : Claim) (t : Tables) where
       → DoesAcross claim t t s kind.Quoted (leaf x f) kind.Quoted (leaf y g)
   quoted_does {f} {g} x y e p q r s = record {
     node = λ marks lower low h id jd m.
-        told_across claim (is_stopped marks s.file id) s id jd
+        told_across claim (is_stopped marks s.file id) s id jd m m
         (at_node false t lower s kind.Quoted (leaf x f) id (step false t marks lower s (leaf x f) (suc id)) m)
         (at_node true t low s kind.Quoted (leaf y g) jd (step true t [] low s (leaf y g) (suc jd)) m)
         (quoted_at x y e p q s marks lower low h id jd m);
@@ -221,10 +382,12 @@ module _ (claim : Claim) (plain : (p : Place) → claim.handled p ≡ false) (t 
     -- the parts of a quoted text
     curled_alike : {f g : Forest} → Curled f g → PartsAcross claim t f g
     curled_alike (closing {lead} {text} {start} q) marks lower low h style here there s id jd i j kid lid again anew k l fresh bytes =
-        by_forms claim here there (going lower kid again) (going low lid anew) style fresh bytes i j _ _ _ _ (word_form (itself token.QuotedEnd lead text start) refl refl none) (word_form q refl refl none)
+        by_forms claim here there (going lower kid again) (going low lid anew) style fresh bytes i j _ _ _ _
+        (word_form (itself token.QuotedEnd lead text start) refl refl none) (word_form q refl refl none)
         (gives_alike claim here there (going lower kid again) (going low lid anew) (Val (Text bytes)))
     curled_alike (a_piece {lead} {text} {start} {u} {f} {g} q p) marks lower low h style here there s id jd i j kid lid again anew k l fresh bytes =
-        by_forms claim here there (going lower kid again) (going low lid anew) style fresh bytes i j _ _ _ _ (word_form (itself token.Piece lead text start) refl refl f) (word_form q refl refl g)
+        by_forms claim here there (going lower kid again) (going low lid anew) style fresh bytes i j _ _ _ _
+        (word_form (itself token.Piece lead text start) refl refl f) (word_form q refl refl g)
         (piece_alike claim here there (going lower kid again) (going low lid anew) (begins_dollar (form f)) (begins_dollar (form g)) (texts.ends_bare false text) _ _ (no_dollar p)
         (λ no.
         subst (λ b. Plays claim here there (going lower kid again) (going low lid anew)
@@ -234,7 +397,8 @@ module _ (claim : Claim) (plain : (p : Place) → claim.handled p ≡ false) (t 
         (λ x. curled_alike p marks lower low h style here there s id jd i j kid lid again anew k l (ends_line text) (bytes ++ x)))))
     curled_alike (escaped {lead} {text} {new} {start} {u} {f} {g} e b q p) marks lower low h style here there s id jd i j kid lid again anew k l fresh bytes =
         by_forms claim here there (going lower kid again) (going low lid anew) style fresh bytes i j
-        (form (leaf (token_of token.Piece lead text start) f)) (form (leaf u g)) (Word token.Piece text ∷ form f) (form (leaf u g)) (word_form (itself token.Piece lead text start) refl refl f) refl
+        (form (leaf (token_of token.Piece lead text start) f)) (form (leaf u g)) (Word token.Piece text ∷ form f)
+        (form (leaf u g)) (word_form (itself token.Piece lead text start) refl refl f) refl
         (subst (λ x. Plays claim here there (going lower kid again) (going low lid anew)
         (cond x (Stop NoRule) (given (piece style fresh (ends_here (form f)) text) (λ y. quoted style (InText (ends_line text)) (bytes ++ y) i (form f))))
         (quoted style (InText fresh) bytes j (form (leaf u g))))
@@ -245,31 +409,47 @@ module _ (claim : Claim) (plain : (p : Place) → claim.handled p ≡ false) (t 
         (λ v. text_alike claim here there (going lower kid again) (going low lid anew) v _ _
         (λ x. curled_alike p marks lower low h style here there (beside a c s) (suc (id + count c)) (suc (jd + count d)) (suc i) (suc j) kid lid again anew
         (λ n m w. k (suc n) m w) (next_lid t low s (beside a c s) jd j b d g lid (node_beside r s) l) false (bytes ++ x)))
-    curled_alike (code {lead} {text} {shut_lead} {start} {shut_start} {k = a} {j = b} {c} {d} {f} {g} {u} {v} q n r p) marks lower low h style here there s id jd i j kid lid again anew k l fresh bytes =
+    curled_alike (code {lead} {text} {shut_lead} {start} {shut_start} {k = a} {j = b} {c} {d} {f} {g} {u} {v} q n r p)
+        marks lower low h style here there s id jd i j kid lid again anew k l fresh bytes =
         by_forms claim here there (going lower kid again) (going low lid anew) style fresh bytes i j _ _ _ _
         (code_form (itself token.CurlyOpen lead text start) refl refl (itself token.Op shut_lead (codes "}") shut_start) a c f) (code_form q refl refl n b d g)
-        (child_then claim t marks lower low here there kid lid again anew a b c d (leaf (token_of token.Op shut_lead (codes "}") shut_start) f) (leaf v g) s id jd i j (step_across claim t t marks lower low h id s (rewritten r id s) jd 0 Read) k l _ _
+        (child_then claim t marks lower low here there kid lid again anew a b c d
+        (leaf (token_of token.Op shut_lead (codes "}") shut_start) f) (leaf v g) s id jd i j
+        (step_across claim t t marks lower low h id s (rewritten r id s) jd 0 Read) k l _ _
         (λ y. text_alike claim here there (going lower kid again) (going low lid anew) y _ _
         (λ x. curled_alike p marks lower low h style here there (beside a c s) (suc (id + count c)) (suc (jd + count d)) (suc i) (suc j) kid lid again anew
         (λ n m w. k (suc n) m w) (next_lid t low s (beside a c s) jd j b d (leaf v g) lid (node_beside r s) l) false (bytes ++ x))))
-    curled_alike (name {lead} {text} {word = word} {shut_lead} {start} {word_start} {shut_start} {f} {g} {u} {x} {v} e n q p) marks lower low h style here there s id jd i j kid lid again anew k l fresh bytes =
+    curled_alike (name {lead} {text} {word = word} {shut_lead} {start} {word_start} {shut_start} {f} {g} {u} {x} {v} e
+        n q p) marks lower low h style here there s id jd i j kid lid again anew k l fresh bytes =
         by_forms claim here there (going lower kid again) (going low lid anew) style fresh bytes i j _ _ _ _
         (name_form lead text word shut_lead start word_start shut_start f) (code_form (of_kind {u = u} e) refl refl q kind.Variable (leaf x none) g)
         (named_alike claim t marks lower low here there kid lid again anew style fresh s jd i j x v text u.text word (form f) (form g) (leaf v g) bytes n l
         (λ y. curled_alike p marks lower low h style here there s id (suc (jd + count (leaf x none))) i (suc j) kid lid again anew k
         (next_lid t low s s jd j kind.Variable (leaf x none) (leaf v g) lid (beside_variable s) l) false (bytes ++ y)))
-    curled_alike (offset {lead} {text} {word = word} {open_lead} {shut_lead} {end_lead} {start} {word_start} {open_start} {shut_start} {end_start} {k = a} {j = b} {c} {d} {f} {g} {u} {x} {o} {q = y} {v} e n q z r p) marks lower low h style here there s id jd i j kid lid again anew k l fresh bytes =
+    curled_alike (offset {lead} {text} {word = word} {open_lead} {shut_lead} {end_lead} {start} {word_start}
+        {open_start} {shut_start} {end_start} {k = a} {j = b} {c} {d} {f} {g} {u} {x} {o} {q = y} {v} e n q z r p)
+        marks lower low h style here there s id jd i j kid lid again anew k l fresh bytes =
         by_forms claim here there (going lower kid again) (going low lid anew) style fresh bytes i j _ _ _ _
         (offset_form lead text word open_lead shut_lead end_lead start word_start open_start shut_start end_start a c f)
         (code_form (of_kind {u = u} e) refl refl q kind.Offset (node kind.Variable (leaf x none) (leaf o (node b d (leaf y none)))) g)
         (offset_alike claim t marks lower low here there kid lid again anew style fresh s id jd i j a b c d
-        (leaf (token_of token.Op shut_lead (codes "]") shut_start) (leaf (token_of token.Op end_lead (codes "}") end_start) f)) x o y text u.text word (form f) (form g) (leaf v g) bytes n
-        (subst (λ s'. Across claim (step false t marks lower s (node a c none) id 0 Read) (step true t [] low s' (node b d none) (suc (suc jd + count (leaf x none))) 0 Read)) (sym (beside_variable s))
+        (leaf (token_of token.Op shut_lead (codes "]") shut_start)
+        (leaf (token_of token.Op end_lead (codes "}") end_start) f)) x o y text u.text word (form f) (form g)
+        (leaf v g) bytes n
+        (subst (λ s'. Across claim (step false t marks lower s (node a c none) id 0 Read)
+        (step true t [] low s' (node b d none) (suc (suc jd + count (leaf x none))) 0 Read))
+        (sym (beside_variable s))
         (step_across claim t t marks lower low h id s (rewritten r id s) (suc (suc jd + count (leaf x none))) 0 Read)) k l
-        (λ w. curled_alike p marks lower low h style here there (beside a c s) (suc (id + count c)) (suc (jd + count (node kind.Variable (leaf x none) (leaf o (node b d (leaf y none)))))) (suc i) (suc j) kid lid again anew
+        (λ w. curled_alike p marks lower low h style here there (beside a c s) (suc (id + count c))
+        (suc (jd + count (node kind.Variable (leaf x none) (leaf o (node b d (leaf y none)))))) (suc i) (suc j)
+        kid lid again anew
         (λ n m w. k (suc n) m w)
-        (next_lid t low s (beside a c s) jd j kind.Offset (node kind.Variable (leaf x none) (leaf o (node b d (leaf y none)))) (leaf v g) lid (offset_beside x o y z r s) l) false (bytes ++ w)))
-    curled_alike (expression {lead} {text} {shut_lead} {start} {shut_start} {k = a} {j = b} {c} {d} {f} {g} {u} {a = x} {b = y} {q = w} {v} e q z r p) marks lower low h style here there s id jd i j kid lid again anew k l fresh bytes =
+        (next_lid t low s (beside a c s) jd j kind.Offset
+        (node kind.Variable (leaf x none) (leaf o (node b d (leaf y none)))) (leaf v g) lid
+        (offset_beside x o y z r s) l) false (bytes ++ w)))
+    curled_alike (expression {lead} {text} {shut_lead} {start} {shut_start} {k = a} {j = b} {c} {d} {f} {g} {u}
+        {a = x} {b = y} {q = w} {v} e q z r p) marks lower low h style here there s id jd i j kid lid again anew k l
+        fresh bytes =
         let target : Form = form (leaf u (node kind.Variable (leaf x (leaf y (node b d (leaf w none)))) (leaf v g))) in
         by_forms claim here there (going lower kid again) (going low lid anew) style fresh bytes i j
         (form (leaf (token_of token.DollarBrace lead text start) (node a c (leaf (token_of token.Op shut_lead (codes "}") shut_start) f)))) target
@@ -283,16 +463,24 @@ module _ (claim : Claim) (plain : (p : Place) → claim.handled p ≡ false) (t 
     curled_declared (a_piece i p) marks lower low h id jd s n m x y a = curled_declared p marks lower low h id jd s n m x y a
     curled_declared (escaped e b i p) marks lower low h id jd s n m x y a = curled_declared p marks lower low h id jd s n m x y a
     curled_declared (simple {k} {j} {c} {d} {f} {g} r p) marks lower low h id jd s n m x y a =
-        node_declared claim t k j c d f g marks lower low h id jd s (rewritten r id s) (node_beside r s) n m x y (curled_declared p marks lower low h (suc (id + count c)) (suc (jd + count d)) (beside k c s) n m x y a)
+        node_declared claim t k j c d f g marks lower low h id jd s (rewritten r id s) (node_beside r s) n m x y
+        (curled_declared p marks lower low h (suc (id + count c)) (suc (jd + count d)) (beside k c s) n m x y a)
     curled_declared (code {shut_lead = sl} {shut_start = ss} {k = k} {j = j} {c = c} {d = d} {f = f} {g = g} {v = v} i l r p) marks lower low h id jd s n m x y a =
-        node_declared claim t k j c d (leaf (token_of token.Op sl (codes "}") ss) f) (leaf v g) marks lower low h id jd s (rewritten r id s) (node_beside r s) n m x y (curled_declared p marks lower low h (suc (id + count c)) (suc (jd + count d)) (beside k c s) n m x y a)
+        node_declared claim t k j c d (leaf (token_of token.Op sl (codes "}") ss) f) (leaf v g) marks lower low h id
+        jd s (rewritten r id s) (node_beside r s) n m x y
+        (curled_declared p marks lower low h (suc (id + count c)) (suc (jd + count d)) (beside k c s) n m x y a)
     curled_declared (name {f = f} {g = g} {x = z} {v = v} e q i p) marks lower low h id jd s n m x y a =
         subst (λ u. Across claim (declared_in false t marks lower s f id n m x) (declared_in true t [] low u g (suc (jd + count (leaf z none))) n m y)) (sym (beside_variable s))
         (curled_declared p marks lower low h id (suc (jd + count (leaf z none))) s n m x y a)
     curled_declared (offset {k = k} {j = j} {c = c} {d = d} {f = f} {g = g} {x = z} {o = o} {q = u} {v = v} e q i w r p) marks lower low h id jd s n m x y a =
         subst (λ b. Across claim (declared_in false t marks lower s (node k c f) id n m x)
-        (declared_in true t [] low b (node j d (leaf u none)) (suc (suc jd + count (leaf z none))) n m (declared_in true t [] low (beside kind.Offset (node kind.Variable (leaf z none) (leaf o (node j d (leaf u none)))) s) g (suc (jd + count (node kind.Variable (leaf z none) (leaf o (node j d (leaf u none)))))) n m y))) (sym (beside_variable s))
-        (held_declared claim t k j c d f g u marks lower low h id (suc (suc jd + count (leaf z none))) (suc (jd + count (node kind.Variable (leaf z none) (leaf o (node j d (leaf u none)))))) s
+        (declared_in true t [] low b (node j d (leaf u none)) (suc (suc jd + count (leaf z none))) n m
+        (declared_in true t [] low (beside kind.Offset (node kind.Variable (leaf z none)
+        (leaf o (node j d (leaf u none)))) s) g
+        (suc (jd + count (node kind.Variable (leaf z none) (leaf o (node j d (leaf u none)))))) n m y)))
+        (sym (beside_variable s))
+        (held_declared claim t k j c d f g u marks lower low h id (suc (suc jd + count (leaf z none)))
+        (suc (jd + count (node kind.Variable (leaf z none) (leaf o (node j d (leaf u none)))))) s
         (beside kind.Offset (node kind.Variable (leaf z none) (leaf o (node j d (leaf u none)))) s) (rewritten r id s) (offset_beside z o u w r s) n m x y
         (curled_declared p marks lower low h (suc (id + count c)) (suc (jd + count (node kind.Variable (leaf z none) (leaf o (node j d (leaf u none)))))) (beside k c s) n m x y a))
     curled_declared (expression {k = k} {j = j} {c = c} {d = d} {f = f} {g = g} {a = z} {b = o} {q = u} e i w r p) marks lower low h id jd s n m x y a =

@@ -1,5 +1,32 @@
 -- What rewritten trees have of the source's: forms, numbers of declarations, sites and tables.
-use Rattle.std.proofs.Common.{◌≡◌, ℕ, ◌+◌, suc, Bool, true, false, ◌&&◌, ◌||◌, IsTrue, List, [], ◌∷◌, ◌++◌, codes, Option, None, refl, ap, sym, ◌∙◌, subst, arith, append-nil, append_assoc, zero-add}
+use Rattle.std.proofs.Common.{
+  ◌≡◌,
+  ℕ,
+  ◌+◌,
+  suc,
+  Bool,
+  true,
+  false,
+  ◌&&◌,
+  ◌||◌,
+  IsTrue,
+  List,
+  [],
+  ◌∷◌,
+  ◌++◌,
+  codes,
+  Option,
+  None,
+  refl,
+  ap,
+  sym,
+  ◌∙◌,
+  subst,
+  arith,
+  append-nil,
+  append_assoc,
+  zero-add,
+}
 use Rattle.std.proofs.lemmas.Bool.{true≢false}
 use Rattle.php_tree.specs.declared.token.TokenKind.{TokenKind}
 use Rattle.php_tree.specs.declared.token.TokenKind.TheVariants as token
@@ -15,7 +42,29 @@ use Rattle.php_meaning.specs.runs.Kinds.{is_expression}
 use Rattle.php_meaning.specs.names.Tables.{Tables, tables_of, listed, entry, holder, keeps_top, kid_forms, kid_before}
 use Rattle.php_meaning.proofs.Parens.{same_before, Plain, expression_plain}
 use Rattle.syntax_rules.specs.Keeps.{token_of}
-use Rattle.syntax_rules.proofs.Rewrites.{IsToken, Rewrites, ends, same_token, inner, changed, parens, Changed, brackets, float, null, curled, Curled, closing, piece, escaped, simple, code, name, offset, expression}
+use Rattle.syntax_rules.proofs.Rewrites.{
+  IsToken,
+  Rewrites,
+  ends,
+  same_token,
+  inner,
+  changed,
+  parens,
+  Changed,
+  brackets,
+  float,
+  null,
+  curled,
+  Curled,
+  closing,
+  piece,
+  escaped,
+  simple,
+  code,
+  name,
+  offset,
+  expression,
+}
 
 -- ---- forms
 
@@ -255,7 +304,9 @@ mutual
   curled_lists (code {k = k} {c = c} {f = f} {g = g} {v = v} i l r p) s = node_lists r s None false f (leaf v g) (curled_lists p (beside k c s))
   curled_lists (name {g = g} e x j p) s = ap (λ z. listed z None false g) (beside_variable s) ∙ curled_lists p s
   curled_lists (offset {k = k} {j = j} {c = c} {d = d} {f = f} {g = g} {x = x} {o = o} {q = q} e n i z r p) s =
-      ap (λ u. listed u None false (node j d (leaf q none)) ++ listed (beside kind.Offset (node kind.Variable (leaf x none) (leaf o (node j d (leaf q none)))) s) None false g) (beside_variable s)
+      ap (λ u. listed u None false (node j d (leaf q none)) ++ listed
+      (beside kind.Offset (node kind.Variable (leaf x none) (leaf o (node j d (leaf q none)))) s) None false g)
+      (beside_variable s)
       ∙ held_list k j c d f g q (beside kind.Offset (node kind.Variable (leaf x none) (leaf o (node j d (leaf q none)))) s) s (offset_beside x o q z r s)
       (node_lists r s None false none (leaf q none) refl) (curled_lists p (beside k c s))
   curled_lists (expression {k = k} {j = j} {c = c} {d = d} {f = f} {g = g} {a = x} {b = o} {q = q} e i z r p) s =

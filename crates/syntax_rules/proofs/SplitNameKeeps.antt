@@ -4,7 +4,22 @@ use Rattle.tracked_changes.specs.Pieces.{Piece, changed, before}
 use Rattle.tracked_changes.specs.Draft.{NewToken, Draft, no_more, new_leaf, new_node, token_pieces, pieces}
 use Rattle.tracked_changes.proofs.Joining.{before-append}
 use Rattle.tracked_changes.proofs.Keeping.{SameToken, SameBytes, same_leaf, same_node, same_if, same_draft_if}
-use Rattle.syntax_rules.specs.SplitName.{split_name, is_one, deleted, one_name, in_front, whole_names, space_before, is_nothing, keyword_behind, is_name, begins_root, keyword_last, apart, SplitNameIsWritten}
+use Rattle.syntax_rules.specs.SplitName.{
+  split_name,
+  is_one,
+  deleted,
+  one_name,
+  in_front,
+  whole_names,
+  space_before,
+  is_nothing,
+  keyword_behind,
+  is_name,
+  begins_root,
+  keyword_last,
+  apart,
+  SplitNameIsWritten,
+}
 
 deleted_keeps : (bytes : List ℕ) → before (deleted bytes) ≡ bytes
 deleted_keeps [] = refl

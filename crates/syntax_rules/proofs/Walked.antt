@@ -1,5 +1,41 @@
 -- What the walk by all rules makes of a tree, before names are joined, is the tree rewritten.
-use Rattle.std.proofs.Common.{◌≡◌, ℕ, zero, suc, ◌+◌, ◌<◌, Bool, true, false, ◌&&◌, ◌||◌, ◌==◌, if◌then◌else◌, cond, IsTrue, List, [], ◌∷◌, ◌++◌, length, codes, Option, None, Some, refl, ap, sym, ◌∙◌, subst, arith, append-nil, slice_get, length-append, add-zero, zero-add}
+use Rattle.std.proofs.Common.{
+  ◌≡◌,
+  ℕ,
+  zero,
+  suc,
+  ◌+◌,
+  ◌<◌,
+  Bool,
+  true,
+  false,
+  ◌&&◌,
+  ◌||◌,
+  ◌==◌,
+  if◌then◌else◌,
+  cond,
+  IsTrue,
+  List,
+  [],
+  ◌∷◌,
+  ◌++◌,
+  length,
+  codes,
+  Option,
+  None,
+  Some,
+  refl,
+  ap,
+  sym,
+  ◌∙◌,
+  subst,
+  arith,
+  append-nil,
+  slice_get,
+  length-append,
+  add-zero,
+  zero-add,
+}
 use Rattle.std.specs.Prelude.{unwrap_or}
 use Rattle.std.specs.Str.{bytes_eq}
 use Rattle.std.proofs.lemmas.Slice.Eq.{bytes_eq-Decides}
@@ -25,10 +61,50 @@ use Rattle.syntax_rules.specs.RealCast.{real_cast}
 use Rattle.syntax_rules.specs.UnsetCast.{of_variable, is_variable, unset_cast}
 use Rattle.syntax_rules.specs.DollarBrace.{is_dollar_brace, is_piece, begins_dollar_brace, ends_bare, before_last, escaped, opened, parts, dollar_brace}
 use Rattle.syntax_rules.specs.Together.{Choice, rewriting, node_by, token_by}
-use Rattle.syntax_rules.specs.Keeps.{token_of, opens_text, is_common, AreFormed, nothing, token_first, common, braced, a_cast, text, IsQuoted, closing, piece, simple, code, name, offset, expression}
+use Rattle.syntax_rules.specs.Keeps.{
+  token_of,
+  opens_text,
+  is_common,
+  AreFormed,
+  nothing,
+  token_first,
+  common,
+  braced,
+  a_cast,
+  text,
+  IsQuoted,
+  closing,
+  piece,
+  simple,
+  code,
+  name,
+  offset,
+  expression,
+}
 use Rattle.syntax_rules.proofs.ParenLemmas.{MayWrap}
 use Rattle.syntax_rules.proofs.Rewrites as became
-use Rattle.syntax_rules.proofs.Rewrites.{IsToken, begins, Rewrites, ends, same_token, inner, changed, parens, Changed, brackets, float, null, curled, Curled, SameTokens, no_token, one_token, one_node, stays, before_others}
+use Rattle.syntax_rules.proofs.Rewrites.{
+  IsToken,
+  begins,
+  Rewrites,
+  ends,
+  same_token,
+  inner,
+  changed,
+  parens,
+  Changed,
+  brackets,
+  float,
+  null,
+  curled,
+  Curled,
+  SameTokens,
+  no_token,
+  one_token,
+  one_node,
+  stays,
+  before_others,
+}
 
 -- ---- tokens
 
@@ -104,7 +180,8 @@ plain_cast t k (leaf x (leaf y f)) h = cc
 plain_cast t k (leaf x (node j d f)) h = cc
 plain_cast t k (node j d f) h = cc
 
-null_becomes : (x : Token) (k : NodeKind) (c : Forest) (d : Draft) → IsPlainCast k c → cast_word x.text ≡ codes "(unset)" → Becomes kind.Cast (leaf x (node k c none)) (unset_cast (kind.Cast, d))
+null_becomes : (x : Token) (k : NodeKind) (c : Forest) (d : Draft) → IsPlainCast k c
+    → cast_word x.text ≡ codes "(unset)" → Becomes kind.Cast (leaf x (node k c none)) (unset_cast (kind.Cast, d))
 null_becomes x k c d q e =
     subst (λ j. Becomes kind.Cast (leaf x (node j c none)) (unset_cast (kind.Cast, d))) (sym q.kind_is)
     (subst (λ b. Becomes kind.Cast (leaf x (node kind.Variable b none)) (unset_cast (kind.Cast, d))) (sym q.parts_are)
@@ -165,7 +242,8 @@ piece_becomes r lead word start f d true e p = by_end (ends_bare false (word ++ 
   where
     by_end : (b : Bool) → ends_bare false (word ++ []) ≡ b
         → Curled (leaf (token_of token.Piece lead word start) f)
-        (rewritten (new_leaf (if b then record (token_by r (token_of token.Piece lead word start)) { text = before_last (word ++ []) } else token_by r (token_of token.Piece lead word start)) d))
+        (rewritten (new_leaf (if b then record (token_by r (token_of token.Piece lead word start))
+        { text = before_last (word ++ []) } else token_by r (token_of token.Piece lead word start)) d))
     by_end true h =
         became.escaped {new = after (before_last (word ++ []))} (ap (ends_bare false) (sym (append-nil word)) ∙ h) (sym e) (record { kind_is = refl; text_is = refl }) p
     by_end false h = became.piece (token_walked r (token_of token.Piece lead word start)) p
@@ -179,7 +257,11 @@ opening_kind k h = cc
 text_becomes : (r : Rules) (x : Token) (c : Forest) (d : Draft) → IsTrue (opens_text x.kind) → Curled c (rewritten (parts d))
     → Becomes kind.Quoted (leaf x c) (dollar_brace (kind.Quoted, new_leaf (token_by r x) d))
 text_becomes r x c d h p =
-    subst (λ b. Becomes kind.Quoted (leaf x c) (kind.Quoted, if b then opened (token_by r x) (parts d) else new_leaf (if is_piece x.kind && begins_dollar_brace d then escaped (token_by r x) else token_by r x) (parts d)))
+    subst (λ b. Becomes kind.Quoted (leaf x c) (
+      kind.Quoted,
+      if b then opened (token_by r x) (parts d) else new_leaf
+          (if is_piece x.kind && begins_dollar_brace d then escaped (token_by r x) else token_by r x) (parts d),
+    ))
     (sym (opening_kind x.kind h).0)
     (subst (λ b. Becomes kind.Quoted (leaf x c) (kind.Quoted, new_leaf (if b && begins_dollar_brace d then escaped (token_by r x) else token_by r x) (parts d)))
     (sym (opening_kind x.kind h).1)
@@ -285,7 +367,9 @@ mutual
   curled_walked : (r : Rules) (p : Patches) (id : ℕ) {f : Forest} → IsQuoted f → Wraps p id f → Curled f (rewritten (parts (drafted (rewriting (chosen r p)) id f)))
   curled_walked r p id (closing {lead} {text = word} {start}) w = became.closing (token_walked r (token_of token.QuotedEnd lead word start))
   curled_walked r p id (piece {lead} {text = word} {start} {f} q) w =
-      piece_becomes r lead word start f (parts (drafted (rewriting (chosen r p)) id f)) (begins_dollar_brace (drafted (rewriting (chosen r p)) id f)) (begins_same r p id f) (curled_walked r p id q w)
+      piece_becomes r lead word start f (parts (drafted (rewriting (chosen r p)) id f))
+      (begins_dollar_brace (drafted (rewriting (chosen r p)) id f)) (begins_same r p id f)
+      (curled_walked r p id q w)
   curled_walked r p id (simple {k} {c} {f} a q) w =
       became.simple (walked r p id a (w.0, w.1, tt)) (curled_walked r p (suc (id + count c)) q w.2)
   curled_walked r p id (code {lead} {text = word} {shut_lead} {start} {shut_start} {k} {c} {f} a q) w =

@@ -1,5 +1,36 @@
 -- The rules that group put parentheses round expressions alone.
-use Rattle.std.proofs.Common.{◌≡◌, ℕ, zero, suc, ◌+◌, ◌<◌, Bool, true, false, ◌&&◌, ◌||◌, cond, IsTrue, List, [], ◌∷◌, ◌++◌, length, Option, Some, None, refl, ap, sym, ◌∙◌, subst, arith, length-append, add-zero, zero-add}
+use Rattle.std.proofs.Common.{
+  ◌≡◌,
+  ℕ,
+  zero,
+  suc,
+  ◌+◌,
+  ◌<◌,
+  Bool,
+  true,
+  false,
+  ◌&&◌,
+  ◌||◌,
+  cond,
+  IsTrue,
+  List,
+  [],
+  ◌∷◌,
+  ◌++◌,
+  length,
+  Option,
+  Some,
+  None,
+  refl,
+  ap,
+  sym,
+  ◌∙◌,
+  subst,
+  arith,
+  length-append,
+  add-zero,
+  zero-add,
+}
 use Rattle.php_tree.specs.declared.kind.NodeKind.{NodeKind}
 use Rattle.php_tree.specs.declared.kind.NodeKind.TheVariants as kind
 use Rattle.php_tree.specs.Tree.{Forest, none, leaf, node, Tree, count}
@@ -56,12 +87,14 @@ length-wrappings r a i (node k c f) =
 abbrev Agrees : Rules → Patches → ℕ → (Bool → Option Around) → Bool → Forest → Type 0
 Agrees r p id a i f = (j : ℕ) → j < count f → p (id + j) ≡ entry (wrappings_by r a i f) j
 
-agrees_inside : (r : Rules) (p : Patches) (id : ℕ) (a : Bool → Option Around) (i : Bool) (k : NodeKind) (c f : Forest) → Agrees r p id a i (node k c f) → Agrees r p (suc id) (within k c) true c
+agrees_inside : (r : Rules) (p : Patches) (id : ℕ) (a : Bool → Option Around) (i : Bool) (k : NodeKind) (c f : Forest)
+    → Agrees r p id a i (node k c f) → Agrees r p (suc id) (within k c) true c
 agrees_inside r p id a i k c f h j below =
     ap p (omega arith) ∙ h (suc j) (omega arith)
     ∙ entry-within (wrappings_by r (within k c) true c) (wrappings_by r a false f) j (omega (arith, length-wrappings r (within k c) true c))
 
-agrees_after : (r : Rules) (p : Patches) (id : ℕ) (a : Bool → Option Around) (i : Bool) (k : NodeKind) (c f : Forest) → Agrees r p id a i (node k c f) → Agrees r p (suc (id + count c)) a false f
+agrees_after : (r : Rules) (p : Patches) (id : ℕ) (a : Bool → Option Around) (i : Bool) (k : NodeKind) (c f : Forest)
+    → Agrees r p id a i (node k c f) → Agrees r p (suc (id + count c)) a false f
 agrees_after r p id a i k c f h j below =
     ap p (omega arith) ∙ h (suc (count c + j)) (omega arith)
     ∙ entry-behind (wrappings_by r (within k c) true c) (wrappings_by r a false f) (count c + j) j (omega (arith, length-wrappings r (within k c) true c))

@@ -32,5 +32,6 @@ BracesDoTheSame =
     → (quote opening variable : Token) (dollar_lead dollar_text word brace_lead lead text : List ℕ) (dollar_start word_start brace_start start : ℕ)
     → opening.kind ≡ token.CurlyOpen → variable.text ≡ 36 ∷ word
     → DoesAcross claim t t s
-    kind.Quoted (leaf quote (leaf (token_of token.DollarBrace dollar_lead dollar_text dollar_start) (leaf (token_of token.VarName [] word word_start) (ending brace_lead brace_start lead text start))))
+    kind.Quoted (leaf quote (leaf (token_of token.DollarBrace dollar_lead dollar_text dollar_start)
+    (leaf (token_of token.VarName [] word word_start) (ending brace_lead brace_start lead text start))))
     kind.Quoted (leaf quote (leaf opening (node kind.Variable (leaf variable none) (ending brace_lead brace_start lead text start))))

@@ -1,6 +1,31 @@
 -- Builtins that make texts. (PHP manual, "String Functions": implode, explode, str_repeat, trim, chr, ord, strlen,
 -- substr.)
-use Rattle.std.specs.Prelude.{ℕ, zero, suc, ◌+◌, Bool, true, false, ◌||◌, if◌then◌else◌, ◌==◌, nat_le, nat_lt, List, [], ◌∷◌, ◌++◌, codes, ℤ, pos, negsuc, length, drop, take, reverse}
+use Rattle.std.specs.Prelude.{
+  ℕ,
+  zero,
+  suc,
+  ◌+◌,
+  Bool,
+  true,
+  false,
+  ◌||◌,
+  if◌then◌else◌,
+  ◌==◌,
+  nat_le,
+  nat_lt,
+  List,
+  [],
+  ◌∷◌,
+  ◌++◌,
+  codes,
+  ℤ,
+  pos,
+  negsuc,
+  length,
+  drop,
+  take,
+  reverse,
+}
 use Rattle.php_meaning.specs.values.Value.{Value, Truth, Int, Text, Entries, none, own, shared}
 use Rattle.php_meaning.specs.Cause.{Call, TypeError, Outcome, Gives, Outside, Came, Returns, Throws, and_then, outcome_map}
 use Rattle.php_meaning.specs.Differences.{ByVersion, Alike, Differs, Builtin}

@@ -1,6 +1,6 @@
 -- Scripts of functions: declaring, calling, parameters; and of the variables that a body shares. (PHP manual,
 -- "Functions", "Variable scope".)
-use Rattle.std.specs.Prelude.{ℕ, zero, suc, ◌-◌, Bool, true, false, not, ◌&&◌, ◌||◌, cond, if◌then◌else◌, List, [], ◌∷◌, ◌++◌, codes, pos, is_some, Option, Some, None}
+use Rattle.std.specs.Prelude.{ℕ, zero, suc, ◌-◌, Bool, true, false, not, ◌&&◌, ◌||◌, cond, if◌then◌else◌, List, [], ◌∷◌, ◌++◌, codes, pos, is_none, is_some, Option, Some, None}
 use Rattle.std.specs.Str.{bytes_eq, str_to_ascii_lowercase}
 use Rattle.php_tree.specs.declared.kind.NodeKind.{NodeKind}
 use Rattle.php_tree.specs.declared.kind.NodeKind.TheVariants as kind
@@ -20,7 +20,32 @@ use Rattle.php_meaning.specs.runs.Stores.{same_name, next_cell, with_cell, varia
 use Rattle.php_meaning.specs.literals.Literals.{found, behind_backslash}
 use Rattle.php_meaning.specs.expressions.Expressions.{plain_name}
 use Rattle.php_meaning.specs.expressions.Assigning.{Properties, kept_then, cell_then}
-use Rattle.php_meaning.specs.runs.Script.{Return, Throw, Out, Fresh, Jump, Mode, Read, Name, Against, Given, Entered, Kid, There, Script, Give, Stop, Look, Put, Run, give, value_then, child_location, asking, throws}
+use Rattle.php_meaning.specs.runs.Script.{
+  Return,
+  Throw,
+  Out,
+  Fresh,
+  Jump,
+  Mode,
+  Read,
+  Name,
+  Against,
+  Given,
+  Entered,
+  Kid,
+  There,
+  Script,
+  Give,
+  Stop,
+  Look,
+  Put,
+  Run,
+  give,
+  value_then,
+  child_location,
+  asking,
+  throws,
+}
 
 -- ---- names of declarations
 
@@ -73,19 +98,29 @@ reach_function t s = elim (declaration_at t (declared_here s)) [
 
 -- ---- calling
 
--- which parameters are by reference
-abbrev pub reference_marks : List (NodeKind × Form) → List Bool
-reference_marks [] = []
-reference_marks ((kind.Param, f) ∷ ks) = has_word (codes "&") (texts f) ∷ reference_marks ks
-reference_marks (k ∷ ks) = reference_marks ks
+-- the variable of a parameter
+abbrev pub is_dollar : ℕ → Bool
+is_dollar b = bytes_eq (b ∷ []) (codes "$")
+
+abbrev pub variable_word : List Bytes → Bytes
+variable_word [] = []
+variable_word ([] ∷ ws) = variable_word ws
+variable_word ((b ∷ bs) ∷ ws) = cond (is_dollar b) bs (variable_word ws)
+
+-- the slots of a declaration's parameters, where they are by reference
+abbrev pub takers : Declared → List (NodeKind × Form) → List (Option Slot)
+takers d [] = []
+takers d ((kind.Param, f) ∷ ks) =
+    cond (has_word (codes "&") (texts f)) (Some (variable_slot (Some d) (variable_word (texts f)))) None ∷ takers d ks
+takers d (k ∷ ks) = takers d ks
 
 -- The arguments, from the child `i` on, behind those so far: an array whose entries are shared where they are by
 -- reference.
-abbrev pub arguments : Properties → Site → ℕ → ℕ → List Bool → Entries → Script
+abbrev pub arguments : Properties → Site → ℕ → ℕ → List (Option Slot) → Entries → Script
 arguments properties s i zero marks es = Give (Fresh (Arr None i es))
-arguments properties s i (suc n) (true ∷ marks) es =
-    child_location i (λ l. cell_then properties s l (λ c. arguments properties s (suc i) n marks (behind es (IntKey (pos i)) i (Shared c))))
-arguments properties s i (suc n) (false ∷ marks) es =
+arguments properties s i (suc n) (Some taker ∷ marks) es =
+    child_location i (λ l. cell_then properties s taker l (λ c. arguments properties s (suc i) n marks (behind es (IntKey (pos i)) i (Shared c))))
+arguments properties s i (suc n) (None ∷ marks) es =
     Run (Kid i Read) (kept_then (λ v. arguments properties s (suc i) n marks (behind es (IntKey (pos i)) i (Own v))))
 arguments properties s i (suc n) [] es =
     Run (Kid i Read) (kept_then (λ v. arguments properties s (suc i) n [] (behind es (IntKey (pos i)) i (Own v))))
@@ -142,7 +177,7 @@ may_be_called d =
 abbrev pub call : ℕ → table.Declaration → Option ℕ → Option Bytes → (Out → Script) → Script
 call i d this class k =
     Look (λ s. if is_some s.here.item || not (may_be_called d) then Stop Call else
-    Run (Kid i (Given (reference_marks d.kids))) (entries_then (call_with d this class k)))
+    Run (Kid i (Given (takers d.at d.kids))) (entries_then (call_with d this class k)))
 
 -- ---- bodies
 
@@ -171,18 +206,10 @@ body_script f = enter_body f 0 (kids f - 1 - cond (has_type f) 1 0)
 
 -- ---- parameters
 
-abbrev pub is_dollar : ℕ → Bool
-is_dollar b = bytes_eq (b ∷ []) (codes "$")
-
-abbrev pub variable_word : List Bytes → Bytes
-variable_word [] = []
-variable_word ([] ∷ ws) = variable_word ws
-variable_word ((b ∷ bs) ∷ ws) = cond (is_dollar b) bs (variable_word ws)
-
 -- a variable of the body with a value
 abbrev pub with_local : Site → Bytes → Value → Store → Store
 with_local s name v st =
-    let c = next_cell (variable_slot s.body name) st in with_variable name c (with_cell v st)
+    let slot = variable_slot s.body name in with_variable name (next_cell slot st) (with_cell slot v st)
 
 abbrev pub has_default : Form → Bool
 has_default f = has_word (codes "=") (texts f)
@@ -249,8 +276,9 @@ abbrev pub file_variable : Bytes → (Cell → Script) → Script
 file_variable name k = Look (λ s. elim (found s.globals name) [
   | Some c ↦ k c
   | None ↦
-      let c = next_cell (variable_slot None name) s in
-      Put (record (with_cell Null s) { globals = (name, c) ∷ s.globals }) (k c)
+      let slot = variable_slot None name in
+      let c = next_cell slot s in
+      Put (record (with_cell slot Null s) { globals = (name, c) ∷ s.globals }) (k c)
 ])
 
 abbrev pub global_all : ℕ → ℕ → Script
@@ -275,15 +303,20 @@ static_cell ((StaticVariable e n, o, c) ∷ cs) d name class =
 static_cell (c ∷ cs) d name class = static_cell cs d name class
 
 abbrev pub static_owner : Site → Store → ByVersion (Option Bytes)
-static_owner s st = if same_class s.class st.here.class then Alike s.class else Differs StaticsOfChild st.here.class s.class
+static_owner s st =
+    if is_none s.body || same_class s.class st.here.class then Alike s.class else Differs StaticsOfChild st.here.class s.class
+
+-- A static variable of a file's own code is outside where it is there: PHP makes new ones each time that the file is included.
+abbrev pub unless_included : Site → Script → Script
+unless_included s k = if is_none s.body then Stop Declaration else k
 
 abbrev pub bind_static : Site → Bytes → ((Value → Script) → Script) → Script → Script
 bind_static s name first k = Look (λ st. asking (static_owner s st) (λ class. elim (static_cell st.statics (declared_here s) name class) [
-  | Some c ↦ Put (with_variable name c st) k
+  | Some c ↦ unless_included s (Put (with_variable name c st) k)
   | None ↦ first (λ v. Look (λ u.
       let slot : Slot = StaticVariable (declared_here s) name in
       let c : Cell = next_cell slot u in
-      Put (with_variable name c (record (with_cell v u) { statics = (slot, class, c) ∷ u.statics })) k))
+      Put (with_variable name c (record (with_cell slot v u) { statics = (slot, class, c) ∷ u.statics })) k))
 ]))
 
 abbrev pub statics : Site → ℕ → Form → Script

@@ -16,7 +16,20 @@ use Rattle.php_meaning.specs.names.Tables as table
 use Rattle.php_meaning.specs.names.Reserved.{is_class_newer}
 use Rattle.php_meaning.specs.runs.Stores.{same_name}
 use Rattle.php_meaning.specs.calls.Bodies.{function_word, is_declared, declare, has_body}
-use Rattle.php_meaning.specs.classes.Lines.{is_class, is_interface, class_name, class_parent, declared_class, builtin_class, interfaces_of, listed_by, all_of, kin_within, line_within, is_in}
+use Rattle.php_meaning.specs.classes.Lines.{
+  is_class,
+  is_interface,
+  class_name,
+  class_parent,
+  declared_class,
+  builtin_class,
+  interfaces_of,
+  listed_by,
+  all_of,
+  kin_within,
+  line_within,
+  is_in,
+}
 use Rattle.php_meaning.specs.classes.Members.{is_method, is_property, is_constant, belongs, declared_line, method_in, has_modifier, listed, listed_constants}
 use Rattle.php_meaning.specs.runs.Script.{Script, Stop, Look, give}
 use Rattle.php_meaning.specs.values.Value.{Null}

@@ -35,7 +35,8 @@ abbrev pub handlers : Site → ℕ → List Bytes → Bytes → List Bit → Lis
 handlers s i names name [] = []
 handlers s i names name (Child ∷ f) = handlers s (suc i) [] [] f
 handlers s i names name (Word _ w ∷ f) =
-    if is_keyword (codes "catch") w || bytes_eq w (codes "(") || is_keyword (codes "try") w || is_keyword (codes "finally") w || bytes_eq w (codes ")") then handlers s i names name f
+    if is_keyword (codes "catch") w || bytes_eq w (codes "(") || is_keyword (codes "try") w
+    || is_keyword (codes "finally") w || bytes_eq w (codes ")") then handlers s i names name f
     else (if bytes_eq w (codes "|") then handlers s i (class_named s name ∷ names) [] f
     else (if is_dollar w then record { classes = class_named s name ∷ names; variable = plain_name w; block = i } ∷ handlers s i [] [] f
     else handlers s i names (name ++ w) f))

@@ -10,13 +10,13 @@ use Rattle.scope_names.specs.Words.{first_word, behind_word}
 use Rattle.scope_names.specs.Sites.{Site}
 use Rattle.php_meaning.specs.names.Tables.{Tables}
 use Rattle.php_meaning.specs.names.Tables as table
-use Rattle.php_meaning.specs.runs.Stores.{next_cell, with_cell, object_at, cell_of, with_property, without_property}
-use Rattle.php_meaning.specs.expressions.Assigning.{Properties}
+use Rattle.php_meaning.specs.runs.Stores.{object_at, cell_of, with_property, without_property}
+use Rattle.php_meaning.specs.expressions.Assigning.{Properties, Base, Made, Unmade}
 use Rattle.php_meaning.specs.classes.Lines.{class_name, declared_class, line, is_a}
 use Rattle.php_meaning.specs.classes.Members.{declared_line, has_modifier, is_seen, own_property}
 use Rattle.php_meaning.specs.classes.Declaring.{is_listed, exception_properties}
 use Rattle.php_meaning.specs.classes.Types.{typing_of, of_type}
-use Rattle.php_meaning.specs.runs.Script.{Typing, Untyped, Typed, Unwritten, Script, Stop, Look, Put, give, throws}
+use Rattle.php_meaning.specs.runs.Script.{Typing, Untyped, Typed, Script, Stop, Look, Put, give, throws}
 
 -- ---- properties
 
@@ -76,25 +76,17 @@ found_then t site n name unseen k = Look (λ s.
 
 -- ---- the cell of a property, and its value
 
--- one that was never written, where it has a type
-abbrev pub unwritten : Typing → Typing
-unwritten Untyped = Untyped
-unwritten (Typed d) = Unwritten d
-unwritten (Unwritten d) = Unwritten d
-
-abbrev pub cell_or_made : ℕ → Found → Bytes → (Cell → Typing → Script) → Store → Script
-cell_or_made n f name k s = elim (cell_of n f.member s) [
-  | Some c ↦ k c f.typing
-  | None ↦
-      let c = next_cell (slot.Property name) s in
-      Put (with_property n f.member c (with_cell Null s)) (k c (unwritten f.typing))
+abbrev pub property_base : ℕ → Found → Bytes → Store → Base
+property_base n f name s = elim (cell_of n f.member s) [
+  | Some c ↦ Made c f.typing
+  | None ↦ Unmade (slot.Property name) f.typing (with_property n f.member)
 ]
 
--- the cell of a property, made where there is none
-abbrev pub property_cell_then : Tables → Site → Value → Bytes → (Cell → Typing → Script) → Script
-property_cell_then t site (Object n) name k =
-    found_then t site n name (throws Error) (λ f. Look (cell_or_made n f name k))
-property_cell_then t site v name k = Stop Reference
+-- what a location in a property begins with
+abbrev pub property_base_then : Tables → Site → Value → Bytes → (Base → Script) → Script
+property_base_then t site (Object n) name k =
+    found_then t site n name (throws Error) (λ f. Look (λ s. k (property_base n f name s)))
+property_base_then t site v name k = Stop Reference
 
 -- what reading a property gives that has no cell: null, and outside where it has a type
 abbrev pub read_missing : Typing → (Value → Script) → Script
@@ -125,7 +117,7 @@ unset_property t site v name = Stop Reference
 
 abbrev pub properties_at : Tables → Site → Properties
 properties_at t site = record {
-  cell = property_cell_then t site;
+  base = property_base_then t site;
   quietly = property_quietly t site;
   typed = of_type t;
 }

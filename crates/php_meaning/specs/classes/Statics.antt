@@ -12,7 +12,7 @@ use Rattle.scope_names.specs.Words.{first_word, behind_word}
 use Rattle.scope_names.specs.Sites.{Site}
 use Rattle.php_meaning.specs.names.Tables.{Tables, is_same_declared}
 use Rattle.php_meaning.specs.literals.Literals.{found, behind_backslash}
-use Rattle.php_meaning.specs.runs.Stores.{same_name, next_cell, with_static, static_property_cell, object_at}
+use Rattle.php_meaning.specs.runs.Stores.{same_name, next_cell, with_cell, with_static, static_property_cell, object_at}
 use Rattle.php_meaning.specs.expressions.Expressions.{plain_name}
 use Rattle.php_meaning.specs.classes.Lines.{line, kin, is_a, no_class, class_then}
 use Rattle.php_meaning.specs.classes.Members.{declared_line, is_seen, Listed, own_constant, own_static, first_listed}
@@ -71,8 +71,9 @@ abbrev pub first_value : Tables → Listed → Bytes → (Value → Script) → 
 first_value t l class k = value_of_item l class (λ v. of_form t l.0.site (type_form l.0.kids) v (k v))
 
 abbrev pub make_static : Bytes → Bytes → Value → (Cell → Script) → Script
-make_static class name v k =
-    Look (λ s. Put (with_static class name v s) (k (next_cell (slot.StaticProperty name) s)))
+make_static class name v k = Look (λ s.
+    let c = next_cell (slot.StaticProperty name) s in
+    Put (with_static class name c (with_cell (slot.StaticProperty name) v s)) (k c))
 
 -- The cell of a static property, made when it is first used; none, where it has a type and no value is written down.
 abbrev pub find_static : Tables → Listed → Bytes → Bytes → Script → (Cell → Typing → Script) → Script

@@ -1,7 +1,7 @@
 -- Scripts that read, write, bind and unset locations. (PHP manual, "Variables", "Assignment Operators", "References
 -- Explained".)
-use Rattle.std.specs.Prelude.{ℕ, suc, ◌+◌, List, [], ◌∷◌, Option, Some, None}
-use Rattle.scope_names.specs.Slot.{Declared, StaticProperty}
+use Rattle.std.specs.Prelude.{ℕ, suc, ◌+◌, Bool, true, false, List, [], ◌∷◌, Option, Some, None}
+use Rattle.scope_names.specs.Slot.{Declared, Slot, StaticProperty, Unnamed}
 use Rattle.php_meaning.specs.values.Offsets.{Strict, Quiet}
 use Rattle.php_meaning.specs.values.Value.{Value, Null, Arr, Cell, Entries, none, own, shared}
 use Rattle.php_meaning.specs.Cause.{Outcome, NoRule, Reference}
@@ -9,9 +9,45 @@ use Rattle.php_meaning.specs.Differences.{ByVersion}
 use Rattle.php_meaning.specs.values.Copies.{copied}
 use Rattle.php_meaning.specs.runs.World.{Bytes, Store}
 use Rattle.scope_names.specs.Sites.{Site}
-use Rattle.php_meaning.specs.runs.Stores.{cells_of, next_cell, with_cell, with_value, held_or_null, variable_cell, variable_slot, with_variable, without_variable, static_property_cell, with_static}
+use Rattle.php_meaning.specs.runs.Stores.{
+  cells_of,
+  next_cell,
+  with_cell,
+  with_value,
+  held_or_null,
+  variable_cell,
+  variable_slot,
+  with_variable,
+  without_variable,
+  static_property_cell,
+  with_static,
+}
 use Rattle.php_meaning.specs.runs.Locations.{Change, Changed, Refused, value_at, changed_at, written, shared_at, bound_at, unset_at, front, last_of}
-use Rattle.php_meaning.specs.runs.Script.{Typing, Untyped, Typed, Unwritten, Root, InVariable, InCell, InProperty, InStatic, Location, Out, Val, Fresh, At, Jump, Script, Give, Stop, Look, Put, given, asking, came_then, throws}
+use Rattle.php_meaning.specs.runs.Script.{
+  Typing,
+  Untyped,
+  Typed,
+  Root,
+  InVariable,
+  InCell,
+  InProperty,
+  InStatic,
+  Location,
+  Out,
+  Val,
+  Fresh,
+  At,
+  Jump,
+  Script,
+  Give,
+  Stop,
+  Look,
+  Put,
+  given,
+  asking,
+  came_then,
+  throws,
+}
 
 -- ---- values that are kept
 
@@ -43,64 +79,80 @@ kept_then k (Fresh v) = k v
 kept_then k (At l) = Stop NoRule
 kept_then k (Jump w) = Give (Jump w)
 
--- ---- locations
+-- ---- where locations begin
 
--- the cell of a variable, made where there is none
-abbrev pub variable_then : Site → Bytes → (Cell → Script) → Script
-variable_then site name k =
-    Look (λ s. elim (variable_cell name s) [
-      | Some c ↦ k c
-      | None ↦
-          let c = next_cell (variable_slot site.body name) s in
-          Put (with_variable name c (with_cell Null s)) (k c)
-    ])
+-- What a location begins with, in a store: a cell; or none yet, then with the slot of the cell that is to be made, and how it is
+-- held from then on. A property that has a type and no cell was never written.
+pub data Base : Type 0 where
+  Made : Cell → Typing → Base
+  Unmade : Slot → Typing → (Cell → Store → Store) → Base
 
--- What depends on classes, for code at a site: how the cell of a property is found, with its type; the value of a property
--- where nothing is said of what isn't there; and what comes where a value is of the type that a declaration has, which is
--- outside for any other value.
+abbrev pub base_value : Base → Store → Value
+base_value (Made c typing) s = s.held c
+base_value (Unmade slot typing hold) s = Null
+
+abbrev pub base_typing : Base → Typing
+base_typing (Made c typing) = typing
+base_typing (Unmade slot typing hold) = typing
+
+-- the store with a value there: a new cell gets it when it is made
+abbrev pub with_base : Base → Value → Store → Store
+with_base (Made c typing) v s = with_value c v s
+with_base (Unmade slot typing hold) v s = hold (next_cell slot s) (with_cell slot v s)
+
+abbrev pub variable_base : Site → Bytes → Store → Base
+variable_base site name s = elim (variable_cell name s) [
+  | Some c ↦ Made c Untyped
+  | None ↦ Unmade (variable_slot site.body name) Untyped (with_variable name)
+]
+
+-- a static property that has a type and maybe no value yet
+abbrev pub static_base : Bytes → Bytes → Declared → Store → Base
+static_base class name d s = elim (static_property_cell s.statics class name) [
+  | Some c ↦ Made c (Typed d)
+  | None ↦ Unmade (StaticProperty name) (Typed d) (with_static class name)
+]
+
+-- What depends on classes, for code at a site: what a location in a property begins with; the value of a property where
+-- nothing is said of what isn't there; and what comes where a value is of the type that a declaration has, which is outside
+-- for any other value.
 pub record Properties : Type 0 where
-  pub cell : Value → Bytes → (Cell → Typing → Script) → Script
+  pub base : Value → Bytes → (Base → Script) → Script
   pub quietly : Value → Bytes → (Value → Script) → Script
   pub typed : Declared → Value → Script → Script
 
--- the cell of a static property that has a type and maybe no value yet
-abbrev pub static_then : Bytes → Bytes → Declared → Store → (Cell → Typing → Script) → Option Cell → Script
-static_then class name d s k (Some c) = k c (Typed d)
-static_then class name d s k None =
-    Put (with_static class name Null s) (k (next_cell (StaticProperty name) s) (Unwritten d))
+abbrev pub root_then : Properties → Site → Root → (Base → Script) → Script
+root_then properties site (InVariable name) k = Look (λ s. k (variable_base site name s))
+root_then properties site (InCell c typing) k = k (Made c typing)
+root_then properties site (InProperty v name) k = properties.base v name k
+root_then properties site (InStatic class name d) k = Look (λ s. k (static_base class name d s))
 
-abbrev pub root_then : Properties → Site → Root → (Cell → Typing → Script) → Script
-root_then properties site (InVariable name) k = variable_then site name (λ c. k c Untyped)
-root_then properties site (InCell c typing) k = k c typing
-root_then properties site (InProperty v name) k = properties.cell v name k
-root_then properties site (InStatic class name d) k =
-    Look (λ s. static_then class name d s k (static_property_cell s.statics class name))
+-- ---- locations, read and written
 
 -- A value goes into a property only where it is of the property's type. (RFC "Typed Properties 2.0".)
 abbrev pub held_to : Properties → Typing → Value → Script → Script
 held_to properties Untyped v k = k
 held_to properties (Typed d) v k = properties.typed d v k
-held_to properties (Unwritten d) v k = properties.typed d v k
 
-abbrev pub after_change : {A : Type 0} → Properties → Cell → Typing → (A → Script) → Change A → Script
-after_change properties c typing k (Changed w u x) =
-    held_to properties typing w (Put (numbered 1 (with_value c w u)) (k x))
-after_change properties c typing k (Refused e) = throws e
+abbrev pub after_change : {A : Type 0} → Properties → Base → (A → Script) → Change A → Script
+after_change properties base k (Changed w u x) =
+    held_to properties (base_typing base) w (Put (numbered 1 (with_base base w u)) (k x))
+after_change properties base k (Refused e) = throws e
 
 -- a part of a property that was never written is outside
-abbrev pub unless_unwritten : Typing → Script → Script
-unless_unwritten (Unwritten d) k = Stop Reference
-unless_unwritten typing k = k
+abbrev pub unless_unwritten : Base → Script → Script
+unless_unwritten (Unmade slot (Typed d) hold) k = Stop Reference
+unless_unwritten base k = k
 
-abbrev pub unless_part : List (Option Value) → Typing → Script → Script
-unless_part [] typing k = k
-unless_part (o ∷ os) typing k = unless_unwritten typing k
+abbrev pub unless_part : List (Option Value) → Base → Script → Script
+unless_part [] base k = k
+unless_part (o ∷ os) base k = unless_unwritten base k
 
 -- what stands at a location, changed
 abbrev pub change : {A : Type 0} → Properties → Site → Root → List (Option Value) → (Store → Value → ByVersion (Outcome (Change A))) → (A → Script) → Script
 change properties site root ks leaf k =
-    root_then properties site root (λ c typing. unless_part ks typing
-    (Look (λ s. asking (changed_at leaf s (s.held c) ks) (λ o. given o (after_change properties c typing k)))))
+    root_then properties site root (λ base. unless_part ks base
+    (Look (λ s. asking (changed_at leaf s (base_value base s) ks) (λ o. given o (after_change properties base k)))))
 
 -- a value is written to a location
 abbrev pub write : Properties → Site → Location → Value → Script → Script
@@ -109,8 +161,8 @@ write properties site l v k = change properties site l.root l.offsets (written v
 -- the value at a location
 abbrev pub read : Properties → Site → Location → (Value → Script) → Script
 read properties site l k =
-    root_then properties site l.root (λ c typing. unless_unwritten typing
-    (Look (λ s. given (value_at (cells_of s) Strict (s.held c) l.offsets) (came_then k))))
+    root_then properties site l.root (λ base. unless_unwritten base
+    (Look (λ s. given (value_at (cells_of s) Strict (base_value base s) l.offsets) (came_then k))))
 
 -- the same where nothing is said of what isn't there
 abbrev pub root_quietly : Properties → Root → (Value → Script) → Script
@@ -124,17 +176,32 @@ abbrev pub read_quietly : Properties → Location → (Value → Script) → Scr
 read_quietly properties l k =
     root_quietly properties l.root (λ v. Look (λ s. given (value_at (cells_of s) Quiet v l.offsets) (came_then k)))
 
--- a property that has a type is bound to nothing
-abbrev pub if_untyped : (Cell → Script) → Cell → Typing → Script
-if_untyped k c Untyped = k c
-if_untyped k c typing = Stop Reference
+-- ---- references
 
--- the cell of a location; an element is shared from now on
-abbrev pub cell_then : Properties → Site → Location → (Cell → Script) → Script
-cell_then properties site l k = elim (last_of l.offsets) [
-  | None ↦ root_then properties site l.root (if_untyped k)
-  | Some key ↦ change properties site l.root (front l.offsets) (shared_at key) k
+-- the cell that a location begins with, made with null where there is none; one of a property that has a type is referred to
+-- by nothing
+abbrev pub base_cell : (Cell → Script) → Base → Script
+base_cell k (Made c Untyped) = k c
+base_cell k (Unmade slot Untyped hold) = Look (λ s. Put (with_base (Unmade slot Untyped hold) Null s) (k (next_cell slot s)))
+base_cell k base = Stop Reference
+
+-- the cell of a location, for what has this slot; an element is shared from now on
+abbrev pub cell_then : Properties → Site → Slot → Location → (Cell → Script) → Script
+cell_then properties site taker l k = elim (last_of l.offsets) [
+  | None ↦ root_then properties site l.root (base_cell k)
+  | Some key ↦ change properties site l.root (front l.offsets) (shared_at taker key) k
 ]
+
+abbrev pub has_offsets : Location → Bool
+has_offsets l = elim l.offsets [ [] ↦ false | k ∷ ks ↦ true ]
+
+-- the slot of what is bound to a cell: a variable's; nothing else takes a reference to an element
+abbrev pub root_slot : Site → Root → Slot
+root_slot site (InVariable name) = variable_slot site.body name
+root_slot site root = Unnamed
+
+abbrev pub slot_of : Site → Location → Slot
+slot_of site l = elim l.offsets [ [] ↦ root_slot site l.root | k ∷ ks ↦ Unnamed ]
 
 -- a location is bound to a cell
 abbrev pub bind_root : Root → Cell → Script → Script

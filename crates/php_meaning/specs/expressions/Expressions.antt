@@ -13,12 +13,47 @@ use Rattle.php_meaning.specs.values.Same.{is_same}
 use Rattle.php_meaning.specs.runs.Locations.{front, last_of}
 use Rattle.php_meaning.specs.expressions.Operators.{Operation, operation}
 use Rattle.php_meaning.specs.runs.World.{Bytes}
+use Rattle.scope_names.specs.Slot.{Unnamed}
 use Rattle.scope_names.specs.Form.{Form, Word, Child, texts}
 use Rattle.scope_names.specs.Words.{has_word}
 use Rattle.scope_names.specs.Sites.{Site}
 use Rattle.php_meaning.specs.runs.Stores.{cells_of, held_or_null, variable_cell}
-use Rattle.php_meaning.specs.expressions.Assigning.{Properties, numbered, kept_then, write, read, bind, cell_then, read_quietly}
-use Rattle.php_meaning.specs.runs.Script.{InVariable, Location, Out, Val, Fresh, At, Jump, Mode, Read, Quiet, Unset, Into, Kid, Script, Give, Stop, Look, Put, Run, give, value_then, child_value, child_location, given, asking, came_then, comes, Write, still, standing, Root, InProperty, stands}
+use Rattle.php_meaning.specs.expressions.Assigning.{Properties, numbered, kept_then, write, read, bind, cell_then, has_offsets, slot_of, read_quietly}
+use Rattle.php_meaning.specs.runs.Script.{
+  InVariable,
+  Location,
+  Out,
+  Val,
+  Fresh,
+  At,
+  Jump,
+  Mode,
+  Read,
+  Quiet,
+  Unset,
+  Into,
+  Kid,
+  Script,
+  Give,
+  Stop,
+  Look,
+  Put,
+  Run,
+  give,
+  value_then,
+  child_value,
+  child_location,
+  given,
+  asking,
+  came_then,
+  comes,
+  Write,
+  still,
+  standing,
+  Root,
+  InProperty,
+  stands,
+}
 
 -- ---- variables
 
@@ -82,8 +117,8 @@ offset_location f k = Stop NoRule
 
 -- a location's key, and what it is a key of
 abbrev pub key_still : Location → Option (Option Value) → Script
-key_still l (Some (Some k)) = still 1 k (standing 0 (record l { offsets = front l.offsets }) (Give (At l)))
-key_still l o = standing 0 (record l { offsets = front l.offsets }) (Give (At l))
+key_still l (Some (Some k)) = still 1 k (standing 0 (record l { offsets = front l.offsets }) (Give stands))
+key_still l o = standing 0 (record l { offsets = front l.offsets }) (Give stands)
 
 -- an offset that came to a location: its key and its base stand
 abbrev pub offset_standing : Location → Script
@@ -91,8 +126,8 @@ offset_standing l = key_still l (last_of l.offsets)
 
 -- a property that came to a location: the object that it is of is the same
 abbrev pub property_standing : Location → Root → Script
-property_standing l (InProperty v name) = still 0 v (Give (At l))
-property_standing l root = Give (At l)
+property_standing l (InProperty v name) = still 0 v (Give stands)
+property_standing l root = Give stands
 
 -- ---- array literals
 
@@ -115,10 +150,10 @@ item properties s f a =
     else (if has_word (codes "=>") (texts f)
     then child_value 0 (λ v. given (to_key v) (λ key.
     (if has_word (codes "&") (texts f)
-    then child_location 1 (λ l. still 0 v (cell_then properties s l (λ c. fresh (with_element key (Shared c) a))))
+    then child_location 1 (λ l. still 0 v (cell_then properties s Unnamed l (λ c. fresh (with_element key (Shared c) a))))
     else Run (Kid 1 Read) (kept_then (λ w. still 0 v (fresh (with_element key (Own w) a)))))))
     else (if has_word (codes "&") (texts f)
-    then child_location 0 (λ l. cell_then properties s l (λ c. asking (appended (Shared c) a) (λ o. given o fresh)))
+    then child_location 0 (λ l. cell_then properties s Unnamed l (λ c. asking (appended (Shared c) a) (λ o. given o fresh)))
     else Run (Kid 0 Read) (kept_then (λ w. asking (appended (Own w) a) (λ o. given o fresh)))))
 
 abbrev pub fresh_then : (Value → Script) → Out → Script
@@ -141,14 +176,11 @@ assign properties s =
     child_location 0 (λ l. Run (Kid 1 Read) (kept_then (λ v. standing 0 l (write properties s l v (give v)))))
 
 -- by reference; an element to an element is outside
-abbrev pub has_offsets : Location → Bool
-has_offsets l = elim l.offsets [ [] ↦ false | k ∷ ks ↦ true ]
-
 abbrev pub assign_reference : Properties → Site → Script
 assign_reference properties s =
     child_location 0 (λ l. child_location 1 (λ m. standing 0 l (
-    if has_offsets l then cond (has_offsets m) (Stop NoRule) (cell_then properties s m (λ c. bind properties s l c (Look (λ st. give (st.held c)))))
-    else cell_then properties s m (λ c. bind properties s l c (Look (λ st. give (st.held c)))))))
+    if has_offsets l then cond (has_offsets m) (Stop NoRule) (cell_then properties s (slot_of s l) m (λ c. bind properties s l c (Look (λ st. give (st.held c)))))
+    else cell_then properties s (slot_of s l) m (λ c. bind properties s l c (Look (λ st. give (st.held c)))))))
 
 -- the operator of a compound assignment, without its `=`
 abbrev pub operator_of : Bytes → Bytes

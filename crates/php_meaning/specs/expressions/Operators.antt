@@ -5,7 +5,22 @@ use Rattle.std.specs.Str.{bytes_eq}
 use Rattle.php_meaning.specs.values.Value.{Value, Truth}
 use Rattle.php_meaning.specs.Cause.{Outcome, Gives, NoRule, Came, Returns, outcome_map}
 use Rattle.php_meaning.specs.Differences.{ByVersion, Alike, by_version_map}
-use Rattle.php_meaning.specs.values.Arithmetic.{left_of_arithmetic, plus, minus, times, divided, modulo, left_shift, right_shift, bits_and, bits_or, bits_xor, positive, negative, joined}
+use Rattle.php_meaning.specs.values.Arithmetic.{
+  left_of_arithmetic,
+  plus,
+  minus,
+  times,
+  divided,
+  modulo,
+  left_shift,
+  right_shift,
+  bits_and,
+  bits_or,
+  bits_xor,
+  positive,
+  negative,
+  joined,
+}
 use Rattle.php_meaning.specs.values.Compare.{equal, unequal, less, greater, at_most, at_least, spaceship, left_of_comparison}
 use Rattle.php_meaning.specs.values.Identical.{is_identical}
 use Rattle.php_meaning.specs.values.Copies.{copied}

@@ -47,7 +47,8 @@ two_ternaries = echo (ternary (ternary (constant (codes "true")) (text (codes "'
 -- `echo true?1:false?2:3?4:5;`, as 7.4 groups it
 abbrev pub three_ternaries : Forest
 three_ternaries =
-    echo (ternary (ternary (ternary (constant (codes "true")) (number (codes "1")) (constant (codes "false"))) (number (codes "2")) (number (codes "3"))) (number (codes "4")) (number (codes "5")))
+    echo (ternary (ternary (ternary (constant (codes "true")) (number (codes "1")) (constant (codes "false")))
+    (number (codes "2")) (number (codes "3"))) (number (codes "4")) (number (codes "5")))
 
 -- `echo 1 . 2 + 3;`, as 7.4 groups it
 abbrev pub concatenation_and_sum : Forest
@@ -70,12 +71,27 @@ t kind text rest = leaf (bare kind (codes text)) rest
 -- `$s = "abc"; echo $s{0}, "$s{0}";`
 abbrev pub braces_in_text : Forest
 braces_in_text =
-    (node kind.ExprStmt (node kind.Assign (node kind.Variable (t token.Variable "$s" none) (t token.Op "=" (node kind.Text (t token.Text "\"abc\"" none) none))) (t token.Semi ";" none)) (node kind.Echo (t token.Keyword "echo" (node kind.BraceOffset (node kind.Variable (t token.Variable "$s" none) (t token.Op "{" (node kind.Number (t token.Int "0" none) (t token.Op "}" none)))) (t token.Op "," (node kind.Quoted (t token.Quote "\"" (node kind.Variable (t token.Variable "$s" none) (t token.Piece "{0}" (t token.QuotedEnd "\"" none)))) (t token.Semi ";" none))))) none))
+    (node kind.ExprStmt (node kind.Assign (node kind.Variable (t token.Variable "$s" none)
+    (t token.Op "=" (node kind.Text (t token.Text "\"abc\"" none) none))) (t token.Semi ";" none))
+    (node kind.Echo (t token.Keyword "echo"
+    (node kind.BraceOffset (node kind.Variable (t token.Variable "$s" none)
+    (t token.Op "{" (node kind.Number (t token.Int "0" none) (t token.Op "}" none))))
+    (t token.Op "," (node kind.Quoted (t token.Quote "\""
+    (node kind.Variable (t token.Variable "$s" none) (t token.Piece "{0}" (t token.QuotedEnd "\"" none))))
+    (t token.Semi ";" none))))) none))
 
 -- `$i = PHP_INT_MAX; echo "a"; $i = $i + 1; echo "b";`
 abbrev pub sum_past_the_largest : Forest
 sum_past_the_largest =
-    (node kind.ExprStmt (node kind.Assign (node kind.Variable (t token.Variable "$i" none) (t token.Op "=" (node kind.Constant (t token.Label "PHP_INT_MAX" none) none))) (t token.Semi ";" none)) (node kind.Echo (t token.Keyword "echo" (node kind.Text (t token.Text "\"a\"" none) (t token.Semi ";" none))) (node kind.ExprStmt (node kind.Assign (node kind.Variable (t token.Variable "$i" none) (t token.Op "=" (node kind.Binary (node kind.Variable (t token.Variable "$i" none) (t token.Op "+" (node kind.Number (t token.Int "1" none) none))) none))) (t token.Semi ";" none)) (node kind.Echo (t token.Keyword "echo" (node kind.Text (t token.Text "\"b\"" none) (t token.Semi ";" none))) none))))
+    (node kind.ExprStmt (node kind.Assign (node kind.Variable (t token.Variable "$i" none)
+    (t token.Op "=" (node kind.Constant (t token.Label "PHP_INT_MAX" none) none))) (t token.Semi ";" none))
+    (node kind.Echo (t token.Keyword "echo" (node kind.Text (t token.Text "\"a\"" none) (t token.Semi ";" none)))
+    (node kind.ExprStmt (node kind.Assign
+    (node kind.Variable (t token.Variable "$i" none)
+    (t token.Op "=" (node kind.Binary (node kind.Variable (t token.Variable "$i" none)
+    (t token.Op "+" (node kind.Number (t token.Int "1" none) none))) none))) (t token.Semi ";" none))
+    (node kind.Echo (t token.Keyword "echo" (node kind.Text (t token.Text "\"b\"" none) (t token.Semi ";" none)))
+    none))))
 
 -- from two turns on, an echo and the end with 0
 abbrev pub EchoesFromTwo : Version → Forest → Bytes → Type 0

@@ -1,7 +1,7 @@
 -- Locations: what can be read, written, bound by reference and unset. (PHP manual, "Variables", "Arrays", "References
 -- Explained"; what is outside is this project's own.)
 use Rattle.std.specs.Prelude.{List, [], ◌∷◌, Option, Some, None}
-use Rattle.scope_names.specs.Slot.{Unnamed}
+use Rattle.scope_names.specs.Slot.{Slot}
 use Rattle.php_meaning.specs.values.Value.{Value, Null, Arr, Cell, Key}
 use Rattle.php_meaning.specs.Cause.{Outcome, Gives, Outside, Offset, ExceptionClass, Came, Returns, Throws, and_then, outcome_map}
 use Rattle.php_meaning.specs.Differences.{ByVersion, Alike, by_version_map, by_version_then, gives_then}
@@ -79,22 +79,24 @@ written v s old = Alike (Gives (Changed v s tt))
 
 -- ---- references
 
--- An array's element that shares a cell, made where it doesn't; and the cell.
-abbrev pub shared_element : Array → Key → Option Element → Store → ByVersion (Outcome (Change Cell))
-shared_element a k None s =
-    let c = next_cell Unnamed s in Alike (Gives (Changed (array (with_element k (Shared c) a)) (with_cell Null s) c))
-shared_element a k (Some (Own w)) s =
-    let c = next_cell Unnamed s in Alike (Gives (Changed (array (with_element k (Shared c) a)) (with_cell w s) c))
-shared_element a k (Some (Shared c)) s = Alike (Gives (Changed (array a) s c))
+-- An array's element that shares a cell, and the cell: where it is its own, one that is made with the slot of what takes the
+-- reference.
+abbrev pub shared_element : Slot → Array → Key → Option Element → Store → ByVersion (Outcome (Change Cell))
+shared_element taker a k None s =
+    let c = next_cell taker s in Alike (Gives (Changed (array (with_element k (Shared c) a)) (with_cell taker Null s) c))
+shared_element taker a k (Some (Own w)) s =
+    let c = next_cell taker s in Alike (Gives (Changed (array (with_element k (Shared c) a)) (with_cell taker w s) c))
+shared_element taker a k (Some (Shared c)) s = Alike (Gives (Changed (array a) s c))
 
-abbrev pub shared_behind : Array → Store → ByVersion (Outcome (Change Cell))
-shared_behind a s =
-    let c = next_cell Unnamed s in by_version_map (outcome_map (λ b. Changed (array b) (with_cell Null s) c)) (appended (Shared c) a)
+abbrev pub shared_behind : Slot → Array → Store → ByVersion (Outcome (Change Cell))
+shared_behind taker a s =
+    let c = next_cell taker s in by_version_map (outcome_map (λ b. Changed (array b) (with_cell taker Null s) c)) (appended (Shared c) a)
 
 -- the element at one offset of a value, shared
-abbrev pub shared_at : Option Value → Store → Value → ByVersion (Outcome (Change Cell))
-shared_at None s v = in_array (array_to_write 0 v) (λ a. shared_behind a s)
-shared_at (Some k) s v = in_array (array_to_write 0 v) (λ a. gives_then (to_key k) (λ key. shared_element a key (element_at key a.entries) s))
+abbrev pub shared_at : Slot → Option Value → Store → Value → ByVersion (Outcome (Change Cell))
+shared_at taker None s v = in_array (array_to_write 0 v) (λ a. shared_behind taker a s)
+shared_at taker (Some k) s v =
+    in_array (array_to_write 0 v) (λ a. gives_then (to_key k) (λ key. shared_element taker a key (element_at key a.entries) s))
 
 -- the element at one offset of a value, bound to a cell
 abbrev pub bound_at : Option Value → Cell → Store → Value → ByVersion (Outcome (Change (Unit {0})))

@@ -11,11 +11,61 @@ use Rattle.scope_names.specs.Sites.{Site, file_site, is_declaration, within, bes
 use Rattle.php_meaning.specs.names.Tables.{Tables, tables_of}
 use Rattle.php_meaning.specs.values.Value.{Value, Null, Cell}
 use Rattle.php_meaning.specs.values.Value as entries
+use Rattle.php_meaning.specs.values.Cells.{is_same_cell}
 use Rattle.php_meaning.specs.values.Arrays.{array}
 use Rattle.php_meaning.specs.runs.Input.{Input, no_items, sent_array, texts_array}
 use Rattle.php_meaning.specs.Cause.{NoRule, Call, StopMark, CompileMark}
-use Rattle.php_meaning.specs.runs.World.{Bytes, Object, Frame, Store, Place, End, Going, Ended, Threw, Outside, Moment, Before, After, Returned, Thrown, Broken, Continued, Visit, Asked, World}
-use Rattle.php_meaning.specs.runs.Script.{Return, Throw, Break, Continue, Out, Val, Fresh, At, Jump, Mode, Target, Kid, Again, There, File, Script, Give, Stop, Finish, Look, Put, Echo, Turn, Ask, Run}
+use Rattle.php_meaning.specs.runs.World.{
+  Bytes,
+  Object,
+  Frame,
+  Store,
+  Place,
+  End,
+  Going,
+  Ended,
+  Threw,
+  Outside,
+  Moment,
+  Before,
+  After,
+  Returned,
+  Thrown,
+  Broken,
+  Continued,
+  Visit,
+  Asked,
+  World,
+}
+use Rattle.php_meaning.specs.runs.Script.{
+  Return,
+  Throw,
+  Break,
+  Continue,
+  Out,
+  Val,
+  Fresh,
+  At,
+  Jump,
+  Mode,
+  Read,
+  Quiet,
+  Target,
+  Kid,
+  Again,
+  There,
+  File,
+  Script,
+  Give,
+  Stop,
+  Finish,
+  Look,
+  Put,
+  Echo,
+  Turn,
+  Ask,
+  Run,
+}
 use Rattle.php_meaning.specs.Rules.{rule, file_script}
 use Rattle.php_meaning.specs.runs.Kinds.{is_statement}
 
@@ -104,11 +154,13 @@ place_of_file path = record { file = path; node = None }
 abbrev pub told : Site → ℕ → Moment → Option Value → World → World
 told s id m v w = record w { visits = record { place = place_in s id; body = s.body; moment = m; value = v; store = w.store } ∷ w.visits }
 
-abbrev pub value_of : Out → Option Value
-value_of (Val v) = Some v
-value_of (Fresh v) = Some v
-value_of (At l) = None
-value_of (Jump w) = None
+-- the value that a visit tells: only where the node was evaluated for its value
+abbrev pub value_of : Mode → Out → Option Value
+value_of Read (Val v) = Some v
+value_of Read (Fresh v) = Some v
+value_of Quiet (Val v) = Some v
+value_of Quiet (Fresh v) = Some v
+value_of m o = None
 
 abbrev pub moment_of : Out → Moment
 moment_of (Val v) = After
@@ -120,9 +172,9 @@ moment_of (Jump (Break n)) = Broken
 moment_of (Jump (Continue n)) = Continued
 
 -- the end of a node's evaluation is told
-abbrev pub left : Site → ℕ → Result → Result
-left s id (Done o w) = Done o (told s id (moment_of o) (value_of o) w)
-left s id (Over e w) = Over e w
+abbrev pub left : Site → ℕ → Mode → Result → Result
+left s id m (Done o w) = Done o (told s id (moment_of o) (value_of m o) w)
+left s id m (Over e w) = Over e w
 
 -- a statement takes a turn before it starts
 abbrev pub starting : Bool → World → (World → Result) → Result
@@ -173,7 +225,7 @@ step is_new t marks lower s none id i m w = Over (Outside (place_of_file s.file)
 step is_new t marks lower s (leaf u f) id i m w = step is_new t marks lower s f id i m w
 step is_new t marks lower s (node k c f) id zero m w =
     starting (is_statement k) w (λ u. unless_stopped (is_stopped marks s.file id) (place_in s id) u
-    (left s id (at_node is_new t lower s k c id (step is_new t marks lower (within k c s) c (suc id)) m (told s id Before None u))))
+    (left s id m (at_node is_new t lower s k c id (step is_new t marks lower (within k c s) c (suc id)) m (told s id Before None u))))
 step is_new t marks lower s (node k c f) id (suc i) m w = step is_new t marks lower (beside k c s) f (suc (id + count c)) i m w
 
 -- ---- files and declarations
@@ -244,9 +296,9 @@ cell_numbered n = record { number = n; slot = slot_numbered n }
 
 abbrev pub first_values : Input → Cell → Value
 first_values input c =
-    cond (nat_eq c.number 0) (array (sent_array no_items input.get))
-    (cond (nat_eq c.number 1) (array (sent_array no_items input.post))
-    (cond (nat_eq c.number 2) (array (texts_array no_items 0 input.argv)) Null))
+    cond (is_same_cell c (cell_numbered 0)) (array (sent_array no_items input.get))
+    (cond (is_same_cell c (cell_numbered 1)) (array (sent_array no_items input.post))
+    (cond (is_same_cell c (cell_numbered 2)) (array (texts_array no_items 0 input.argv)) Null))
 
 abbrev pub first_frame : Frame
 first_frame = record {

@@ -1,8 +1,8 @@
 -- What a node does, as steps over the store and over its children. The steps are the same in both versions, but
 -- where they ask.
 use Rattle.std.specs.Prelude.{ℕ, ℤ, Bool, cond, List, [], length, Option}
-use Rattle.scope_names.specs.Slot.{Declared}
-use Rattle.php_meaning.specs.values.Value.{Value, Cell, Entries}
+use Rattle.scope_names.specs.Slot.{Declared, Slot}
+use Rattle.php_meaning.specs.values.Value.{Value, Null, Cell, Entries}
 use Rattle.php_meaning.specs.Cause.{Cause, NoRule, Outcome, Gives, Outside, ExceptionClass, exception_name, Came, Returns, Throws}
 use Rattle.php_meaning.specs.Differences.{Difference, ByVersion, Alike, Differs}
 use Rattle.php_meaning.specs.runs.World.{Bytes, Store, with_object}
@@ -16,11 +16,10 @@ pub data Way : Type 0 where
   Break : ℕ → Way
   Continue : ℕ → Way
 
--- Whether a property has a type: none; the one of its declaration; or that one, and the property was never written.
+-- whether a property has a type: none, or that of its declaration
 pub data Typing : Type 0 where
   Untyped : Typing
   Typed : Declared → Typing
-  Unwritten : Declared → Typing
 
 -- where a location begins: in the variable with this name, in a cell, in the property with this name of a value, or in the
 -- static property of a class that has a type, by its declaration, and no value of its own yet
@@ -61,8 +60,8 @@ pub data Mode : Type 0 where
   Against : Value → Mode
   -- an item of an array literal, into the array so far
   Into : Value → Mode
-  -- arguments, each by reference or not
-  Given : List Bool → Mode
+  -- arguments, each by value, or by reference for the parameter with this slot
+  Given : List (Option Slot) → Mode
   -- arguments of a builtin function, their values as they are
   Handed : Mode
   -- a function or method, as a body that was called
@@ -131,15 +130,15 @@ child_location i k = Run (Kid i Write) (location_then k)
 -- A child that gave a value, once what stands behind it was evaluated. PHP reads a plain variable only then, so one that
 -- holds another value by now is outside.
 abbrev pub still : ℕ → Value → Script → Script
-still i v k = Run (Kid i (Unchanged v)) (location_then (λ l. k))
+still i v k = Run (Kid i (Unchanged v)) (value_then (λ u. k))
 
--- what such a child comes to, where nothing changed: no value, since it was evaluated before
+-- what such a child comes to, where nothing changed: it was evaluated before, and a visit tells nothing of it
 abbrev pub stands : Out
-stands = At (record { root = InVariable []; offsets = [] })
+stands = Val Null
 
 -- the same of a child that came to a location, and the plain variables among its keys
 abbrev pub standing : ℕ → Location → Script → Script
-standing i l k = Run (Kid i (Standing l)) (location_then (λ m. k))
+standing i l k = Run (Kid i (Standing l)) (value_then (λ u. k))
 
 -- goes on with what an operation gives
 abbrev pub given : {A : Type 0} → Outcome A → (A → Script) → Script

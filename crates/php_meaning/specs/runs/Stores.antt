@@ -18,20 +18,20 @@ with_value c v s = record s { held = λ d. elim (is_same_cell d c) [ true ↦ v 
 abbrev pub next_cell : Slot → Store → Cell
 next_cell slot s = record { number = s.made; slot = slot }
 
--- the store with the next cell, which holds this value
-abbrev pub with_cell : Value → Store → Store
-with_cell v s = record s { made = suc s.made; held = λ d. elim (nat_eq d.number s.made) [ true ↦ v | false ↦ s.held d ] }
+-- the store with the next cell, which holds this value from the start
+abbrev pub with_cell : Slot → Value → Store → Store
+with_cell slot v s = with_value (next_cell slot s) v (record s { made = suc s.made })
 
 -- ---- variables
-
--- the slot of a variable of the code at a site
-abbrev pub variable_slot : Option Declared → Bytes → Slot
-variable_slot None name = FileVariable name
-variable_slot (Some body) name = BodyVariable body name
 
 -- whether a variable is the file's in every body
 abbrev pub is_everywhere : Bytes → Bool
 is_everywhere name = bytes_eq name (codes "_GET") || bytes_eq name (codes "_POST")
+
+-- the slot of a variable of the code in a body, or of a file's own code
+abbrev pub variable_slot : Option Declared → Bytes → Slot
+variable_slot None name = FileVariable name
+variable_slot (Some body) name = if is_everywhere name then FileVariable name else BodyVariable body name
 
 -- whether a variable is one of the file level: each is where no body of a function runs
 abbrev pub is_global : Bytes → Store → Bool
@@ -82,10 +82,9 @@ static_property_cell ((StaticProperty n, Some c, cell) ∷ cs) class name =
     if bytes_eq n name && same_name c class then Some cell else static_property_cell cs class name
 static_property_cell (c ∷ cs) class name = static_property_cell cs class name
 
--- the store with a new static property of a class
-abbrev pub with_static : Bytes → Bytes → Value → Store → Store
-with_static class name v s =
-    record (with_cell v s) { statics = (StaticProperty name, Some class, next_cell (StaticProperty name) s) ∷ s.statics }
+-- the store with a cell for a static property of a class
+abbrev pub with_static : Bytes → Bytes → Cell → Store → Store
+with_static class name c s = record s { statics = (StaticProperty name, Some class, c) ∷ s.statics }
 
 -- ---- objects and their properties
 
@@ -132,7 +131,7 @@ cell_of n m s = property_cell (object_at s.objects n).properties m
 abbrev pub with_made : ℕ → Member → Slot → Value → Store → Store
 with_made n m slot v s = elim (cell_of n m s) [
   | Some c ↦ with_value c v s
-  | None ↦ with_property n m (next_cell slot s) (with_cell v s)
+  | None ↦ with_property n m (next_cell slot s) (with_cell slot v s)
 ]
 
 -- ---- holders

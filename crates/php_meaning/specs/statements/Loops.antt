@@ -7,12 +7,43 @@ use Rattle.php_meaning.specs.values.Convert.{to_truth}
 use Rattle.php_meaning.specs.values.Compare.{equal, left_of_comparison}
 use Rattle.php_meaning.specs.values.Arrays.{Entry, entry_after}
 use Rattle.php_meaning.specs.values.Arrays as arrays
+use Rattle.scope_names.specs.Slot.{Unnamed}
 use Rattle.scope_names.specs.Form.{Form, Word, Child, kids, texts}
-use Rattle.scope_names.specs.Words.{has_word, has_keyword}
+use Rattle.scope_names.specs.Words.{has_word, has_keyword, ends_statement}
 use Rattle.scope_names.specs.Sites.{Site}
 use Rattle.php_meaning.specs.runs.Locations.{shared_element}
-use Rattle.php_meaning.specs.expressions.Assigning.{Properties, kept_then, after_change, write, bind, cell_then}
-use Rattle.php_meaning.specs.runs.Script.{Untyped, Way, Break, Continue, Out, Val, Fresh, At, Jump, Read, Later, Left, Behind, Against, Kid, Again, Script, Give, Stop, Look, Turn, Run, give, value_then, child_value, child_location, given, asking, still}
+use Rattle.php_meaning.specs.expressions.Assigning.{Properties, Made, kept_then, after_change, write, bind, cell_then, has_offsets, slot_of}
+use Rattle.php_meaning.specs.runs.Script.{
+  Untyped,
+  Way,
+  Break,
+  Continue,
+  Out,
+  Val,
+  Fresh,
+  At,
+  Jump,
+  Read,
+  Later,
+  Left,
+  Behind,
+  Against,
+  Kid,
+  Again,
+  Script,
+  Give,
+  Stop,
+  Look,
+  Turn,
+  Run,
+  give,
+  value_then,
+  child_value,
+  child_location,
+  given,
+  asking,
+  still,
+}
 
 -- ---- statements in order
 
@@ -35,9 +66,9 @@ abbrev pub after_pass : Script → Out → Script
 after_pass next (Jump w) = after_jump next w
 after_pass next o = next
 
--- the body of a loop: a statement, or behind a colon a block that takes a turn
+-- the body of a loop: the last child, a statement; or behind a colon the children from one on, a block that takes a turn
 abbrev pub body : Form → ℕ → (Out → Script) → Script
-body f i k = if has_word (codes ":") (texts f) then Turn (run_then i (kids f - i) k) else Run (Kid i Read) k
+body f i k = if has_word (codes ":") (texts f) then Turn (run_then i (kids f - i) k) else Run (Kid (kids f - 1) Read) k
 
 -- ---- while
 
@@ -49,31 +80,31 @@ do_pass = Run (Kid 0 Read) (after_pass (child_value 1 (λ v. cond (to_truth v) (
 
 -- ---- for
 
--- how many children stand before a word, and the form behind it
-abbrev pub kids_before : List ℕ → Form → ℕ
-kids_before w [] = zero
-kids_before w (Word _ t ∷ f) = if bytes_eq w t then zero else kids_before w f
-kids_before w (Child ∷ f) = suc (kids_before w f)
+-- how many children stand before a word that closes something, and the form behind it
+abbrev pub kids_before : (List ℕ → Bool) → Form → ℕ
+kids_before closes [] = zero
+kids_before closes (Word _ w ∷ f) = if closes w then zero else kids_before closes f
+kids_before closes (Child ∷ f) = suc (kids_before closes f)
 
-abbrev pub form_behind : List ℕ → Form → Form
-form_behind w [] = []
-form_behind w (Word _ t ∷ f) = if bytes_eq w t then f else form_behind w f
-form_behind w (Child ∷ f) = form_behind w f
+abbrev pub form_behind : (List ℕ → Bool) → Form → Form
+form_behind closes [] = []
+form_behind closes (Word _ w ∷ f) = if closes w then f else form_behind closes f
+form_behind closes (Child ∷ f) = form_behind closes f
 
 -- the values of some children, the last one of which counts
 abbrev pub last_value : ℕ → ℕ → Value → (Value → Script) → Script
 last_value i zero v k = k v
 last_value i (suc n) v k = child_value i (λ w. last_value (suc i) n w k)
 
--- how many expressions stand in the three parts
+-- how many expressions stand in the three parts; a closing tag serves as a semicolon
 abbrev pub first_part : Form → ℕ
-first_part f = kids_before (codes ";") f
+first_part f = kids_before ends_statement f
 
 abbrev pub second_part : Form → ℕ
-second_part f = kids_before (codes ";") (form_behind (codes ";") f)
+second_part f = kids_before ends_statement (form_behind ends_statement f)
 
 abbrev pub third_part : Form → ℕ
-third_part f = kids_before (codes ")") (form_behind (codes ";") (form_behind (codes ";") f))
+third_part f = kids_before (bytes_eq (codes ")")) (form_behind ends_statement (form_behind ends_statement f))
 
 abbrev pub for_test : Form → Script
 for_test f =
@@ -122,12 +153,14 @@ foreach_over (Arr largest next es) = Run (Again (Left es)) Give
 foreach_over (Object n) = Stop NoRule
 foreach_over v = give Null
 
--- by reference: the entry with the next greater serial number
+-- By reference: the entry with the next greater serial number, whose cell is the variable's from now on. An element as the
+-- variable is outside.
 abbrev pub meet : Properties → Site → Form → Cell → arrays.Array → Option Entry → Script
 meet properties s f c a None = give Null
 meet properties s f c a (Some e) =
-    Look (λ st. asking (shared_element a e.key (Some e.element) st) (λ o. given o (after_change properties c Untyped (λ d.
-    child_location (value_index f) (λ l. bind properties s l d (with_key properties s f e.key (Run (Again (Behind c (Some e.serial))) Give)))))))
+    child_location (value_index f) (λ l. if has_offsets l then Stop NoRule else Look (λ st.
+    asking (shared_element (slot_of s l) a e.key (Some e.element) st) (λ o. given o (after_change properties (Made c Untyped) (λ d.
+    bind properties s l d (with_key properties s f e.key (Run (Again (Behind c (Some e.serial))) Give)))))))
 
 abbrev pub foreach_behind : Properties → Site → Form → Cell → Option ℕ → Value → Script
 foreach_behind properties s f c met (Arr largest next es) =
@@ -138,7 +171,7 @@ foreach_behind properties s f c met v = give Null
 abbrev pub foreach : Properties → Site → Form → Script
 foreach properties s f =
     if by_reference f
-    then child_location 0 (λ l. cell_then properties s l (λ c. Run (Again (Behind c None)) Give))
+    then child_location 0 (λ l. cell_then properties s Unnamed l (λ c. Run (Again (Behind c None)) Give))
     else Run (Kid 0 Read) (kept_then foreach_over)
 
 -- ---- switch

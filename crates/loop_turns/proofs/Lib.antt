@@ -1,0 +1,4 @@
+pub mod Turns
+pub mod Scripts
+pub mod Passes
+pub mod Bodies
