@@ -1,7 +1,8 @@
 #!/bin/sh
 # How fast and in how much memory the program upgrades a folder: 2,000 files, 4 MB in all, and a quarter and a half of that.
-# A tool without steps that grow faster than their input keeps its MB/s. It generates its own input in a folder of its own,
-# and changes nothing here but out/. Outside the gate. Needs rt and python3.
+# Each file declares functions and a class, which extends one of another file, and includes the file before it. A tool
+# without steps that grow faster than their input keeps its MB/s. It generates its own input in a folder of its own, and
+# changes nothing here but out/. Outside the gate. Needs rt and python3.
 . "$(dirname "$0")/program.sh"
 python3 - "$program" <<'MEASURE'
 import os
@@ -30,6 +31,11 @@ def fill(count):
         folder = f"source/part{n // 100}"
         os.makedirs(folder, exist_ok=True)
         text = f"<?php\nnamespace Part{n // 100};\n\nuse function Other\\{{one, two}};\n"
+        if n % 100:
+            text += f"require_once __DIR__ . '/file{n - 1}.php';\n"
+            text += f"class User{n} extends User{n - 1}\n{{\n    public $name = '';\n}}\n"
+        else:
+            text += f"class User{n}\n{{\n    public $name = '';\n}}\n"
         while len(text) + len(PART) < 2_090:
             text += PART % (n, len(text))
         with open(f"{folder}/file{n}.php", "w") as file:

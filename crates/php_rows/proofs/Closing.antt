@@ -19,11 +19,16 @@ size_is ns h at from f e =
     let b = length_flatten at f in
     omega arith
 
-pub closed : (before now new : Row) (from : ℕ) (k : NodeKind) (f : Forest) (x : Flat) → IsOpen before now from f → x.kind ≡ k → x.first ≡ before.at → x.end ≡ now.at → x.size ≡ length now.nodes.items - from → new.nodes.items ≡ slice_set now.nodes.items from x → new.at ≡ now.at → Grew before new (node k f none)
+pub closed : (before now new : Row) (from : ℕ) (k : NodeKind) (f : Forest) (x : Flat) → IsOpen before now from f
+    → x.kind ≡ k → x.first ≡ before.at → x.end ≡ now.at → x.size ≡ length now.nodes.items - from
+    → new.nodes.items ≡ slice_set now.nodes.items from x → new.at ≡ now.at → Grew before new (node k f none)
 closed before now new from k f x o ek ef ee es en ea =
     let is : x ≡ whole k before.at f = rw (ek, ef, ee, es, o.nodes, size_is before.nodes.items o.hole before.at from f o.place, o.at) refl in
     record {
-      nodes = en ∙ rw (o.nodes, sym o.place, is) (set-append_seam before.nodes.items o.hole (flatten before.at f) (whole k before.at f) ∙ ap (λ (u : List Flat). before.nodes.items ++ whole k before.at f ∷ u) (sym (append-nil (flatten before.at f))));
+      nodes = en ∙ rw (o.nodes, sym o.place, is)
+          (set-append_seam before.nodes.items o.hole (flatten before.at f) (whole k before.at f)
+          ∙ ap (λ (u : List Flat). before.nodes.items ++ whole k before.at f ∷ u)
+          (sym (append-nil (flatten before.at f))));
       at = ea ∙ o.at ∙ ap (λ (n : ℕ). before.at + n) (sym (ap length (append-nil (leaves f))));
     }
 

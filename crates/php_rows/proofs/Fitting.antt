@@ -1,5 +1,35 @@
 -- Rows whose nodes nest.
-use Rattle.std.proofs.Common.{◌≡◌, ℕ, zero, suc, ◌+◌, ◌-◌, ◌<◌, ◌≤◌, Bool, true, false, ◌&&◌, nat_le, nat_lt, List, [], ◌∷◌, ◌++◌, length, take, drop, slice_range, refl, sym, ap, subst, ◌∙◌, append_assoc, arith}
+use Rattle.std.proofs.Common.{
+  ◌≡◌,
+  ℕ,
+  zero,
+  suc,
+  ◌+◌,
+  ◌-◌,
+  ◌<◌,
+  ◌≤◌,
+  Bool,
+  true,
+  false,
+  ◌&&◌,
+  nat_le,
+  nat_lt,
+  List,
+  [],
+  ◌∷◌,
+  ◌++◌,
+  length,
+  take,
+  drop,
+  slice_range,
+  refl,
+  sym,
+  ap,
+  subst,
+  ◌∙◌,
+  append_assoc,
+  arith,
+}
 use Rattle.std.specs.Prelude.{IsTrue}
 use Rattle.std.proofs.lemmas.Bool.{leb-true, le-leb, lt-ltb, ltb-true}
 use Rattle.std.proofs.lemmas.List.{length-append, append-nil, length-take-le, length-drop, take-append-drop}
@@ -64,7 +94,8 @@ fits_enough (suc j) zero at end (x ∷ xs) a b = absurd (omega arith)
 fits_enough (suc j) (suc k) at end (x ∷ xs) a b =
     let t = take_short (x.size - 1) xs in
     let d = drop_short (x.size - 1) xs in
-    let inner : fits j x.first x.end (take (x.size - 1) xs) ≡ fits k x.first x.end (take (x.size - 1) xs) = fits_enough j k x.first x.end (take (x.size - 1) xs) (omega arith) (omega arith) in
+    let inner : fits j x.first x.end (take (x.size - 1) xs) ≡ fits k x.first x.end (take (x.size - 1) xs) =
+    fits_enough j k x.first x.end (take (x.size - 1) xs) (omega arith) (omega arith) in
     let rest : fits j x.end end (drop (x.size - 1) xs) ≡ fits k x.end end (drop (x.size - 1) xs) = fits_enough j k x.end end (drop (x.size - 1) xs) (omega arith) (omega arith) in
     rw (inner, rest) refl
 
@@ -118,7 +149,8 @@ count_read (suc n) at end (x ∷ xs) ts h =
 -- a forest as a row
 pub fits_flatten : (n at : ℕ) (f : Forest) → count f ≤ n → fits n (at) (at + tokens f) (flatten at f) ≡ true
 fits_flatten n at none le = le-leb _ _ (omega arith)
-fits_flatten n at (leaf t f) le = later n at (suc at) (at + suc (tokens f)) (flatten (suc at) f) (omega arith) (let e : at + suc (tokens f) ≡ suc at + tokens f = omega arith in rw e (fits_flatten n (suc at) f le))
+fits_flatten n at (leaf t f) le = later n at (suc at) (at + suc (tokens f)) (flatten (suc at) f) (omega arith)
+    (let e : at + suc (tokens f) ≡ suc at + tokens f = omega arith in rw e (fits_flatten n (suc at) f le))
   where
     later : (n at at2 end : ℕ) (ns : List Flat) → at ≤ at2 → fits n at2 end ns ≡ true → fits n at end ns ≡ true
     later n at at2 end [] le h = let g = leb-true at2 end h in le-leb _ _ (omega arith)

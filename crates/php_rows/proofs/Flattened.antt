@@ -35,4 +35,5 @@ flatten_append at (leaf t f) g = let e : at + suc (tokens f) ≡ suc at + tokens
 flatten_append at (node k c f) g =
     let e : at + length (leaves c ++ leaves f) ≡ (at + tokens c) + tokens f = let n = tokens_node c f in omega arith in
     rw e (ap (λ (u : List Flat). record { kind = k; first = at; end = at + tokens c; size = suc (count c) } ∷ flatten at c ++ u) (flatten_append (at + tokens c) f g)
-    ∙ ap (λ (u : List Flat). record { kind = k; first = at; end = at + tokens c; size = suc (count c) } ∷ u) (sym (append_assoc (flatten at c) (flatten (at + tokens c) f) (flatten (at + tokens c + tokens f) g))))
+    ∙ ap (λ (u : List Flat). record { kind = k; first = at; end = at + tokens c; size = suc (count c) } ∷ u)
+    (sym (append_assoc (flatten at c) (flatten (at + tokens c) f) (flatten (at + tokens c + tokens f) g))))

@@ -1,5 +1,37 @@
 -- The node with a number in a row.
-use Rattle.std.proofs.Common.{◌≡◌, ℕ, zero, suc, ◌+◌, ◌-◌, ◌<◌, ◌≤◌, ◌⊎◌, inl, inr, true, List, [], ◌∷◌, ◌++◌, Option, Some, None, length, take, drop, slice_range, slice_get, slice_index_or, refl, sym, ap, subst, ◌∙◌, arith}
+use Rattle.std.proofs.Common.{
+  ◌≡◌,
+  ℕ,
+  zero,
+  suc,
+  ◌+◌,
+  ◌-◌,
+  ◌<◌,
+  ◌≤◌,
+  ◌⊎◌,
+  inl,
+  inr,
+  true,
+  List,
+  [],
+  ◌∷◌,
+  ◌++◌,
+  Option,
+  Some,
+  None,
+  length,
+  take,
+  drop,
+  slice_range,
+  slice_get,
+  slice_index_or,
+  refl,
+  sym,
+  ap,
+  subst,
+  ◌∙◌,
+  arith,
+}
 use Rattle.std.proofs.lemmas.List.{length-take-le, length-drop, get_or-take, get_or-drop, take-take, drop-take, drop-drop}
 use Rattle.std.proofs.lemmas.Bool.{cases_lt}
 use Rattle.php_tree.specs.declared.token.Token.{Token}
@@ -69,7 +101,8 @@ found_inner n at end y ys ts next j x h len o =
     let last = in_order n y.end end (drop m ys) i.rest in
     let olate = o.late in
     let here : slice_get (preorder (node y.kind c f)) (suc j) ≡ Some (x.kind, read n x.first x.end (inner_of j x (take m ys)) ts) =
-    entered (y.kind, c) (x.kind, read n x.first x.end (inner_of j x (take m ys)) ts) (preorder c) (preorder f) (suc j) (suc_not j) (ap (slice_get (preorder c)) (omega arith) ∙ o.node) in
+    entered (y.kind, c) (x.kind, read n x.first x.end (inner_of j x (take m ys)) ts) (preorder c) (preorder f) (suc j)
+    (suc_not j) (ap (slice_get (preorder c)) (omega arith) ∙ o.node) in
     let after : Token = first_or (leaves f) next in
     let after_is : after ≡ first_or (slice_range ts y.end end) next = ap (λ (us : List Token). first_or us next) (leaves_read n y.end end (drop m ys) ts i.rest) in
     let follows : first_or (slice_range ts x.end y.end) (first_or (slice_range ts y.end end) next) ≡ first_or (slice_range ts x.end end) next =
@@ -80,7 +113,9 @@ found_inner n at end y ys ts next j x h len o =
       node = ap (λ (u : List Tree). slice_get u (suc j)) (preorder_leafed (slice_range ts at y.first) (node y.kind c f)) ∙ here
           ∙ ap (λ (u : Forest). Some (x.kind, u)) (raised n x (inner_of j x (take m ys)) (inner_of (suc j) x (y ∷ ys)) ts short same);
       place = ap (λ (u : List (ℕ × ℕ)). slice_get u (suc j)) (places_leafed (slice_range ts at y.first) (node y.kind c f) next)
-          ∙ entered (place_of (leaves c) after) (place_of (slice_range ts x.first x.end) (first_or (slice_range ts x.end end) next)) (places c after) (places f next) (suc j) (suc_not j) (ap (slice_get (places c after)) (omega arith) ∙ there);
+          ∙ entered (place_of (leaves c) after)
+          (place_of (slice_range ts x.first x.end) (first_or (slice_range ts x.end end) next)) (places c after)
+          (places f next) (suc j) (suc_not j) (ap (slice_get (places c after)) (omega arith) ∙ there);
       nested = raised_fits n x (inner_of j x (take m ys)) (inner_of (suc j) x (y ∷ ys)) short same o.nested;
       few = ap length (sym same) ∙ of;
       some = o.some;
@@ -89,7 +124,8 @@ found_inner n at end y ys ts next j x h len o =
     }
 
 -- a node behind the first one
-found_behind : (n at end : ℕ) (y : Flat) (ys : List Flat) (ts : List Token) (next : Token) (j : ℕ) (x : Flat) → fits (suc n) at end (y ∷ ys) ≡ true → suc (length ys) ≤ suc n → y.size - 1 ≤ j
+found_behind : (n at end : ℕ) (y : Flat) (ys : List Flat) (ts : List Token) (next : Token) (j : ℕ) (x : Flat)
+    → fits (suc n) at end (y ∷ ys) ≡ true → suc (length ys) ≤ suc n → y.size - 1 ≤ j
     → FoundAt n y.end end (drop (y.size - 1) ys) ts next (j - (y.size - 1)) x → FoundAt (suc n) at end (y ∷ ys) ts next (suc j) x
 found_behind n at end y ys ts next j x h len past o =
     let i = inside n at end y ys h in
@@ -120,7 +156,9 @@ found_behind n at end y ys ts next j x h len past o =
       late = o.late;
     }
 
-pub found : (n at end : ℕ) (ns : List Flat) (ts : List Token) (next : Token) (id : ℕ) (d x : Flat) → fits n at end ns ≡ true → length ns ≤ n → id < length ns → x ≡ slice_index_or ns id d → FoundAt n at end ns ts next id x
+pub found : (n at end : ℕ) (ns : List Flat) (ts : List Token) (next : Token) (id : ℕ) (d x : Flat)
+    → fits n at end ns ≡ true → length ns ≤ n → id < length ns → x ≡ slice_index_or ns id d
+    → FoundAt n at end ns ts next id x
 found n at end [] ts next id d x h len lt e = absurd (omega arith)
 found zero at end (y ∷ ys) ts next id d x h len lt e = absurd (omega arith)
 found (suc n) at end (y ∷ ys) ts next zero d x h len lt e =
@@ -134,7 +172,8 @@ found (suc n) at end (y ∷ ys) ts next zero d x h len lt e =
     let f = read n y.end end rest ts in
     let fit = fits_enough n (suc n) y.first y.end inner (omega arith) (omega arith) in
     subst (λ (z : Flat). FoundAt (suc n) at end (y ∷ ys) ts next zero z) (sym e) (record {
-      node = ap (λ (u : List Tree). slice_get u 0) (preorder_leafed (slice_range ts at y.first) (node y.kind c f)) ∙ ap (λ (u : Forest). Some (y.kind, u)) (raised n y inner inner ts (omega arith) refl);
+      node = ap (λ (u : List Tree). slice_get u 0) (preorder_leafed (slice_range ts at y.first) (node y.kind c f))
+          ∙ ap (λ (u : Forest). Some (y.kind, u)) (raised n y inner inner ts (omega arith) refl);
       place = ap (λ (u : List (ℕ × ℕ)). slice_get u 0) (places_leafed (slice_range ts at y.first) (node y.kind c f) next)
           ∙ rw (leaves_read n y.first y.end inner ts i.inner, leaves_read n y.end end rest ts i.rest) refl;
       nested = raised_fits n y inner inner (omega arith) refl i.inner;
@@ -150,7 +189,8 @@ found (suc n) at end (y ∷ ys) ts next (suc j) d x h len lt e =
     let ld = length-drop (y.size - 1) ys in
     elim (cases_lt j (y.size - 1)) [
       | inl early ↦ found_inner n at end y ys ts next j x h len
-          (found n y.first y.end (take (y.size - 1) ys) ts (first_or (slice_range ts y.end end) next) j d x i.inner (omega arith) (omega arith) (e ∙ sym (get_or-take (y.size - 1) ys j d early)))
+          (found n y.first y.end (take (y.size - 1) ys) ts (first_or (slice_range ts y.end end) next) j d x i.inner
+          (omega arith) (omega arith) (e ∙ sym (get_or-take (y.size - 1) ys j d early)))
       | inr past ↦ found_behind n at end y ys ts next j x h len past
           (found n y.end end (drop (y.size - 1) ys) ts next (j - (y.size - 1)) d x i.rest (omega arith) (omega arith)
           (e ∙ ap (λ (k : ℕ). slice_index_or ys k d) (omega arith) ∙ sym (get_or-drop (y.size - 1) ys (j - (y.size - 1)) d)))

@@ -31,7 +31,8 @@ cons_both : (x y : Flat) (a b : List Flat) → cons x a ≡ cons y b → (x ≡ 
 cons_both x y a b e = (cc, cc)
 
 -- what stands at the number
-pub last_node : (before row : Row) (from : ℕ) (k : NodeKind) (f : Forest) (x : Flat) (xs : List Flat) → Grew before row (node k f none) → length before.nodes.items ≡ from → drop from row.nodes.items ≡ x ∷ xs
+pub last_node : (before row : Row) (from : ℕ) (k : NodeKind) (f : Forest) (x : Flat) (xs : List Flat)
+    → Grew before row (node k f none) → length before.nodes.items ≡ from → drop from row.nodes.items ≡ x ∷ xs
     → (x ≡ whole k before.at f) × (xs ≡ flatten before.at f)
 last_node before row from k f x xs g p e =
     let here : cons x xs ≡ cons (whole k before.at f) (flatten before.at f ++ []) =
@@ -51,7 +52,8 @@ size_is at f = let l = length_flatten at f in omega arith
 pub inner_few : (at : ℕ) (k : NodeKind) (f : Forest) (x : Flat) (xs : List Flat) → x ≡ whole k at f → xs ≡ flatten at f → x.size - 1 ≤ length xs
 inner_few at k f x xs p q = let l = size_is at f in rw (p, q) (omega arith)
 
-pub inner_fits : (at : ℕ) (k : NodeKind) (f : Forest) (x : Flat) (xs : List Flat) → x ≡ whole k at f → xs ≡ flatten at f → fits (x.size - 1) x.first x.end (take (x.size - 1) xs) ≡ true
+pub inner_fits : (at : ℕ) (k : NodeKind) (f : Forest) (x : Flat) (xs : List Flat) → x ≡ whole k at f
+    → xs ≡ flatten at f → fits (x.size - 1) x.first x.end (take (x.size - 1) xs) ≡ true
 inner_fits at k f x xs p q =
     let l = length_flatten at f in
     rw (p, q, take_all (suc (count f) - 1) (flatten at f) (omega arith)) (fits_flatten (suc (count f) - 1) at f (omega arith))

@@ -10,3 +10,4 @@ pub mod Found
 pub mod LastNode
 pub mod Whole
 pub mod Pushed
+pub mod KindsRead

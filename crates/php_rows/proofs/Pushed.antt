@@ -61,17 +61,21 @@ front_is (t ∷ ts) x lt e = ap (λ (u : Token). u ∷ ts) (sym e)
 some_tokens : (left rest : Forest) (t : Token) (ts : List Token) → left ≡ leaf t rest → length ts ≡ tokens left → 0 < length ts
 some_tokens left rest t ts e n = let w = ap tokens e in omega arith
 
-pub room_leaf : (all : Forest) (ts : List Token) (made left : Forest) (rest : List Token) (t : Token) (f : Forest) → left ≡ leaf t f → Making all ts made left rest → 0 < length rest
+pub room_leaf : (all : Forest) (ts : List Token) (made left : Forest) (rest : List Token) (t : Token) (f : Forest)
+    → left ≡ leaf t f → Making all ts made left rest → 0 < length rest
 room_leaf all ts made left rest t f e m = some_tokens left f t rest e m.many
 
-pub room_node : (all : Forest) (ts : List Token) (made left : Forest) (rest : List Token) (k : NodeKind) (c f : Forest) → left ≡ node k c f → Making all ts made left rest → tokens c ≤ length rest
+pub room_node : (all : Forest) (ts : List Token) (made left : Forest) (rest : List Token) (k : NodeKind)
+    (c f : Forest) → left ≡ node k c f → Making all ts made left rest → tokens c ≤ length rest
 room_node all ts made left rest k c f e m =
     let n = m.many in
     let w : tokens left ≡ tokens (node k c f) = ap tokens e in
     let l = length-append (leaves c) (leaves f) in
     omega arith
 
-pub making_leaf : (all : Forest) (ts : List Token) (made new left f : Forest) (rest behind : List Token) (t u x : Token) → left ≡ leaf t f → x ≡ get_or rest 0 x → u ≡ x → new ≡ made +++ leaf u none → behind ≡ drop 1 rest → Making all ts made left rest → Making all ts new f behind
+pub making_leaf : (all : Forest) (ts : List Token) (made new left f : Forest) (rest behind : List Token)
+    (t u x : Token) → left ≡ leaf t f → x ≡ get_or rest 0 x → u ≡ x → new ≡ made +++ leaf u none
+    → behind ≡ drop 1 rest → Making all ts made left rest → Making all ts new f behind
 making_leaf all ts made new left f rest behind t u x e g c n b m =
     let s = m.small in
     let w : weight left ≡ weight (leaf t f) = ap weight e in
@@ -85,7 +89,10 @@ making_leaf all ts made new left f rest behind t u x e g c n b m =
       small = omega arith;
     }
 
-pub making_node : (all : Forest) (ts : List Token) (made new left f : Forest) (rest own behind : List Token) (k : NodeKind) (c : Forest) (x : Tree) (n : ℕ) → left ≡ node k c f → n ≡ tokens c → own ≡ take n rest → behind ≡ drop n rest → x ≡ (k, with_tokens c own) → new ≡ made +++ alone x → Making all ts made left rest → Making all ts new f behind
+pub making_node : (all : Forest) (ts : List Token) (made new left f : Forest) (rest own behind : List Token)
+    (k : NodeKind) (c : Forest) (x : Tree) (n : ℕ) → left ≡ node k c f → n ≡ tokens c → own ≡ take n rest
+    → behind ≡ drop n rest → x ≡ (k, with_tokens c own) → new ≡ made +++ alone x → Making all ts made left rest
+    → Making all ts new f behind
 making_node all ts made new left f rest own behind k c x n e p o b i q m =
     let s = m.small in
     let w : weight left ≡ weight (node k c f) = ap weight e in
@@ -94,7 +101,8 @@ making_node all ts made new left f rest own behind k c x n e p o b i q m =
     let l = length-append (leaves c) (leaves f) in
     let d = length-drop (tokens c) rest in
     record {
-      whole = rw (q, i, o, b, p) (append_assoc made (alone (k, with_tokens c (take (tokens c) rest))) (with_tokens f (drop (tokens c) rest)) ∙ ap (λ (h : Forest). made +++ h) (sym here) ∙ m.whole);
+      whole = rw (q, i, o, b, p) (append_assoc made (alone (k, with_tokens c (take (tokens c) rest)))
+          (with_tokens f (drop (tokens c) rest)) ∙ ap (λ (h : Forest). made +++ h) (sym here) ∙ m.whole);
       many = rw (b, p) (omega arith);
       small = omega arith;
     }

@@ -76,5 +76,15 @@ read_flatten (suc n) at (node k c f) ts le e =
     let end : at + length (leaves c ++ leaves f) ≡ (at + tokens c) + tokens f = omega arith in
     let size : suc (count c) - 1 ≡ length (flatten at c) = let l = length_flatten at c in omega arith in
     let inner : read n at (at + tokens c) (flatten at c) ts ≡ c = read_flatten n at c ts (omega arith) s.0 in
-    let rest : read n (at + tokens c) (at + tokens c + tokens f) (flatten (at + tokens c) f) ts ≡ f = read_flatten n (at + tokens c) f ts (omega arith) (subst (λ (us : List Token). take (tokens f) us ≡ leaves f) (drop_drop at (tokens c) ts) s.1) in
-    rw (end, range_none at at ts (omega arith), size, take-append_seam (flatten at c) (flatten (at + tokens c) f), drop-append_seam (flatten at c) (flatten (at + tokens c) f), inner, rest) refl
+    let rest : read n (at + tokens c) (at + tokens c + tokens f) (flatten (at + tokens c) f) ts ≡ f =
+    read_flatten n (at + tokens c) f ts (omega arith)
+    (subst (λ (us : List Token). take (tokens f) us ≡ leaves f) (drop_drop at (tokens c) ts) s.1) in
+    rw (
+      end,
+      range_none at at ts (omega arith),
+      size,
+      take-append_seam (flatten at c) (flatten (at + tokens c) f),
+      drop-append_seam (flatten at c) (flatten (at + tokens c) f),
+      inner,
+      rest,
+    ) refl

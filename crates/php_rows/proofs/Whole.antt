@@ -1,5 +1,39 @@
 -- Whole files as rows.
-use Rattle.std.proofs.Common.{◌≡◌, ◌≢◌, ℕ, zero, suc, ◌+◌, ◌-◌, ◌<◌, ◌≤◌, true, List, [], ◌∷◌, ◌++◌, Option, Some, None, inl, inr, length, map, take, drop, slice_range, slice_get, slice_index_or, refl, sym, ap, subst, ◌∙◌, append_assoc, arith}
+use Rattle.std.proofs.Common.{
+  ◌≡◌,
+  ◌≢◌,
+  ℕ,
+  zero,
+  suc,
+  ◌+◌,
+  ◌-◌,
+  ◌<◌,
+  ◌≤◌,
+  true,
+  List,
+  [],
+  ◌∷◌,
+  ◌++◌,
+  Option,
+  Some,
+  None,
+  inl,
+  inr,
+  length,
+  map,
+  take,
+  drop,
+  slice_range,
+  slice_get,
+  slice_index_or,
+  refl,
+  sym,
+  ap,
+  subst,
+  ◌∙◌,
+  append_assoc,
+  arith,
+}
 use Rattle.std.proofs.lemmas.List.{length-append, length-map, length-drop, length-take-le, take-append-drop, take_at, take_all, append-nil, drop_more, get_or-drop}
 use Rattle.std.proofs.lemmas.Option.{slice_get_past}
 use Rattle.std.proofs.Math.Seq.{take-append_seam, drop-append_seam, get_or-append_seam}
@@ -31,14 +65,16 @@ use Rattle.php_rows.proofs.TokensRead.{index_token, index_any, token_read}
 long : (ts : List Token) (f : Forest) (last : Token) → ts ≡ leaves f ++ last ∷ [] → length ts ≡ suc (tokens f)
 long ts f last e = ap length e ∙ length-append (leaves f) (last ∷ []) ∙ omega arith
 
-pub whole_fits : (ts : List Token) (row : Row) (n : ℕ) (f : Forest) (last : Token) → IsWhole ts row n f last → fits (length row.nodes.items) 0 (length ts - 1) row.nodes.items ≡ true
+pub whole_fits : (ts : List Token) (row : Row) (n : ℕ) (f : Forest) (last : Token) → IsWhole ts row n f last
+    → fits (length row.nodes.items) 0 (length ts - 1) row.nodes.items ≡ true
 whole_fits ts row n f last w =
     let l = long ts f last w.text in
     let e : length ts - 1 ≡ 0 + tokens f = omega arith in
     let c = length_flatten 0 f in
     rw (w.nodes, e) (fits_flatten (length (flatten 0 f)) 0 f (omega arith))
 
-pub whole_reads : (ts : List Token) (row : Row) (n : ℕ) (f : Forest) (last : Token) → IsWhole ts row n f last → read (length row.nodes.items) 0 (length ts - 1) row.nodes.items ts ≡ f
+pub whole_reads : (ts : List Token) (row : Row) (n : ℕ) (f : Forest) (last : Token) → IsWhole ts row n f last
+    → read (length row.nodes.items) 0 (length ts - 1) row.nodes.items ts ≡ f
 whole_reads ts row n f last w =
     let l = long ts f last w.text in
     let e : length ts - 1 ≡ 0 + tokens f = omega arith in
@@ -46,7 +82,9 @@ whole_reads ts row n f last w =
     let text : take (tokens f) (drop 0 ts) ≡ leaves f = ap (take (tokens f)) w.text ∙ take-append_seam (leaves f) (last ∷ []) in
     rw (w.nodes, e) (read_flatten (length (flatten 0 f)) 0 f ts (omega arith) text)
 
-pub whole_ends : (bytes : List ℕ) (ms : List Mark) (row : Row) (n : ℕ) (f : Forest) (last : Token) → IsWhole (map (token_at bytes) ms) row n f last → token_at bytes (slice_index_or ms (length ms - 1) nowhere) ≡ last
+pub whole_ends : (bytes : List ℕ) (ms : List Mark) (row : Row) (n : ℕ) (f : Forest) (last : Token)
+    → IsWhole (map (token_at bytes) ms) row n f last → token_at bytes (slice_index_or ms (length ms - 1) nowhere) ≡
+    last
 whole_ends bytes ms row n f last w =
     let l = long (map (token_at bytes) ms) f last w.text in
     let m = length-map ms (token_at bytes) in
@@ -60,7 +98,8 @@ pub whole_some : (ts : List Token) (row : Row) (n : ℕ) (f : Forest) (last : To
 whole_some ts row n f last w = let l = long ts f last w.text in omega arith
 
 -- the same of the nodes that were taken out of the row
-pub whole_all : (bytes : List ℕ) (ms : List Mark) (row : Row) (ns : List Flat) (n : ℕ) (f : Forest) (last : Token) → ns ≡ row.nodes.items → IsWhole (map (token_at bytes) ms) row n f last
+pub whole_all : (bytes : List ℕ) (ms : List Mark) (row : Row) (ns : List Flat) (n : ℕ) (f : Forest) (last : Token)
+    → ns ≡ row.nodes.items → IsWhole (map (token_at bytes) ms) row n f last
     → (fits (length ns) 0 (length ms - 1) ns ≡ true) × (read (length ns) 0 (length ms - 1) ns (map (token_at bytes) ms) ≡ f)
 whole_all bytes ms row ns n f last e w =
     let ts = map (token_at bytes) ms in
@@ -101,7 +140,8 @@ pub record NodeFound (ns xs : List Flat) (end : ℕ) (ts : List Token) (next : T
   pub node : slice_get (preorder (read (length ns) 0 end ns ts)) id ≡ Some (x.kind, read (x.size - 1) x.first x.end (take (x.size - 1) xs) ts)
   pub place : slice_get (places (read (length ns) 0 end ns ts) next) id ≡ Some (place_of (slice_range ts x.first x.end) (first_or (slice_range ts x.end end) next))
 
-pub node_found : (ns xs : List Flat) (end : ℕ) (ts : List Token) (next : Token) (id : ℕ) (x : Flat) → fits (length ns) 0 end ns ≡ true → drop id ns ≡ x ∷ xs → NodeFound ns xs end ts next id x
+pub node_found : (ns xs : List Flat) (end : ℕ) (ts : List Token) (next : Token) (id : ℕ) (x : Flat)
+    → fits (length ns) 0 end ns ≡ true → drop id ns ≡ x ∷ xs → NodeFound ns xs end ts next id x
 node_found ns xs end ts next id x h e =
     let a = at_is ns xs id x x e in
     let o = found (length ns) 0 end ns ts next id x x h (omega arith) a.0 a.1 in
@@ -113,7 +153,8 @@ node_found ns xs end ts next id x h e =
     let short : length (take (x.size - 1) xs) ≡ x.size - 1 = ap length (sym inner) ∙ few in
     record {
       few = omega arith;
-      nested = fits_enough (x.size - 1) (length ns) x.first x.end (take (x.size - 1) xs) (omega arith) (omega arith) ∙ subst (λ (us : List Flat). fits (length ns) x.first x.end us ≡ true) inner o.nested;
+      nested = fits_enough (x.size - 1) (length ns) x.first x.end (take (x.size - 1) xs) (omega arith) (omega arith)
+          ∙ subst (λ (us : List Flat). fits (length ns) x.first x.end us ≡ true) inner o.nested;
       late = o.late;
       numbers = w;
       node = o.node ∙ ap (λ (us : List Flat). Some (x.kind, read (length ns) x.first x.end us ts)) inner
@@ -121,13 +162,15 @@ node_found ns xs end ts next id x h e =
       place = o.place;
     }
 
-pub no_node : (ns : List Flat) (end : ℕ) (ts : List Token) (id : ℕ) → fits (length ns) 0 end ns ≡ true → length ns ≤ id → slice_get (preorder (read (length ns) 0 end ns ts)) id ≡ None
+pub no_node : (ns : List Flat) (end : ℕ) (ts : List Token) (id : ℕ) → fits (length ns) 0 end ns ≡ true
+    → length ns ≤ id → slice_get (preorder (read (length ns) 0 end ns ts)) id ≡ None
 no_node ns end ts id h le =
     let a = length-preorder (read (length ns) 0 end ns ts) in
     let b = count_read (length ns) 0 end ns ts h in
     slice_get_past (preorder (read (length ns) 0 end ns ts)) id (omega arith)
 
-pub no_place : (ns : List Flat) (end : ℕ) (ts : List Token) (next : Token) (id : ℕ) → fits (length ns) 0 end ns ≡ true → length ns ≤ id → slice_get (places (read (length ns) 0 end ns ts) next) id ≡ None
+pub no_place : (ns : List Flat) (end : ℕ) (ts : List Token) (next : Token) (id : ℕ) → fits (length ns) 0 end ns ≡ true
+    → length ns ≤ id → slice_get (places (read (length ns) 0 end ns ts) next) id ≡ None
 no_place ns end ts next id h le =
     let a = length-places (read (length ns) 0 end ns ts) next in
     let b = count_read (length ns) 0 end ns ts h in
@@ -144,15 +187,21 @@ lead_length bytes m i =
     let w = i.within in
     length_range bytes m.lead m.start (omega arith)
 
-pub placed_range : (ts us : List Token) (first end : ℕ) (next : Token) → ArePlaced 0 ts → first ≤ end → end < length ts → us ≡ slice_range ts first end → next ≡ slice_index_or ts end next
+pub placed_range : (ts us : List Token) (first end : ℕ) (next : Token) → ArePlaced 0 ts → first ≤ end
+    → end < length ts → us ≡ slice_range ts first end → next ≡ slice_index_or ts end next
     → (at : ℕ) × ArePlaced at (us ++ next ∷ [])
 placed_range ts us first end next p le lt e n =
     let behind : drop end ts ≡ next ∷ drop (end + 1) ts = drop_more ts end next lt ∙ ap (λ (t : Token). t ∷ drop (end + 1) ts) (sym n) in
     let whole : ts ≡ take first ts ++ (us ++ next ∷ drop (end + 1) ts) =
-    sym (take-append-drop first ts) ∙ ap (λ (vs : List Token). take first ts ++ vs) (drop_split ts first end le ∙ ap (λ (vs : List Token). vs ++ drop end ts) (sym e) ∙ ap (λ (vs : List Token). us ++ vs) behind) in
+    sym (take-append-drop first ts) ∙ ap (λ (vs : List Token). take first ts ++ vs)
+    (drop_split ts first end le ∙ ap (λ (vs : List Token). vs ++ drop end ts) (sym e)
+    ∙ ap (λ (vs : List Token). us ++ vs) behind) in
     let late = placed-back 0 (take first ts) (us ++ next ∷ drop (end + 1) ts) (subst (λ (vs : List Token). ArePlaced 0 vs) whole p) in
-    let split : us ++ next ∷ drop (end + 1) ts ≡ (us ++ next ∷ []) ++ drop (end + 1) ts = sym (append_assoc us (next ∷ []) (drop (end + 1) ts)) in
-    (ends_at 0 (take first ts), placed-front (ends_at 0 (take first ts)) (us ++ next ∷ []) (drop (end + 1) ts) (subst (λ (vs : List Token). ArePlaced (ends_at 0 (take first ts)) vs) split late))
+    let split : us ++ next ∷ drop (end + 1) ts ≡ (us ++ next ∷ []) ++ drop (end + 1) ts = sym (append_assoc us (next ∷ []) (drop (end + 1) ts)) in (
+      ends_at 0 (take first ts),
+      placed-front (ends_at 0 (take first ts)) (us ++ next ∷ []) (drop (end + 1) ts)
+          (subst (λ (vs : List Token). ArePlaced (ends_at 0 (take first ts)) vs) split late),
+    )
 
 -- some tokens, and the one behind them
 pub place_is : (bytes : List ℕ) (ms : List Mark) (first end : ℕ) (m n d : Mark) → first < end → end < length ms → IsMark bytes n → ArePlaced 0 (map (token_at bytes) ms)
@@ -165,7 +214,9 @@ place_is bytes ms first end m n d lt within i p em en =
     let at_end : token_at bytes n ≡ slice_index_or ts end (token_at bytes n) = token_read bytes ms end n d within en in
     let at_first : token_at bytes m ≡ slice_index_or ts first (token_at bytes m) = token_read bytes ms first m d (omega arith) em in
     let q = placed_range ts us first end (token_at bytes n) p (omega arith) (omega arith) refl at_end in
-    let some : first_of us ≡ Some (token_at bytes m) = ap first_of (range_step first end ts (token_at bytes m) lt (omega arith)) ∙ ap (λ (t : Token). some_token t) (sym at_first) in
+    let some : first_of us ≡ Some (token_at bytes m) = ap first_of
+    (range_step first end ts (token_at bytes m) lt (omega arith))
+    ∙ ap (λ (t : Token). some_token t) (sym at_first) in
     let r = placed_between q.0 us (token_at bytes m) (token_at bytes n) q.1 some in
     let lead = lead_length bytes n i in
     let order = i.order in

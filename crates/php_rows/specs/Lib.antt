@@ -3,3 +3,4 @@ pub mod Rows
 pub mod Reading
 pub mod File
 pub mod Nodes
+pub mod Kinds

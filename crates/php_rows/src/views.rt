@@ -1,9 +1,11 @@
 // What stands in a node, without a walk.
-ghost use Rattle.std.specs.Prelude.{◌≡◌, ◌≤◌, length, slice_range};
+ghost use Rattle.std.specs.Prelude.{◌≡◌, ◌≤◌, length, map, slice_range};
 ghost use Rattle.php_tree.specs.Tree.{leaves};
 ghost use Rattle.php_terminals.specs.Tokens.{tokens_in};
+ghost use Rattle.php_rows.specs.Kinds.{kind_of, kinds};
 ghost use Rattle.php_rows.specs.Reading.{IsLeading, bytes_of, forest_in};
 
+use crate::flat::Flat;
 use crate::next::split;
 use crate::parts::Parts;
 use php_terminals::tokens::Tokens;
@@ -41,6 +43,13 @@ impl<'a> Parts<'a> {
         ensures { result ≡ self.entry.number }
     {
         self.number
+    }
+
+    /// The nodes of these parts, inner ones too, each before those inside it.
+    pub fn nodes(self) -> &'a [Flat]
+        ensures { map kind_of result.now ≡ kinds (forest_in self.entry) }
+    {
+        self.nodes
     }
 
     /// The tokens of these parts, those of inner nodes too.

@@ -1,5 +1,34 @@
 -- Whether a text ends in a bare `$`, byte by byte.
-use Rattle.std.proofs.Common.{◌≡◌, ℕ, ◌<◌, if◌then◌else◌, suc, ◌+◌, ◌-◌, ◌==◌, ◌&&◌, Bool, true, false, not, List, [], ◌∷◌, ◌++◌, length, refl, ap, sym, ◌∙◌, arith, append_assoc, append-nil, codes, take, drop}
+use Rattle.std.proofs.Common.{
+  ◌≡◌,
+  ℕ,
+  ◌<◌,
+  if◌then◌else◌,
+  suc,
+  ◌+◌,
+  ◌-◌,
+  ◌==◌,
+  ◌&&◌,
+  Bool,
+  true,
+  false,
+  not,
+  List,
+  [],
+  ◌∷◌,
+  ◌++◌,
+  length,
+  refl,
+  ap,
+  sym,
+  ◌∙◌,
+  arith,
+  append_assoc,
+  append-nil,
+  codes,
+  take,
+  drop,
+}
 use Rattle.std.proofs.lemmas.Bool.{false≢true}
 use Rattle.tracked_changes.specs.Pieces.{Piece, before, kept}
 use Rattle.php_tree.specs.declared.token.Token.{Token}

@@ -1,5 +1,5 @@
 -- Where every rule is on, none has a place.
-use Rattle.std.proofs.Common.{◌≡◌, ℕ, zero, suc, Bool, true, false, if◌then◌else◌, List, [], ◌++◌, Option, refl, ap, sym, ◌∙◌, append-nil}
+use Rattle.std.proofs.Common.{◌≡◌, ℕ, zero, suc, Bool, true, false, if◌then◌else◌, List, [], ◌++◌, Option, refl, ap, ◌∙◌, append-nil}
 use Rattle.php_tree.specs.Tree.{Forest, none, leaf, node, File}
 use Rattle.php_tree.specs.Places.{behind, end_of}
 use Rattle.syntax_rules.specs.Around.{Around, at_top, within}

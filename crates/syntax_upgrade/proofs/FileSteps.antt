@@ -1,5 +1,5 @@
 -- A whole file, step by step.
-use Rattle.std.proofs.Common.{◌≡◌, ℕ, zero, true, false, List, ap, ◌∙◌}
+use Rattle.std.proofs.Common.{◌≡◌, ℕ, zero, true, false, ap, ◌∙◌}
 use Rattle.php_tree.specs.declared.token.Token.{Token}
 use Rattle.php_tree.specs.Tree.{Forest, File, file_leaves}
 use Rattle.php_tree.specs.Places.{end_of}

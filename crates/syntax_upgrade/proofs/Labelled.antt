@@ -1,12 +1,8 @@
 -- The labels `enum`, told at the token behind each, are those that are told by what is ahead.
-use Rattle.std.proofs.Common.{◌≡◌, ℕ, ◌+◌, Bool, true, false, not, ◌&&◌, if◌then◌else◌, List, [], ◌∷◌, ◌++◌, length, Option, Some, None, refl, ap, sym, ◌∙◌, append_assoc, append-nil}
-use Rattle.rule_tables.specs.declared.cause.Cause.TheVariants.{Always}
-use Rattle.rule_tables.specs.declared.rule.RuleId.TheVariants as rule
-use Rattle.php_tree.specs.declared.kind.NodeKind.{NodeKind}
+use Rattle.std.proofs.Common.{◌≡◌, ℕ, Bool, true, false, not, ◌&&◌, List, [], ◌∷◌, ◌++◌, Option, Some, None, refl, ap, sym, ◌∙◌, append_assoc, append-nil}
 use Rattle.php_tree.specs.declared.token.Token.{Token}
 use Rattle.php_tree.specs.Tree.{Forest, none, leaf, node, leaves, File, file_leaves}
 use Rattle.php_tree.specs.Places.{behind, end_of}
-use Rattle.php_terminals.specs.declared.terminal.Terminal.{Terminal}
 use Rattle.php_terminals.specs.declared.terminal.Terminal.TheVariants as t
 use Rattle.php_terminals.specs.Classify.{terminal}
 use Rattle.syntax_upgrade.specs.Enums.{before_word, enums, is_enum, is_label, takes_label}

@@ -26,3 +26,9 @@ pub mod FileSteps
 pub mod OffStarts
 pub mod EveryRule
 pub mod OffSteps
+pub mod CalmDrafts
+pub mod CalmWritten
+pub mod CalmReports
+pub mod CalmOff
+pub mod CalmPassed
+pub mod CalmTokens

@@ -1,5 +1,5 @@
 -- Whole names, and the trivia before a draft.
-use Rattle.std.proofs.Common.{◌≡◌, ℕ, Bool, true, false, ◌&&◌, ◌||◌, if◌then◌else◌, List, [], ◌++◌, refl, ap, sym, ◌∙◌, codes, Option, append-nil}
+use Rattle.std.proofs.Common.{◌≡◌, ℕ, Bool, true, false, ◌&&◌, ◌||◌, if◌then◌else◌, List, [], ◌++◌, refl, ap, sym, ◌∙◌, codes, append-nil}
 use Rattle.std.specs.Prelude.{cond}
 use Rattle.std.proofs.lemmas.Bool.{false≢true}
 use Rattle.php_tree.specs.declared.kind.NodeKind.{NodeKind}

@@ -1,13 +1,13 @@
 -- A token of a node, where places of rules that are off are looked for.
-use Rattle.std.proofs.Common.{◌≡◌, ℕ, zero, suc, Bool, true, false, ◌&&◌, if◌then◌else◌, ◌++◌, Option, refl, ap, sym, ◌∙◌}
+use Rattle.std.proofs.Common.{◌≡◌, ℕ, zero, Bool, true, false, ◌&&◌, if◌then◌else◌, ◌++◌, Option, refl, ap, sym, ◌∙◌}
 use Rattle.std.proofs.lemmas.Bool.{false≢true}
 use Rattle.php_tree.specs.declared.token.Token.{Token}
-use Rattle.php_tree.specs.Tree.{Forest, none, leaf, node}
+use Rattle.php_tree.specs.Tree.{Forest, leaf}
 use Rattle.php_tree.specs.Places.{behind}
 use Rattle.syntax_rules.specs.declared.rules.Rules.{Rules}
 use Rattle.syntax_rules.specs.Around.{Around}
 use Rattle.syntax_upgrade.specs.NamesWalked.{Head}
-use Rattle.syntax_upgrade.specs.OffPlaces.{Off, dollar_reports, first_off, head_by, head_off, inner_off, name_off, off_in, trivia_off}
+use Rattle.syntax_upgrade.specs.OffPlaces.{Off, dollar_reports, first_off, head_by, head_off, off_in, trivia_off}
 use Rattle.syntax_upgrade.proofs.Tokens.{and_first}
 
 on_if : (b : Bool) (p q q' : Off) → b ≡ true → (if b then p else q) ≡ (if b then p else q')

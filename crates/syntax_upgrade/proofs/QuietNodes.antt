@@ -1,5 +1,5 @@
 -- Nodes in which no word is refused.
-use Rattle.std.proofs.Common.{◌≡◌, ℕ, zero, suc, Bool, true, false, ◌&&◌, ◌||◌, List, [], ◌++◌, refl, ap, sym, ◌∙◌}
+use Rattle.std.proofs.Common.{◌≡◌, ℕ, zero, suc, Bool, true, false, ◌&&◌, ◌||◌, List, ◌++◌, refl, ap, sym, ◌∙◌}
 use Rattle.std.proofs.lemmas.Bool.{false≢true}
 use Rattle.php_tree.specs.declared.kind.NodeKind.{NodeKind}
 use Rattle.php_tree.specs.declared.kind.NodeKind.TheVariants as k
@@ -12,7 +12,22 @@ use Rattle.php_terminals.specs.Classify.{terminal}
 use Rattle.syntax_upgrade.specs.Found.{Report}
 use Rattle.syntax_upgrade.specs.NameHeads.{head_at}
 use Rattle.syntax_upgrade.specs.Reports.{at_node, reports_in}
-use Rattle.syntax_upgrade.specs.ReservedName.{Standing, at_first, past, past_node, class_by, next, is_doubtful, is_keyword_now, is_last, is_match, is_quiet, is_type_now, refuses, refuses_last, refused_if}
+use Rattle.syntax_upgrade.specs.ReservedName.{
+  Standing,
+  at_first,
+  past,
+  past_node,
+  class_by,
+  next,
+  is_doubtful,
+  is_keyword_now,
+  is_match,
+  is_quiet,
+  is_type_now,
+  refuses,
+  refuses_last,
+  refused_if,
+}
 
 -- ---- nothing is refused
 

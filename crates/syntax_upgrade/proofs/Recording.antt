@@ -1,6 +1,6 @@
 -- The bytes and the number of edits of pieces that are written one after another.
-use Rattle.std.proofs.Common.{◌≡◌, ℕ, zero, suc, ◌+◌, Bool, true, false, List, [], ◌∷◌, ◌++◌, length, refl, ap, sym, ◌∙◌, arith, append_assoc, append-nil}
-use Rattle.tracked_changes.specs.Pieces.{Piece, kept, changed, also, new_bytes, old_bytes, after}
+use Rattle.std.proofs.Common.{◌≡◌, ℕ, suc, ◌+◌, Bool, true, false, List, [], ◌∷◌, ◌++◌, length, refl, ap, sym, ◌∙◌, arith, append_assoc, append-nil}
+use Rattle.tracked_changes.specs.Pieces.{Piece, kept, changed, also, new_bytes, after}
 use Rattle.tracked_changes.specs.Edits.{join, joined, edits_from}
 use Rattle.syntax_upgrade.specs.Writing.{Recorded, one_more, piece_next, pieces_next, front}
 

@@ -1,13 +1,12 @@
 -- What parts begin with, where comments are spaced and where they stay: as many tokens are one name.
-use Rattle.std.proofs.Common.{◌≡◌, ℕ, zero, suc, Bool, true, false, not, ◌&&◌, ◌||◌, if◌then◌else◌, List, [], ◌++◌, Option, Some, None, refl, ap, sym, ◌∙◌, append-nil}
+use Rattle.std.proofs.Common.{◌≡◌, ℕ, suc, Bool, true, false, ◌&&◌, ◌||◌, List, [], ◌++◌, Option, Some, None, refl, ap, sym, ◌∙◌, append-nil}
 use Rattle.php_tree.specs.declared.token.Token.{Token}
-use Rattle.php_tree.specs.declared.token.TokenKind.{TokenKind}
 use Rattle.php_tree.specs.Tree.{Forest, none, leaf, node}
 use Rattle.tracked_changes.specs.Pieces.{before}
 use Rattle.tracked_changes.specs.Draft.{NewToken, unchanged_token}
 use Rattle.syntax_rules.specs.HashComment.{hash_comment}
 use Rattle.syntax_rules.proofs.HashCommentKeeps.{lead_keeps}
-use Rattle.syntax_rules.specs.SplitName.{begins_root, deleted, is_backslash, is_label, is_name, is_namespace, is_nothing, is_one, one_name}
+use Rattle.syntax_rules.specs.SplitName.{is_nothing, is_one, one_name}
 use Rattle.syntax_upgrade.specs.NamesWalked as whole
 use Rattle.syntax_upgrade.specs.NameHeads as own
 use Rattle.syntax_upgrade.proofs.Own.{one_text}
@@ -45,7 +44,15 @@ same_joined : (t : Token) (h : whole.Head) (g : own.Head) → h.more ≡ g.more 
     → is_one (hash_comment t) h.token ≡ b → is_one (unchanged_token t) g.token ≡ b
     → SameHead (Some (whole.head_of true (hash_comment t) (Some h))) (Some (own.head_of t (Some g)))
 same_joined t h g m s true e i =
-    rw (with_true (is_one (hash_comment t) h.token) (is_nothing (before h.token.lead)), e, i) (ap suc m, record { kind = refl; lead = lead_keeps true t.lead ∙ sym (append-nil t.lead); text = same_text t h.token g.token s })
+    rw (with_true (is_one (hash_comment t) h.token) (is_nothing (before h.token.lead)), e, i) (
+      ap suc m,
+      record {
+        kind = refl;
+        lead = lead_keeps true t.lead
+            ∙ sym (append-nil t.lead);
+        text = same_text t h.token g.token s;
+      },
+    )
 same_joined t h g m s false e i =
     rw (with_true (is_one (hash_comment t) h.token) (is_nothing (before h.token.lead)), e, i) (refl, same_token t)
 

@@ -1,8 +1,7 @@
 -- Trivia without a `#` stay as they are.
-use Rattle.std.proofs.Common.{◌≡◌, ℕ, Bool, true, false, ◌==◌, ◌&&◌, ◌||◌, if◌then◌else◌, List, [], ◌∷◌, ◌++◌, refl, ap, sym, ◌∙◌}
+use Rattle.std.proofs.Common.{◌≡◌, ℕ, Bool, true, false, ◌==◌, ◌||◌, List, [], ◌∷◌, refl, sym, ◌∙◌}
 use Rattle.std.specs.List.{list_any}
 use Rattle.std.proofs.lemmas.Bool.{false≢true}
-use Rattle.tracked_changes.specs.Pieces.{Piece, changed, kept}
 use Rattle.syntax_rules.specs.HashComment.{Standing, begins_hash, block, closing, line, moved, opening, outside, spaced, untouched}
 use Rattle.syntax_upgrade.specs.Writing.{Recorded, kept_next, pieces_next}
 use Rattle.syntax_upgrade.proofs.Bare.{kept_twice}

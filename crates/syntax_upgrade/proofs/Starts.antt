@@ -1,5 +1,5 @@
 -- Where a node's parts begin, by its rule.
-use Rattle.std.proofs.Common.{◌≡◌, zero, Bool, true, false, ◌&&◌, if◌then◌else◌, Option, refl, ap, sym, ◌∙◌}
+use Rattle.std.proofs.Common.{◌≡◌, zero, Bool, true, false, ◌&&◌, if◌then◌else◌, Option, refl, sym, ◌∙◌}
 use Rattle.php_tree.specs.Tree.{Forest, Tree}
 use Rattle.syntax_rules.specs.Around.{Around, within}
 use Rattle.syntax_rules.specs.BraceOffset.{is_brace_offset}
@@ -46,7 +46,8 @@ module _ (r : Rules) where
 
   pub text_start : (t : Tree) (w : Written) → (r.brace_offsets && is_brace_offset t.0) ≡ false → (r.real_casts && is_real_cast t) ≡ false → (r.unset_casts && is_edited t) ≡ false
       → (r.dollar_braces && is_quoted t.0) ≡ true → text_walked r (within t.0 t.1) true other t.1 w ≡ inside_next r t w
-  text_start t w h i j k = sym (fourth (r.brace_offsets && is_brace_offset t.0) (r.real_casts && is_real_cast t) (r.unset_casts && is_edited t) (r.dollar_braces && is_quoted t.0) _ _ _ _ _ h i j k)
+  text_start t w h i j k = sym (fourth (r.brace_offsets && is_brace_offset t.0) (r.real_casts && is_real_cast t)
+      (r.unset_casts && is_edited t) (r.dollar_braces && is_quoted t.0) _ _ _ _ _ h i j k)
 
   pub plain_start : (t : Tree) (w : Written) → (r.brace_offsets && is_brace_offset t.0) ≡ false → (r.real_casts && is_real_cast t) ≡ false → (r.unset_casts && is_edited t) ≡ false
       → (r.dollar_braces && is_quoted t.0) ≡ false → walked r (own_of r false) (within t.0 t.1) true zero t.1 w ≡ inside_next r t w

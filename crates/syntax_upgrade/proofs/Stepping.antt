@@ -1,10 +1,9 @@
 -- Tokens, written step by step.
-use Rattle.std.proofs.Common.{◌≡◌, ℕ, Bool, true, false, if◌then◌else◌, List, [], ◌∷◌, ◌++◌, length, codes, refl, ap, sym, ◌∙◌, append-nil}
+use Rattle.std.proofs.Common.{◌≡◌, ℕ, Bool, true, false, List, [], ◌∷◌, ◌++◌, codes, refl, ap, sym, ◌∙◌}
 use Rattle.php_tree.specs.declared.token.Token.{Token}
 use Rattle.php_tree.specs.declared.token.TokenKind.{TokenKind}
-use Rattle.php_tree.specs.declared.token.TokenKind.TheVariants as token
 use Rattle.tracked_changes.specs.Pieces.{Piece, kept}
-use Rattle.tracked_changes.specs.Draft.{NewToken, token_pieces}
+use Rattle.tracked_changes.specs.Draft.{token_pieces}
 use Rattle.tracked_changes.specs.Tokens.{retexted}
 use Rattle.syntax_rules.specs.DollarBrace.{dollar_name}
 use Rattle.syntax_rules.specs.declared.rules.Rules.{Rules}
@@ -41,12 +40,17 @@ module _ (r : Rules) where
 
   -- the name behind `${`
   pub name_steps : (t : Token) (w : Written)
-      → recorded_next (kept_next t.text) (recorded_next (pieces_next (lead_by r.hash_comments t.lead)) (recorded_next (also_next (codes "$")) (begun_next r.split_names (record { more = 0; token = dollar_name (token_by r t) }) (lead_by r.hash_comments []) w)))
+      → recorded_next (kept_next t.text) (recorded_next (pieces_next (lead_by r.hash_comments t.lead))
+      (recorded_next (also_next (codes "$"))
+      (begun_next r.split_names (record { more = 0; token = dollar_name (token_by r t) })
+      (lead_by r.hash_comments []) w)))
       ≡ token_next r.split_names (dollar_name (token_by r t)) w
   name_steps t w =
       let h : Head = record { more = 0; token = dollar_name (token_by r t) } in
       let b = begun_next r.split_names h [] w in
-      ap (λ (l : List Piece). recorded_next (kept_next t.text) (recorded_next (pieces_next (lead_by r.hash_comments t.lead)) (recorded_next (also_next (codes "$")) (begun_next r.split_names h l w))))
+      ap (λ (l : List Piece). recorded_next (kept_next t.text)
+      (recorded_next (pieces_next (lead_by r.hash_comments t.lead))
+      (recorded_next (also_next (codes "$")) (begun_next r.split_names h l w))))
       (no_lead r.hash_comments)
       ∙ ap (λ (q : Recorded). recorded_next (λ x. q) b)
       (sym (pieces_append (lead_by r.hash_comments t.lead) (kept t.text ∷ []) (also_next (codes "$") b.recorded)))

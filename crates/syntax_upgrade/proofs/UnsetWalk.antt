@@ -1,5 +1,5 @@
 -- A cast `(unset)` of a plain variable: its two tokens, and no report.
-use Rattle.std.proofs.Common.{◌≡◌, ℕ, zero, true, false, Bool, ◌&&◌, if◌then◌else◌, List, [], ◌∷◌, ◌++◌, Some, Option, refl, ap, sym, ◌∙◌, codes}
+use Rattle.std.proofs.Common.{◌≡◌, ℕ, zero, true, false, Bool, ◌&&◌, if◌then◌else◌, List, [], ◌++◌, Some, refl, ap, sym, ◌∙◌, codes}
 use Rattle.std.specs.Str.{bytes_eq}
 use Rattle.std.proofs.lemmas.Bool.{false≢true}
 use Rattle.php_tree.specs.declared.kind.NodeKind.{NodeKind}
@@ -9,7 +9,7 @@ use Rattle.php_tree.specs.Tree.{Forest, none, leaf, node, Tree}
 use Rattle.php_tree.specs.Places.{behind, end_of}
 use Rattle.syntax_rules.specs.declared.rules.Rules.{Rules}
 use Rattle.syntax_rules.specs.Casts.{bare, first_text, is_cast}
-use Rattle.syntax_rules.specs.UnsetCast.{is_edited, is_unset_cast}
+use Rattle.syntax_rules.specs.UnsetCast.{is_edited}
 use Rattle.syntax_upgrade.specs.Found.{Report}
 use Rattle.syntax_upgrade.specs.Labels.{Labels, label_next, labels_in}
 use Rattle.syntax_rules.specs.Around.{within}
@@ -19,7 +19,7 @@ use Rattle.syntax_upgrade.specs.OffPlaces.{Off, first_off, inside_off, null_off,
 use Rattle.syntax_upgrade.specs.Parts.{others}
 use Rattle.syntax_upgrade.specs.Reports.{reports_in}
 use Rattle.syntax_upgrade.specs.ReservedName.{at_first}
-use Rattle.syntax_upgrade.specs.UnsetCast.{tokens_in, unset_in}
+use Rattle.syntax_upgrade.specs.UnsetCast.{unset_in}
 use Rattle.syntax_upgrade.proofs.Nulls.{is_null, shape, these, these_tokens}
 use Rattle.syntax_upgrade.proofs.QuietNodes.{quiet_leaf}
 use Rattle.syntax_upgrade.proofs.Tokens.{and_first}

@@ -1,5 +1,5 @@
 -- Parts that are written one after another.
-use Rattle.std.proofs.Common.{◌≡◌, true, false, Bool, Option, refl, ap, sym, ◌∙◌, zero, None}
+use Rattle.std.proofs.Common.{◌≡◌, true, false, Bool, Option, refl, ap, sym, ◌∙◌, zero}
 use Rattle.php_tree.specs.Tree.{Forest, none, Tree}
 use Rattle.syntax_rules.specs.declared.rules.Rules.{Rules}
 use Rattle.syntax_rules.specs.Around.{Around, at_top}

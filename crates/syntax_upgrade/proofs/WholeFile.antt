@@ -1,9 +1,7 @@
 -- The bytes and the number of edits of a file are those that the tokens of its draft write.
-use Rattle.std.proofs.Common.{◌≡◌, ℕ, Bool, true, false, if◌then◌else◌, List, ◌++◌, length, ap, sym, ◌∙◌}
-use Rattle.php_tree.specs.Tree.{File, file_printed}
-use Rattle.tracked_changes.specs.Pieces.{Piece, after}
-use Rattle.tracked_changes.specs.Draft.{Draft, FileDraft, token_pieces, pieces, file_pieces}
-use Rattle.tracked_changes.specs.Edits.{joined, edits_from}
+use Rattle.std.proofs.Common.{◌≡◌, Bool, true, false, if◌then◌else◌, ◌++◌, ap, sym, ◌∙◌}
+use Rattle.php_tree.specs.Tree.{File}
+use Rattle.tracked_changes.specs.Draft.{Draft, token_pieces, pieces, file_pieces}
 use Rattle.tracked_changes.proofs.Splicing.{file_printed-rewritten}
 use Rattle.syntax_rules.specs.Around.{at_top}
 use Rattle.syntax_rules.specs.declared.rules.Rules.{Rules}

@@ -23,3 +23,5 @@ pub mod OffPlaces
 pub mod RulesOn
 pub mod Reports
 pub mod Walk
+pub mod Calm
+pub mod CalmRuns

@@ -1,5 +1,5 @@
 -- The new bytes of a source and how many edits make them, written from its front, piece by piece.
-use Rattle.std.specs.Prelude.{ℕ, ◌+◌, Bool, true, false, if◌then◌else◌, List, [], ◌∷◌, ◌++◌}
+use Rattle.std.specs.Prelude.{ℕ, ◌+◌, Bool, true, false, List, [], ◌∷◌, ◌++◌}
 use Rattle.tracked_changes.specs.Pieces.{Piece, kept, changed, also}
 
 -- What is written, by how many edits, and whether the last of them may go on.

@@ -84,7 +84,7 @@ fn begins_hash(standing: Standing, byte: u8, rest: &[u8]) -> bool
 }
 
 // Whether there is a `#`.
-fn has_hash(lead: &[u8]) -> bool
+pub(crate) fn has_hash(lead: &[u8]) -> bool
     ensures { result ≡ list_any (λ b. b == 35) lead.now }
 {
     lead.iter().any(|byte| *byte == b'#')

@@ -2,8 +2,9 @@
 //
 // Before: enum and $a;
 // After:  the same, reported
-ghost use Rattle.std.specs.Prelude.{◌≡◌, ◌++◌, map, option_map, IfOk, OnOk};
+ghost use Rattle.std.specs.Prelude.{◌≡◌, ◌++◌, map, option_map, IfOk, IsTrue, None, OnOk};
 ghost use Rattle.php_terminals.specs.Classify.{is_word_token as word_token};
+ghost use Rattle.syntax_upgrade.specs.Calm as calm;
 ghost use Rattle.syntax_upgrade.specs.Enums as spec;
 ghost use Rattle.syntax_upgrade.specs.Found.{found_of};
 ghost use Rattle.syntax_upgrade.specs.Labels.{is_word_behind as word_behind, label_next, may_be_enum as may_be, no_labels, place_if as placed_if, told as told_of};
@@ -59,6 +60,23 @@ impl Labels {
         self.held = place_if(may_be_enum(self.before, token), at, token)?;
         self.before = token.class;
         Ok(())
+    }
+
+    /// Whether no label `enum` is held.
+    pub(crate) fn is_free(&self) -> bool
+        ensures { IsTrue result → self.now.held ≡ None }
+    {
+        match self.held {
+            None => true,
+            Some(_) => false,
+        }
+    }
+
+    /// Behind tokens of which none is a label `enum`, where none is held: the last one is of a class.
+    pub(crate) fn go_behind(&mut self, class: Terminal)
+        ensures { self.new ≡ record { before = class; held = self.old.held; found = self.old.found } }
+    {
+        self.before = class;
     }
 
     /// What is reported.
@@ -124,6 +142,13 @@ fn is_word_behind(token: Word) -> bool
     ensures { result ≡ word_behind (seen token.entry) }
 {
     is_white(token.lead) && is_word_token(token) && !is_heading(token.class)
+}
+
+/// Whether a token of a kind with a text is a label `enum`.
+pub(crate) fn is_enum(kind: TokenKind, text: &[u8]) -> bool
+    ensures { result ≡ calm.is_enum kind text.now }
+{
+    is_label(kind) && is_word(b"enum", text)
 }
 
 // Whether a token is a label `enum` behind one of a class.

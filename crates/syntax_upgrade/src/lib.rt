@@ -3,6 +3,7 @@
 #![tactic(auto)]
 
 mod brace_offset;
+mod calm;
 mod casts;
 mod dollar_brace;
 mod dot_precedence;

@@ -1,5 +1,5 @@
 // The places of rules that are off: where each of them would edit.
-ghost use Rattle.std.specs.Prelude.{◌≡◌, ◌&&◌, Bool, false, zero, map, Option, IfOk, OnOk};
+ghost use Rattle.std.specs.Prelude.{◌≡◌, ◌&&◌, if◌then◌else◌, Bool, false, zero, map, Option, IfOk, OnOk};
 ghost use Rattle.php_tree.specs.Tree.{leaf as leaf_then};
 ghost use Rattle.php_tree.specs.Places.{behind as behind_token, end_of};
 ghost use Rattle.php_rows.specs.Reading.{forest_in};
@@ -274,6 +274,13 @@ impl OffPlaces {
         self.node_if(real, RuleId::RealCast, kind, parts, at, end)?;
         let unset = !rules.unset_casts && is_edited(kind, parts);
         self.node_if(unset, RuleId::UnsetCast, kind, parts, at, end)
+    }
+
+    /// Behind tokens that no rule touches, the last one a keyword or not.
+    pub(crate) fn behind_calm(&mut self, rules: Rules, is_keyword: bool)
+        ensures { self.new ≡ record { behind = if rules.split_names then false else is_keyword; found = self.old.found } }
+    {
+        self.behind_keyword = if rules.split_names { false } else { is_keyword };
     }
 
     /// What is found.

@@ -140,7 +140,7 @@ fn refuses_last(kind: NodeKind, standing: TokenStanding, class: Terminal, next: 
 }
 
 // Whether 8.3 refuses a token of this class anywhere.
-fn is_doubtful(class: Terminal) -> bool
+pub(crate) fn is_doubtful(class: Terminal) -> bool
     ensures { result ≡ spec.is_doubtful class }
 {
     is_keyword_now(class) || is_type_now(class)

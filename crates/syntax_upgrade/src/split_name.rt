@@ -130,7 +130,7 @@ fn is_name(kind: TokenKind) -> bool
     matches!(kind, TokenKind::Name)
 }
 
-fn is_keyword(kind: TokenKind) -> bool
+pub(crate) fn is_keyword(kind: TokenKind) -> bool
     ensures { result ≡ keyword kind }
 {
     matches!(kind, TokenKind::Keyword)

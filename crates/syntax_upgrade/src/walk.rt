@@ -2,9 +2,10 @@
 ghost use Rattle.std.specs.Prelude.{◌≡◌, ◌++◌, Some, None, true, zero, map, IfOk, OnOk};
 ghost use Rattle.php_tree.specs.Tree.{alone};
 ghost use Rattle.php_tree.specs.Places.{end_of};
-ghost use Rattle.php_rows.specs.Reading.{forest_in};
+ghost use Rattle.php_rows.specs.Reading.{bytes_of, forest_in};
 ghost use Rattle.syntax_upgrade.specs.Found.{found_of};
 ghost use Rattle.syntax_rules.specs.InContext.{around_of};
+ghost use Rattle.syntax_upgrade.specs.CalmRuns.{Stays};
 ghost use Rattle.syntax_upgrade.specs.Labels.{labels_in};
 ghost use Rattle.syntax_upgrade.specs.Laws.{own_next};
 ghost use Rattle.syntax_upgrade.specs.NamesWalked.{child_next};
@@ -17,12 +18,13 @@ ghost use Rattle.syntax_upgrade.specs.UnsetCast.{unset_in};
 ghost use Rattle.syntax_upgrade.specs.Walk.{around_home, kind_of};
 ghost use Rattle.syntax_upgrade.specs.Words.{both_seen, seen};
 
+use crate::calm::{Calm, Loud, calm_in, text_in};
 use crate::dot_precedence::operator_of;
 use crate::found::Found;
 use crate::labels::Labels;
 use crate::next::{Part, next, others};
 use crate::off_places::OffPlaces;
-use crate::past::past_token;
+use crate::past::{past_bytes, past_token};
 use crate::progress::{Progress, behind_node, leaf, start};
 use crate::reports::add_at_node;
 use crate::reserved_name::{WordSpot, at_front, behind_inner, word};
@@ -35,13 +37,14 @@ use php_tree::NodeKind;
 use std::alloc::AllocError;
 use syntax_rules::Rules;
 
-/// What a walk wrote and found, of rules that are off too.
+/// What a walk wrote and found, of rules that are off too, and what it met last that a rule may touch.
 #[derive(Drop)]
 pub(crate) struct Walk {
     pub(crate) writer: Writer,
     pub(crate) found: Vec<Found>,
     pub(crate) labels: Labels,
     pub(crate) off: OffPlaces,
+    pub(crate) loud: Loud,
 }
 
 /// The node whose parts are walked, if any, and its operator.
@@ -144,9 +147,65 @@ fn walk_child(
     Ok(end)
 }
 
-// A node without what is put round it.
+// A node without what is put round it. One that no rule touches is passed as a whole.
 #[cycle(walk)]
 fn walk_inside(
+    walk: &mut Walk,
+    rules: Rules,
+    kind: NodeKind,
+    parts: Parts,
+    at: u32,
+) -> Result<u32, AllocError>
+    requires quotable { AreQuotable (alone (kind, forest_in parts)) }
+    ensures written { OnOk result (walk.new.writer
+        ≡ own_next rules (kind, forest_in parts.entry) walk.old.writer) }
+    ensures found { OnOk result (map found_of walk.new.found.items ≡ map found_of walk.old.found.items
+        ++ reports_in kind standing_first zero at (forest_in parts.entry)) }
+    ensures labels { OnOk result (walk.new.labels ≡ labels_in at (forest_in parts.entry) walk.old.labels) }
+    ensures off { OnOk result (walk.new.off ≡ inside_off rules at (kind, forest_in parts.entry) walk.old.off) }
+    ensures end { IfOk result (λ e. e ≡ end_of at (forest_in parts.entry)) }
+{
+    if walk.writer.is_free() && walk.labels.is_free() {
+        if let Some(calm) = calm_in(kind, parts, &mut walk.loud) {
+            let end = pass(walk, rules, kind, parts, calm, at)?;
+            return Ok(end);
+        }
+    }
+    let end = walk_touched(walk, rules, kind, parts, at)?;
+    Ok(end)
+}
+
+// A node that no rule touches.
+fn pass(
+    walk: &mut Walk,
+    rules: Rules,
+    kind: NodeKind,
+    parts: Parts,
+    calm: Calm,
+    at: u32,
+) -> Result<u32, AllocError>
+    requires stays { Stays (bytes_of parts) (kind, forest_in parts) calm }
+    requires closed { walk.old.writer.parens ≡ 0 }
+    requires free { walk.old.labels.held ≡ None }
+    ensures written { OnOk result (walk.new.writer
+        ≡ own_next rules (kind, forest_in parts.entry) walk.old.writer) }
+    ensures found { OnOk result (map found_of walk.new.found.items ≡ map found_of walk.old.found.items
+        ++ reports_in kind standing_first zero at (forest_in parts.entry)) }
+    ensures labels { OnOk result (walk.new.labels ≡ labels_in at (forest_in parts.entry) walk.old.labels) }
+    ensures off { OnOk result (walk.new.off ≡ inside_off rules at (kind, forest_in parts.entry) walk.old.off) }
+    ensures end { IfOk result (λ e. e ≡ end_of at (forest_in parts.entry)) }
+{
+    let text = text_in(kind, parts, calm);
+    walk.writer.keep_all(text, calm.last.is_keyword)?;
+    walk.labels.go_behind(calm.last.class);
+    walk.off.behind_calm(rules, calm.last.is_keyword);
+    let end = past_bytes(at, text)?;
+    Ok(end)
+}
+
+// A node without what is put round it, part by part.
+#[cycle(walk)]
+fn walk_touched(
     walk: &mut Walk,
     rules: Rules,
     kind: NodeKind,

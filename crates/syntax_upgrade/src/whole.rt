@@ -19,6 +19,7 @@ ghost use Rattle.syntax_upgrade.specs.Steps.{recorded_next};
 ghost use Rattle.syntax_upgrade.specs.Words.{seen};
 ghost use Rattle.syntax_upgrade.specs.Writing.{pieces_next};
 
+use crate::calm::Loud;
 use crate::found::{Found, in_order};
 use crate::labels::Labels;
 use crate::off_places::OffPlaces;
@@ -90,6 +91,7 @@ fn walk_file(alloc: Global, tree: &RowTree, rules: Rules) -> Result<Walk, AllocE
         found: Vec::new(alloc),
         labels: Labels::new(alloc),
         off: OffPlaces::new(alloc),
+        loud: Loud::none(),
     };
     let top = Home {
         outer: None,

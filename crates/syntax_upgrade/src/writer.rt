@@ -1,5 +1,5 @@
 // Tokens, written one after another.
-ghost use Rattle.std.specs.Prelude.{◌≡◌, ◌+◌, suc, OnOk};
+ghost use Rattle.std.specs.Prelude.{◌≡◌, ◌+◌, IsTrue, suc, OnOk};
 ghost use Rattle.syntax_upgrade.specs.Writing.{also_next, changed_next, front, kept_next, pieces_next};
 ghost use Rattle.syntax_upgrade.specs.Written.{at_front, opens_next, space_next, unwrapped, wrapped};
 ghost use Rattle.syntax_rules.specs.HashComment.{lead_by};
@@ -84,6 +84,22 @@ impl Writer {
         ensures { OnOk result (self.new ≡ recorded_next (kept_next bytes.now) self.old) }
     {
         self.recorder.kept(bytes)
+    }
+
+    /// Whether no parenthesis opens at the next text.
+    pub(crate) fn is_free(&self) -> bool
+        ensures { IsTrue result → self.now.parens ≡ 0 }
+    {
+        self.parens == 0
+    }
+
+    /// The bytes of some tokens stay, where no parenthesis opens; the last one is a keyword or not.
+    pub(crate) fn keep_all(&mut self, bytes: &[u8], is_keyword: bool) -> Result<(), AllocError>
+        ensures { OnOk result (self.new ≡ record { recorded = kept_next bytes.now self.old.recorded; behind = is_keyword; parens = self.old.parens }) }
+    {
+        self.recorder.kept(bytes)?;
+        self.behind_keyword = is_keyword;
+        Ok(())
     }
 
     /// A text comes in the place of the next bytes.

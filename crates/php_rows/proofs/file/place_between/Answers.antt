@@ -33,7 +33,9 @@ returns-then-first-end c = λ next d e.
     let l = length-map ms (token_at bytes) in
     let w = c.requires.within in
     let none : slice_range ts c.args.first c.args.end ≡ [] = range_none c.args.first c.args.end ts (omega arith) in
-    let is : next ≡ token_at bytes (slice_index_or ms c.args.end no_mark) = e ∙ index_any ts c.args.end d (token_at bytes no_mark) (omega arith) ∙ index_token bytes ms c.args.end no_mark w in
+    let is : next ≡ token_at bytes (slice_index_or ms c.args.end no_mark) = e
+    ∙ index_any ts c.args.end d (token_at bytes no_mark) (omega arith) ∙ index_token bytes ms c.args.end no_mark w
+    in
     let start : next.start ≡ m.start = ap (λ (x : Token). x.start) is ∙ ap (λ (k : ℕ). (slice_index_or ms k no_mark).start) (sym c.if-first-end.true) in
     ap (λ (k : ℕ). (k, k)) (sym start) ∙ ap (λ (us : List Token). place_of us next) (sym none)
 
@@ -48,4 +50,5 @@ returns c = λ next d e.
     let w = c.requires.within in
     let i = index_mark bytes ms c.args.end no_mark c.requires.within c.args.tokens.marked in
     let is : next ≡ token_at bytes n = e ∙ index_any ts c.args.end d (token_at bytes no_mark) (omega arith) ∙ index_token bytes ms c.args.end no_mark w in
-    sym (place_is bytes ms c.args.first c.args.end m n no_mark (omega arith) c.requires.within i c.requires.placed refl refl).1 ∙ ap (place_of (slice_range ts c.args.first c.args.end)) (sym is)
+    sym (place_is bytes ms c.args.first c.args.end m n no_mark (omega arith) c.requires.within i c.requires.placed
+    refl refl).1 ∙ ap (place_of (slice_range ts c.args.first c.args.end)) (sym is)

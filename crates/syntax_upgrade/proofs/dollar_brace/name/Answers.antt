@@ -17,6 +17,8 @@ returns c =
     let h : Head = record { more = 0; token = dollar_name (token_by r t) } in
     subst (λ (x : Written). OnOk c.kept.result (c.kept.new.self ≡ x))
     (ap (recorded_next (kept_next t.text)) (c.in_ok-trivia.ensures
-    ∙ ap (recorded_next (pieces_next (lead_by r.hash_comments t.lead))) (c.in_ok-also.ensures ∙ ap (recorded_next (also_next (codes "$"))) (c.in_ok-begin.ensures h (c.as_dollar_name.ensures r))))
+    ∙ ap (recorded_next (pieces_next (lead_by r.hash_comments t.lead)))
+    (c.in_ok-also.ensures ∙ ap (recorded_next (also_next (codes "$")))
+    (c.in_ok-begin.ensures h (c.as_dollar_name.ensures r))))
     ∙ name_steps r t c.args.writer.now)
     c.kept.ensures

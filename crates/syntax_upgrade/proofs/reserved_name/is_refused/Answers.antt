@@ -1,4 +1,4 @@
-use Rattle.std.proofs.Common.{◌≡◌, Bool, ◌&&◌, sym, ap, ◌∙◌}
+use Rattle.std.proofs.Common.{Bool, ◌&&◌, sym, ap, ◌∙◌}
 use Rattle.php_terminals.specs.Classify.{terminal}
 use Rattle.php_rows.specs.Reading.{forest_in}
 use Rattle.syntax_upgrade.specs.ReservedName.{is_doubtful, is_last, next}

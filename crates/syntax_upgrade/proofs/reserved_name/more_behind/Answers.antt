@@ -1,4 +1,4 @@
-use Rattle.std.proofs.Common.{◌≡◌, ap, ◌∙◌}
+use Rattle.std.proofs.Common.{ap, ◌∙◌}
 use Rattle.syntax_upgrade.specs.declared.split_name.Ahead.{Ahead}
 use Rattle.syntax_rules.specs.Together.{every_rule}
 use Rattle.syntax_upgrade.specs.Words.{seen}

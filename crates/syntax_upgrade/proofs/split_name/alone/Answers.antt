@@ -1,4 +1,4 @@
-use Rattle.std.proofs.Common.{◌≡◌, refl}
+use Rattle.std.proofs.Common.{refl}
 use Rattle.syntax_upgrade.specs.Words.{seen}
 use Rattle.syntax_upgrade.proofs.Own.{own_lead, own_text}
 use Rattle.syntax_upgrade.proofs.split_name.alone.Goals as goal

@@ -1,9 +1,8 @@
-use Rattle.std.proofs.Common.{◌≡◌, ℕ, suc, ◌-◌, Some, List, drop, sym, ap, ◌∙◌, arith}
-use Rattle.php_tree.specs.declared.token.Token.{Token}
+use Rattle.std.proofs.Common.{◌≡◌, ℕ, suc, ◌-◌, Some, drop, sym, ap, ◌∙◌, arith}
 use Rattle.php_terminals.specs.Tokens.{tokens_in}
 use Rattle.php_rows.specs.Flatten.{leafed}
-use Rattle.syntax_upgrade.specs.Heads.{own_of, shown, shown_if_any}
-use Rattle.syntax_upgrade.specs.NamesWalked.{begins, head_of}
+use Rattle.syntax_upgrade.specs.Heads.{own_of, shown_if_any}
+use Rattle.syntax_upgrade.specs.NamesWalked.{begins}
 use Rattle.syntax_upgrade.specs.Words.{seen}
 use Rattle.syntax_upgrade.proofs.Fronts.{one_before}
 use Rattle.syntax_upgrade.proofs.split_name.begins.Goals as goal

@@ -1,4 +1,4 @@
-use Rattle.std.proofs.Common.{◌≡◌, Some, sym, ap, ◌∙◌}
+use Rattle.std.proofs.Common.{Some, sym, ap, ◌∙◌}
 use Rattle.php_terminals.specs.Tokens.{tokens_in}
 use Rattle.syntax_upgrade.specs.Heads.{own_of, shown_if_any}
 use Rattle.syntax_upgrade.specs.Words.{seen}

@@ -1,6 +1,4 @@
-use Rattle.std.proofs.Common.{◌≡◌, Some, None, Option, sym, ap, ◌∙◌}
-use Rattle.php_rows.specs.Reading.{forest_in}
-use Rattle.syntax_upgrade.specs.declared.split_name.Ahead.{Ahead}
+use Rattle.std.proofs.Common.{sym, ap, ◌∙◌}
 use Rattle.syntax_upgrade.specs.Heads.{own_of, shown, shown_if_any}
 use Rattle.syntax_upgrade.specs.NamesWalked.{begins}
 use Rattle.syntax_upgrade.specs.Words.{seen}

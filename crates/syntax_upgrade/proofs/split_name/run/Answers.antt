@@ -1,4 +1,4 @@
-use Rattle.std.proofs.Common.{◌≡◌, sym, ◌∙◌}
+use Rattle.std.proofs.Common.{sym, ◌∙◌}
 use Rattle.php_terminals.specs.Tokens.{tokens_in}
 use Rattle.syntax_upgrade.specs.Heads.{own_of}
 use Rattle.syntax_upgrade.specs.Words.{seen}

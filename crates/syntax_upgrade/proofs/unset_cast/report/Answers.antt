@@ -1,4 +1,3 @@
-use Rattle.std.proofs.Common.{◌≡◌, ◌≤◌}
 use Rattle.php_rows.specs.Reading.{forest_in}
 use Rattle.syntax_upgrade.specs.Words.{seen}
 use Rattle.syntax_upgrade.proofs.PartLemmas.{first_within}

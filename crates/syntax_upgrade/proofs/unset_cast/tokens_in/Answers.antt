@@ -1,4 +1,4 @@
-use Rattle.std.proofs.Common.{◌≡◌, sym, ◌∙◌}
+use Rattle.std.proofs.Common.{sym, ◌∙◌}
 use Rattle.php_rows.specs.Reading.{forest_in}
 use Rattle.syntax_upgrade.specs.Words.{seen}
 use Rattle.syntax_upgrade.proofs.PartLemmas.{tokens_there}

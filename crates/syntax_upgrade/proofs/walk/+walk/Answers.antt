@@ -28,8 +28,8 @@ walk_child-returns-clause-written t c =
     c.open_round.new.writer c.walk_inside.new.walk.writer c.close_round.new.writer
     c.in_ok-open_round.ensures c.in_ok-end.ensures.written c.in_ok-close_round.ensures
 
-pub walk_inside-returns-clause-written : goal.walk_inside-returns-clause-written
-walk_inside-returns-clause-written t c =
+pub walk_touched-returns-clause-written : goal.walk_touched-returns-clause-written
+walk_touched-returns-clause-written t c =
     let f = forest_in c.args.parts in
     let n : Tree = (c.args.kind, f) in
     let w = c.args.walk.now.writer in
@@ -38,8 +38,8 @@ walk_inside-returns-clause-written t c =
     ∙ c.start.ensures w (not_edited c.args.rules n (sym c.in_default.ensures))
     ∙ inside_written c.args.rules n w c.requires.quotable.0
 
-pub walk_inside-returns-clause-off : goal.walk_inside-returns-clause-off
-walk_inside-returns-clause-off t c =
+pub walk_touched-returns-clause-off : goal.walk_touched-returns-clause-off
+walk_touched-returns-clause-off t c =
     let f = forest_in c.args.parts in
     let n : Tree = (c.args.kind, f) in
     let r = c.args.rules in

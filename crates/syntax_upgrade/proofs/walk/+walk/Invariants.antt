@@ -1,4 +1,4 @@
-use Rattle.std.proofs.Common.{◌≡◌, ℕ, zero, ◌+◌, ◌*◌, ◌++◌, true, map}
+use Rattle.std.proofs.Common.{zero, ◌+◌, ◌*◌, ◌++◌, true, map}
 use Rattle.php_tree.specs.Places.{end_of}
 use Rattle.php_rows.specs.Reading.{forest_in, weight}
 use Rattle.syntax_upgrade.specs.Found.{found_of}
@@ -17,10 +17,13 @@ abbrev pub decreases-walk_parts : goal.decreases-walk_parts
 decreases-walk_parts l = 4 * weight (forest_in l.parts)
 
 abbrev pub decreases-walk_inside : goal.decreases-walk_inside
-decreases-walk_inside l = 4 * weight (forest_in l.parts) + 1
+decreases-walk_inside l = 4 * weight (forest_in l.parts) + 2
+
+abbrev pub decreases-walk_touched : goal.decreases-walk_touched
+decreases-walk_touched l = 4 * weight (forest_in l.parts) + 1
 
 abbrev pub decreases-walk_child : goal.decreases-walk_child
-decreases-walk_child l = 4 * weight (forest_in l.parts) + 2
+decreases-walk_child l = 4 * weight (forest_in l.parts) + 3
 
 abbrev pub invariant-walk_parts-parts : goal.invariant-walk_parts-parts
 invariant-walk_parts-parts l =

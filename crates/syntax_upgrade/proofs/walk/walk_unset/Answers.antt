@@ -1,4 +1,4 @@
-use Rattle.std.proofs.Common.{◌≡◌, List, ◌++◌, map, sym, ap, ◌∙◌, append-nil}
+use Rattle.std.proofs.Common.{List, ◌++◌, map, sym, ap, ◌∙◌, append-nil}
 use Rattle.php_tree.specs.Tree.{Tree}
 use Rattle.php_rows.specs.Reading.{forest_in}
 use Rattle.syntax_upgrade.specs.Found.{Report, found_of}
@@ -20,7 +20,8 @@ returns-clause-written c =
 pub returns-clause-found : goal.returns-clause-found
 returns-clause-found c =
     let g = map found_of c.args.walk.now.found.items in
-    sym (ap (λ (rs : List Report). g ++ rs) (unset_found c.args.rules (c.args.kind, forest_in c.args.parts) (seen c.args.cast) (seen c.args.variable) c.args.at c.requires.unset) ∙ append-nil g)
+    sym (ap (λ (rs : List Report). g ++ rs) (unset_found c.args.rules (c.args.kind, forest_in c.args.parts)
+    (seen c.args.cast) (seen c.args.variable) c.args.at c.requires.unset) ∙ append-nil g)
 
 pub returns-clause-labels : goal.returns-clause-labels
 returns-clause-labels c =

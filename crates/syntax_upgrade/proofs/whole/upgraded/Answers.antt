@@ -1,10 +1,9 @@
 use Rattle.php_tree.specs.declared.kind.NodeKind.TheVariants.{Block}
-use Rattle.std.proofs.Common.{◌≡◌, zero, List, ◌++◌, map, subst, sym, ap, ◌∙◌}
+use Rattle.std.proofs.Common.{◌≡◌, zero, List, ◌++◌, map, subst, ap, ◌∙◌}
 use Rattle.std.specs.List.Sorted.{IsPermutation}
 use Rattle.std.proofs.lemmas.List.{map-append}
 use Rattle.std.proofs.lemmas.List.Sorted.{IsPermutation-map}
 use Rattle.php_rows.specs.File.{file_in}
-use Rattle.syntax_upgrade.specs.declared.found.Found.{Found}
 use Rattle.syntax_upgrade.specs.Found.{Report, found_of}
 use Rattle.syntax_upgrade.specs.Reports.{reports, reports_by, reports_in}
 use Rattle.syntax_upgrade.specs.ReservedName.{at_first}

@@ -1,4 +1,4 @@
-use Rattle.std.proofs.Common.{◌≡◌, ℕ, List, ap, ◌∙◌}
+use Rattle.std.proofs.Common.{ℕ, List, ap, ◌∙◌}
 use Rattle.php_terminals.specs.Marked.{token_at}
 use Rattle.php_rows.specs.File.{file_in}
 use Rattle.php_rows.specs.Reading.{forest_in}

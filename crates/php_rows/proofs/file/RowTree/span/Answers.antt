@@ -20,7 +20,8 @@ place_between-requires c =
     let ns = r.nodes.items in
     let x = c.at.result.0 in
     let xs = c.at.result.1.now in
-    let o = node_found ns xs (length r.marks.items - 1) (tokens_of r) (file_in r).end c.args.id x r.nested (ap (drop c.args.id) (sym c.as_slice-nodes.ensures.value) ∙ c.at.ensures) in
+    let o = node_found ns xs (length r.marks.items - 1) (tokens_of r) (file_in r).end c.args.id x r.nested
+    (ap (drop c.args.id) (sym c.as_slice-nodes.ensures.value) ∙ c.at.ensures) in
     let m = same_length c.tokens.result.bytes.now r.bytes.items c.tokens.result.marks.now r.marks.items c.tokens.ensures.tokens in
     let late = o.late in
     let ended = r.ended in

@@ -22,7 +22,12 @@ leading : (at end : ℕ) (ns xs : List Flat) (x : Flat) (ts us : List Token) →
     → (f : Forest) × ((read (length ns) at end ns ts ≡ leafed us f) × (begins_with_token f ≡ false))
 leading at end ns xs x ts us e p = (
   node x.kind (read (length xs) x.first x.end (take (x.size - 1) xs) ts) (read (length xs) x.end end (drop (x.size - 1) xs) ts),
-  (ap (λ (u : List Flat). read (length u) at end u ts) e ∙ ap (λ (vs : List Token). leafed vs (node x.kind (read (length xs) x.first x.end (take (x.size - 1) xs) ts) (read (length xs) x.end end (drop (x.size - 1) xs) ts))) (sym p), refl),
+  (
+    ap (λ (u : List Flat). read (length u) at end u ts) e ∙ ap
+        (λ (vs : List Token). leafed vs (node x.kind (read (length xs) x.first x.end (take (x.size - 1) xs) ts)
+        (read (length xs) x.end end (drop (x.size - 1) xs) ts))) (sym p),
+    refl,
+  ),
 )
 
 leading_all : (at end : ℕ) (ns : List Flat) (ts us : List Token) → ns ≡ [] → us ≡ slice_range ts at end
@@ -45,7 +50,8 @@ between-requires-in-Some-clause-within c =
 pub returns-in-Some-clause-tokens : goal.returns-in-Some-clause-tokens
 returns-in-Some-clause-tokens c =
     let p = c.args.self in
-    leading p.at p.end p.nodes.now c.in-Some.field-0-1.now c.in-Some.node (tokens_in p.tokens) (tokens_in c.between-in-Some.result) c.in-Some.ensures c.between-in-Some.ensures.tokens
+    leading p.at p.end p.nodes.now c.in-Some.field-0-1.now c.in-Some.node (tokens_in p.tokens)
+    (tokens_in c.between-in-Some.result) c.in-Some.ensures c.between-in-Some.ensures.tokens
 
 pub returns-in-None-clause-tokens : goal.returns-in-None-clause-tokens
 returns-in-None-clause-tokens c =

@@ -1,4 +1,3 @@
-use Rattle.std.proofs.Common.{◌≡◌, ◌≤◌}
 use Rattle.php_tree.specs.Tree.{leaves}
 use Rattle.php_rows.specs.Reading.{forest_in}
 use Rattle.syntax_upgrade.proofs.OffStarts.{start_is, text_within}

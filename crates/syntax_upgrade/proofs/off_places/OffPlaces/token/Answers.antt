@@ -1,4 +1,4 @@
-use Rattle.std.proofs.Common.{◌≡◌, ℕ, ap, sym, ◌∙◌, arith}
+use Rattle.std.proofs.Common.{◌≡◌, ap, sym, ◌∙◌, arith}
 use Rattle.php_rows.specs.Reading.{forest_in}
 use Rattle.syntax_rules.specs.Together.{token_by}
 use Rattle.syntax_upgrade.specs.declared.split_name.Ahead.{Ahead}
