@@ -1,7 +1,32 @@
 -- What a file tells is what the facts of its nodes tell: of where a node stands, only the file, the namespace and the
 -- imports count.
 use Rattle.std.specs.Prelude.{codes}
-use Rattle.std.proofs.Common.{◌≡◌, ℕ, suc, ◌+◌, Bool, true, false, ◌&&◌, List, [], ◌∷◌, ◌++◌, Option, Some, None, length, refl, sym, ap, subst, ◌∙◌, append_assoc, length-append, arith}
+use Rattle.std.proofs.Common.{
+  ◌≡◌,
+  ℕ,
+  suc,
+  ◌+◌,
+  Bool,
+  true,
+  false,
+  ◌&&◌,
+  List,
+  [],
+  ◌∷◌,
+  ◌++◌,
+  Option,
+  Some,
+  None,
+  length,
+  refl,
+  sym,
+  ap,
+  subst,
+  ◌∙◌,
+  append_assoc,
+  length-append,
+  arith,
+}
 use Rattle.php_tree.specs.declared.kind.NodeKind.{NodeKind}
 use Rattle.php_tree.specs.declared.kind.NodeKind.TheVariants as kind
 use Rattle.php_tree.specs.Tree.{Forest, none, leaf, node, count}
@@ -457,7 +482,9 @@ told_at_number f m n xs e = ap (λ (k : ℕ). facts_told f k xs) e
 told_append : (f n : ℕ) (xs ys : List Fact) → facts_told f n (xs ++ ys) ≡ facts_told f n xs ++ facts_told f (n + length xs) ys
 told_append f n [] ys = told_at_number f n (n + length {A = Fact} []) ys (omega arith)
 told_append f n (x ∷ xs) ys =
-    ap (λ (ts : List Told). fact_told f n x ++ ts) (told_append f (suc n) xs ys ∙ ap (λ (ts : List Told). facts_told f (suc n) xs ++ ts) (told_at_number f (suc n + length xs) (n + length (x ∷ xs)) ys (omega arith)))
+    ap (λ (ts : List Told). fact_told f n x ++ ts)
+    (told_append f (suc n) xs ys ∙ ap (λ (ts : List Told). facts_told f (suc n) xs ++ ts)
+    (told_at_number f (suc n + length xs) (n + length (x ∷ xs)) ys (omega arith)))
     ∙ sym (append_assoc (fact_told f n x) (facts_told f (suc n) xs) (facts_told f (n + length (x ∷ xs)) ys))
 
 at_slim : (f n : ℕ) (top : Bool) (k : NodeKind) (c : Forest) (p : Standing) →
@@ -468,12 +495,17 @@ pub told_facts : (f n : ℕ) (p : Standing) (top : Bool) (g : Forest) → told f
 told_facts f n p top none = refl
 told_facts f n p top (leaf t g) = told_facts f n p top g
 told_facts f n p top (node k c g) =
-    ap (λ (ts : List Told). ts ++ told f (suc n) (scope_within k (form c) (slim p.site)) (keeps_top k && top) c ++ told f (suc n + count c) (names_beside k (form c) (slim p.site)) top g) (at_slim f n top k c p)
-    ∙ append_assoc (fact_told f n (fact k c p top)) (told f (suc n) (scope_within k (form c) (slim p.site)) (keeps_top k && top) c) (told f (suc n + count c) (names_beside k (form c) (slim p.site)) top g)
+    ap (λ (ts : List Told). ts ++ told f (suc n) (scope_within k (form c) (slim p.site)) (keeps_top k && top) c
+    ++ told f (suc n + count c) (names_beside k (form c) (slim p.site)) top g) (at_slim f n top k c p)
+    ∙ append_assoc (fact_told f n (fact k c p top))
+    (told f (suc n) (scope_within k (form c) (slim p.site)) (keeps_top k && top) c)
+    (told f (suc n + count c) (names_beside k (form c) (slim p.site)) top g)
     ∙ ap (λ (ts : List Told). fact_told f n (fact k c p top) ++ ts) (
     ap (λ (s : Site). told f (suc n) s (keeps_top k && top) c ++ told f (suc n + count c) (names_beside k (form c) (slim p.site)) top g) (sym (within_slim k c p.site))
     ∙ ap (λ (s : Site). told f (suc n) (slim (within k c p.site)) (keeps_top k && top) c ++ told f (suc n + count c) s top g) (sym (beside_slim k c p.site))
     ∙ ap (λ (ts : List Told). ts ++ told f (suc n + count c) (slim (beside k c p.site)) top g) (told_facts f (suc n) (stands_within k c p) (keeps_top k && top) c)
     ∙ ap (λ (ts : List Told). facts_told f (suc n) (facts (stands_within k c p) (keeps_top k && top) c) ++ ts) (told_facts f (suc n + count c) (stands_beside k c p) top g)
-    ∙ ap (λ (m : ℕ). facts_told f (suc n) (facts (stands_within k c p) (keeps_top k && top) c) ++ facts_told f (suc n + m) (facts (stands_beside k c p) top g)) (sym (count_facts (stands_within k c p) (keeps_top k && top) c))
+    ∙ ap (λ (m : ℕ). facts_told f (suc n) (facts (stands_within k c p) (keeps_top k && top) c)
+    ++ facts_told f (suc n + m) (facts (stands_beside k c p) top g))
+    (sym (count_facts (stands_within k c p) (keeps_top k && top) c))
     ∙ sym (told_append f (suc n) (facts (stands_within k c p) (keeps_top k && top) c) (facts (stands_beside k c p) top g)))

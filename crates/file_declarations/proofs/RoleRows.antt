@@ -53,7 +53,9 @@ told_is at top kind.Function c s = declares_alone at top kind.Function c s refl
 told_is at top kind.Param c s = refl
 told_is at top kind.TypeName c s = refl
 told_is at top kind.Class c s = append-nil (declared_told at top (declares kind.Class (form c) s) ++ extends_told (declares kind.Class (form c) s) (extends kind.Class (form c) s))
-told_is at top kind.Interface c s = append-nil (declared_told at top (declares kind.Interface (form c) s) ++ extends_told (declares kind.Interface (form c) s) (extends kind.Interface (form c) s))
+told_is at top kind.Interface c s =
+    append-nil (declared_told at top (declares kind.Interface (form c) s)
+    ++ extends_told (declares kind.Interface (form c) s) (extends kind.Interface (form c) s))
 told_is at top kind.Trait c s = refl
 told_is at top kind.Property c s = declares_alone at top kind.Property c s refl
 told_is at top kind.ClassConst c s = declares_alone at top kind.ClassConst c s refl

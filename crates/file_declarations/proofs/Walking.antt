@@ -1,5 +1,33 @@
 -- The walk over the parts of a node, part by part.
-use Rattle.std.proofs.Common.{◌≡◌, ◌≤◌, ◌<◌, ℕ, suc, ◌+◌, ◌*◌, Bool, ◌&&◌, List, [], ◌∷◌, ◌++◌, Option, None, length, take, drop, refl, sym, ap, subst, ◌∙◌, append_assoc, append-nil, add-one, arith}
+use Rattle.std.proofs.Common.{
+  ◌≡◌,
+  ◌≤◌,
+  ◌<◌,
+  ℕ,
+  suc,
+  ◌+◌,
+  ◌*◌,
+  Bool,
+  ◌&&◌,
+  List,
+  [],
+  ◌∷◌,
+  ◌++◌,
+  Option,
+  None,
+  length,
+  take,
+  drop,
+  refl,
+  sym,
+  ap,
+  subst,
+  ◌∙◌,
+  append_assoc,
+  append-nil,
+  add-one,
+  arith,
+}
 use Rattle.std.proofs.Math.Seq.{take-append_seam, drop-length}
 use Rattle.std.specs.Prelude.{Vec}
 use Rattle.std.specs.declared.alloc.Global.{Global}
@@ -45,7 +73,8 @@ module _ (path outer : List ℕ) (f : ℕ) (top : Bool) (before : List Import) (
     small = omega (arith, h.small, ap (λ (g : Forest). weight g) e);
   }
 
-  pub holds_child : (so_far so_new : List Told) (n m : ℕ) (own own_new : Option (Vec ℕ Global)) (from from_new : ℕ) (is is_new : List Import) (left rest : Forest) (k : NodeKind) (c : Forest) →
+  pub holds_child : (so_far so_new : List Told) (n m : ℕ) (own own_new : Option (Vec ℕ Global)) (from from_new : ℕ)
+      (is is_new : List Import) (left rest : Forest) (k : NodeKind) (c : Forest) →
       left ≡ node k c rest → so_new ≡ so_far ++ told f n (site_at path (space_or outer own) from is) top (alone (k, c)) →
       m ≡ suc n + count c → IsLonger is is_new → from_new ≤ length is_new →
       site_at path (space_or outer own_new) from_new is_new ≡ names_beside k (form c) (site_at path (space_or outer own) from is) →

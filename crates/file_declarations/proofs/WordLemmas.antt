@@ -1,5 +1,35 @@
 -- Words, names and paths, read from the front.
-use Rattle.std.proofs.Common.{◌≡◌, ◌≤◌, ◌==◌, ℕ, zero, suc, ◌+◌, ◌-◌, Bool, true, false, if◌then◌else◌, List, [], ◌∷◌, ◌++◌, length, take, refl, sym, ap, ◌∙◌, append_assoc, append-nil, add-one, Option, Some, None, arith}
+use Rattle.std.proofs.Common.{
+  ◌≡◌,
+  ◌≤◌,
+  ◌==◌,
+  ℕ,
+  zero,
+  suc,
+  ◌+◌,
+  ◌-◌,
+  Bool,
+  true,
+  false,
+  if◌then◌else◌,
+  List,
+  [],
+  ◌∷◌,
+  ◌++◌,
+  length,
+  take,
+  refl,
+  sym,
+  ap,
+  ◌∙◌,
+  append_assoc,
+  append-nil,
+  add-one,
+  Option,
+  Some,
+  None,
+  arith,
+}
 use Rattle.std.proofs.Math.Seq.{take-append-add}
 use Rattle.std.proofs.lemmas.List.{length-take-le}
 use Rattle.scope_names.specs.Words.{last_part_from, between_ends, in_first, is_end, first_word, drop_first}
@@ -17,10 +47,13 @@ pub record IsLast (last left whole : List ℕ) : Type 0 where
   pub same : last_part_from part left ≡ whole
 
 pub last_step : (last rest whole : List ℕ) (b : ℕ) → IsLast last (b ∷ rest) whole → IsLast (if b == 92 then rest else last) rest whole
-last_step last rest whole b i = elim (b == 92) as (λ t. (last_part_from i.part (b ∷ rest) ≡ (if t then last_part_from [] rest else last_part_from (i.part ++ b ∷ []) rest)) → IsLast (if t then rest else last) rest whole) [
-  | true ↦ λ e. record { part = []; is = refl; same = sym e ∙ i.same }
-  | false ↦ λ e. record { part = i.part ++ b ∷ []; is = i.is ∙ sym (append_assoc i.part (b ∷ []) rest); same = sym e ∙ i.same }
-] refl
+last_step last rest whole b i =
+    elim (b == 92) as (λ t. (last_part_from i.part (b ∷ rest) ≡
+    (if t then last_part_from [] rest else last_part_from (i.part ++ b ∷ []) rest))
+    → IsLast (if t then rest else last) rest whole) [
+      | true ↦ λ e. record { part = []; is = refl; same = sym e ∙ i.same }
+      | false ↦ λ e. record { part = i.part ++ b ∷ []; is = i.is ∙ sym (append_assoc i.part (b ∷ []) rest); same = sym e ∙ i.same }
+    ] refl
 
 -- ---- groups of words
 
@@ -36,10 +69,12 @@ in_first_none w (x ∷ xs) = refl
 -- no words before the groups
 pub group_none : (ws : List (List ℕ)) → group_before [] (between_ends ws) ≡ between_ends ws
 group_none [] = refl
-group_none (w ∷ ws) = elim (is_end w) as (λ t. group_before [] (if t then [] ∷ between_ends ws else in_first w (between_ends ws)) ≡ (if t then [] ∷ between_ends ws else in_first w (between_ends ws))) [
-  | true ↦ refl
-  | false ↦ in_first_none w (between_ends ws)
-]
+group_none (w ∷ ws) = elim (is_end w) as (λ t. group_before []
+    (if t then [] ∷ between_ends ws else in_first w (between_ends ws)) ≡
+    (if t then [] ∷ between_ends ws else in_first w (between_ends ws))) [
+      | true ↦ refl
+      | false ↦ in_first_none w (between_ends ws)
+    ]
 
 -- a further word of a group
 pub group_word : (g : List (List ℕ)) (w : List ℕ) (xs : List (List (List ℕ))) → group_before g (in_first w xs) ≡ group_before (g ++ w ∷ []) xs
@@ -105,7 +140,8 @@ cutting_other parts start left behind b whole e n c = record {
       ∙ sym (append_assoc (take (length start - length left) start) (b ∷ []) behind)
       ∙ ap (λ (xs : List ℕ). xs ++ behind) (sym more);
   all = ap (λ (xs : List ℕ). parts ++ parts_from xs behind) more
-      ∙ sym (ap (λ (t : Bool). parts ++ (if t then take (length start - length left) start ∷ parts_from [] behind else parts_from (take (length start - length left) start ++ b ∷ []) behind)) n)
+      ∙ sym (ap (λ (t : Bool). parts ++ (if t then take (length start - length left) start
+      ∷ parts_from [] behind else parts_from (take (length start - length left) start ++ b ∷ []) behind)) n)
       ∙ sym (ap (λ (xs : List ℕ). parts ++ parts_from (take (length start - length left) start) xs) e) ∙ c.all;
 }
   where

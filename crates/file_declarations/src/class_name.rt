@@ -39,7 +39,7 @@ fn is_same(left: ImportSort, right: ImportSort) -> bool
 
 /// What an alias of a sort stands for; the last of several imports of one alias counts. The only error is want of memory.
 #[tactic(auto, using(crate::proofs::ImportLemmas::last_first_take))]
-pub(crate) fn alias_of<'a>(
+pub fn alias_of<'a>(
     alloc: Global,
     imports: &'a [Import],
     sort: ImportSort,
@@ -69,8 +69,8 @@ fn behind(alloc: Global, full: &[u8], rest: &[u8]) -> Result<Vec<u8>, AllocError
     Ok(name)
 }
 
-// The full name of a name with several parts.
-fn qualified(
+/// The full name of a name with several parts. The only error is want of memory.
+pub fn qualified(
     alloc: Global,
     names: Names,
     first: &[u8],
@@ -102,7 +102,7 @@ fn one_word(alloc: Global, names: Names, name: &[u8]) -> Result<Vec<u8>, AllocEr
 }
 
 /// The full name of a class. The only error is want of memory.
-pub(crate) fn class_named(alloc: Global, names: Names, name: &[u8]) -> Result<Vec<u8>, AllocError>
+pub fn class_named(alloc: Global, names: Names, name: &[u8]) -> Result<Vec<u8>, AllocError>
     ensures { IfOk result (λ v. v.items ≡ spec.class_named (names_site names.entry) name.now) }
 {
     match split(name) {

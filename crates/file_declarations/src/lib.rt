@@ -22,7 +22,7 @@ mod walk;
 mod whole;
 mod words;
 
-pub use class_name::Names;
+pub use class_name::{Names, alias_of, class_named, qualified};
 pub use declaration::Declaration;
 pub use import::Import;
 pub use import_sort::ImportSort;
@@ -30,5 +30,7 @@ pub use importing::imports;
 pub use laws::files_tell_their_facts;
 pub use node_ref::NodeRef;
 pub use row_forms::row_form;
+pub use standing::{Standing, pass, space_named, space_of};
 pub use told::Told;
 pub use whole::file_told;
+pub use words::{drop_first, first_word, split, texts, word_behind};

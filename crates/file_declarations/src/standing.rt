@@ -22,13 +22,13 @@ use std::alloc::{AllocError, Global};
 
 /// The namespace that began among the statements, if one did, and how many imports stand before those that count.
 #[derive(Drop)]
-pub(crate) struct Standing {
-    pub(crate) own: Option<Vec<u8>>,
-    pub(crate) from: usize,
+pub struct Standing {
+    pub own: Option<Vec<u8>>,
+    pub from: usize,
 }
 
 /// The namespace, where this one is around the statements.
-pub(crate) fn space_of<'a>(own: &'a Option<Vec<u8>>, outer: &'a [u8]) -> &'a [u8]
+pub fn space_of<'a>(own: &'a Option<Vec<u8>>, outer: &'a [u8]) -> &'a [u8]
     ensures { result.now ≡ space_or outer.now own.now }
 {
     match own {
@@ -37,8 +37,8 @@ pub(crate) fn space_of<'a>(own: &'a Option<Vec<u8>>, outer: &'a [u8]) -> &'a [u8
     }
 }
 
-// The namespace of the words of a Namespace.
-fn space_named(alloc: Global, words: &[&[u8]]) -> Result<Vec<u8>, AllocError>
+/// The namespace of the words of a Namespace. The only error is want of memory.
+pub fn space_named(alloc: Global, words: &[&[u8]]) -> Result<Vec<u8>, AllocError>
     ensures { IfOk result (λ v. v.items ≡ space_of_words (texts_of words.now)) }
 {
     let name = first_word(drop_first(words));
@@ -95,7 +95,7 @@ fn add_imports(alloc: Global, known: &mut Vec<Import>, parts: Parts) -> Result<(
 }
 
 /// Where what follows a node stands. The only error is want of memory.
-pub(crate) fn pass(
+pub fn pass(
     alloc: Global,
     known: &mut Vec<Import>,
     kind: NodeKind,

@@ -9,7 +9,7 @@ use node_names::{Piece, is_keyword};
 use std::alloc::{AllocError, Global};
 
 /// The words of a form. The only error is want of memory.
-pub(crate) fn texts<'a>(alloc: Global, pieces: &'a [Piece]) -> Result<Vec<&'a [u8]>, AllocError>
+pub fn texts<'a>(alloc: Global, pieces: &'a [Piece]) -> Result<Vec<&'a [u8]>, AllocError>
     ensures { IfOk result (λ ws. texts_of ws.items ≡ form.texts (form_of pieces.now)) }
 {
     let mut words = Vec::new(alloc);
@@ -22,7 +22,7 @@ pub(crate) fn texts<'a>(alloc: Global, pieces: &'a [Piece]) -> Result<Vec<&'a [u
 }
 
 /// The first word, or an empty one.
-pub(crate) fn first_word<'a>(words: &[&'a [u8]]) -> &'a [u8]
+pub fn first_word<'a>(words: &[&'a [u8]]) -> &'a [u8]
     ensures { result.now ≡ spec.first_word (texts_of words.now) }
 {
     match words {
@@ -32,7 +32,7 @@ pub(crate) fn first_word<'a>(words: &[&'a [u8]]) -> &'a [u8]
 }
 
 /// The words behind the first one.
-pub(crate) fn drop_first<'a, 'b>(words: &'b [&'a [u8]]) -> &'b [&'a [u8]]
+pub fn drop_first<'a, 'b>(words: &'b [&'a [u8]]) -> &'b [&'a [u8]]
     ensures { texts_of result.now ≡ spec.drop_first (texts_of words.now) }
 {
     match words {
@@ -56,7 +56,7 @@ pub(crate) fn has_word(text: &[u8], words: &[&[u8]]) -> bool
 }
 
 /// The word behind a keyword, if there is one.
-pub(crate) fn word_behind<'a>(keyword: &[u8], words: &[&'a [u8]]) -> Option<&'a [u8]>
+pub fn word_behind<'a>(keyword: &[u8], words: &[&'a [u8]]) -> Option<&'a [u8]>
     ensures { text_option result ≡ spec.word_behind keyword.now (texts_of words.now) }
 {
     let mut left = words;
@@ -135,7 +135,7 @@ pub(crate) fn front(text: &[u8], count: usize) -> &[u8]
 
 /// A name's first part, and what stands behind its backslash.
 #[tactic(auto, using(crate::proofs::WordLemmas::front_step))]
-pub(crate) fn split(name: &[u8]) -> (&[u8], Option<&[u8]>)
+pub fn split(name: &[u8]) -> (&[u8], Option<&[u8]>)
     ensures first { result.0.now ≡ (spec.split name.now).0 }
     ensures behind { text_option result.1 ≡ (spec.split name.now).1 }
 {

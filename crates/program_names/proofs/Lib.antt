@@ -1,1 +1,3 @@
 mod TableRows
+pub mod PathLemmas
+mod ToldLemmas

@@ -55,14 +55,21 @@ abbrev pub has_text : List ℕ → List (List ℕ) → Bool
 has_text w [] = false
 has_text w (t ∷ ts) = bytes_eq w t || has_text w ts
 
--- whether a use may stand for a name
-abbrev pub stands_for : Use → Name → Bool
-stands_for u n = same_sort u.sort n.sort && has_text n.text u.texts
+-- the nodes that declare a name of a sort and a text, in the order of paths and places
+abbrev pub declared_as : NameSort → List ℕ → List Declaration → List NodeRef
+declared_as k w [] = []
+declared_as k w (d ∷ ds) =
+    if same_sort d.name.sort k && bytes_eq d.name.text w then d.at ∷ declared_as k w ds else declared_as k w ds
 
--- the nodes that declare what a use stands for, in the order of paths and places
+-- the same for each of some texts, one after another
+abbrev pub declared_as_each : NameSort → List (List ℕ) → List Declaration → List NodeRef
+declared_as_each k [] ds = []
+declared_as_each k (w ∷ ws) ds = declared_as k w ds ++ declared_as_each k ws ds
+
+-- The nodes that declare what a use stands for: those of each full name that it may have, in the order in which these are
+-- looked for, and of one name in the order of paths and places.
 abbrev pub declared_by : Use → List Declaration → List NodeRef
-declared_by u [] = []
-declared_by u (d ∷ ds) = if stands_for u d.name then d.at ∷ declared_by u ds else declared_by u ds
+declared_by u ds = declared_as_each u.sort u.texts ds
 
 -- what the node with a number in the file with a number tells
 abbrev pub fact_at : Table → NodeRef → Option Fact

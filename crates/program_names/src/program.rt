@@ -2,6 +2,7 @@
 ghost use Rattle.std.specs.Prelude.{◌<◌, ◌^◌, IsTrue, length};
 ghost use Rattle.program_names.specs.Files.{are_ascending, nodes_in, tokens_in};
 
+use crate::places::place;
 use php_rows::RowTree;
 use span_edits::PathText;
 
@@ -16,7 +17,8 @@ pub struct Program {
 }
 
 impl Program {
-    ghost use Rattle.std.specs.Prelude.{◌≡◌, option_map, option_copied, slice_get};
+    ghost use Rattle.std.specs.Prelude.{◌≡◌, ◌↔◌, ℕ, Some, option_map, option_copied, slice_get};
+    ghost use Rattle.program_names.specs.Entries.{paths_of};
     ghost use Rattle.program_names.specs.Whole.{files_of};
 
     /// A program of these files: their paths ascend strictly, byte by byte, and there are fewer than 2^32 files, 2^31
@@ -50,5 +52,19 @@ impl Program {
         ensures { option_copied result ≡ option_map (λ f. f.1) (slice_get (files_of self.now) file) }
     {
         self.files.get(file as usize).map(|f| &f.1)
+    }
+
+    /// The number of the file with a path, from 0; none exactly where no file has it.
+    pub fn number_of(&self, path: &[u8]) -> Option<u32>
+        ensures { (f : ℕ) → (slice_get (paths_of (files_of self.now)) f ≡ Some path.now) ↔ (result ≡ Some f) }
+    {
+        place(self.files.as_slice(), path)
+    }
+
+    /// The files by their paths.
+    pub fn files(&self) -> &[(PathText, RowTree)]
+        ensures { result.now ≡ files_of self.now }
+    {
+        self.files.as_slice()
     }
 }

@@ -1,11 +1,14 @@
 -- Edges of small files, worked out by hand. Numbers of nodes are in preorder.
-use Rattle.std.proofs.Common.{◌≡◌, ℕ, List, [], ◌∷◌, codes, refl}
+use Rattle.std.proofs.Common.{◌≡◌, ℕ, List, [], ◌∷◌, Option, Some, None, codes, refl}
 use Rattle.php_tree.specs.declared.kind.NodeKind.TheVariants as kind
 use Rattle.php_tree.specs.declared.token.TokenKind.TheVariants as token
 use Rattle.php_tree.specs.Tree.{Forest, none, leaf, node}
-use Rattle.program_points.specs.Pieces.{Point, Before, After}
+use Rattle.program_points.specs.declared.point.Point.{Point}
+use Rattle.program_points.specs.declared.point.Point.TheVariants.{Before, After}
 use Rattle.program_points.specs.Rows.{Edge}
 use Rattle.program_points.specs.Edges.{file_edges}
+use Rattle.program_points.specs.declared.numbers.NodePoints.{NodePoints}
+use Rattle.program_points.specs.Numbers.{numbers}
 
 -- a token with this text
 abbrev t : List ℕ → Forest → Forest
@@ -92,7 +95,8 @@ break_through_finally :
     file_edges
     (node kind.While
     (t (codes "while") (one (block
-    (node kind.Try (t (codes "try") (block (node kind.Break (t (codes "break") (t (codes ";") none)) none) (t (codes "catch") (block none (t (codes "finally") (block none none)))))) none)
+    (node kind.Try (t (codes "try") (block (node kind.Break (t (codes "break") (t (codes ";") none)) none)
+    (t (codes "catch") (block none (t (codes "finally") (block none none)))))) none)
     none)))
     none)
     ≡ step 0 (Before 0) (Before 1) ∷ step 0 (After 1) (Before 2) ∷ step 0 (After 2) (Before 1) ∷ step 0 (After 1) (After 0)
@@ -111,7 +115,8 @@ break_through_finally = refl
 switch_falls_through :
     file_edges
     (node kind.Switch
-    (t (codes "switch") (one (t (codes "{") (node kind.Case (t (codes "case") (one (t (codes ":") (empty none)))) (node kind.Case (t (codes "default") (t (codes ":") (empty none))) (t (codes "}") none))))))
+    (t (codes "switch") (one (t (codes "{") (node kind.Case (t (codes "case") (one (t (codes ":") (empty none))))
+    (node kind.Case (t (codes "default") (t (codes ":") (empty none))) (t (codes "}") none))))))
     none)
     ≡ step 0 (Before 0) (Before 1) ∷ step 0 (After 1) (Before 3) ∷ step 0 (After 3) (Before 4) ∷ step 0 (After 3) (Before 6)
     ∷ step 0 (After 4) (Before 6) ∷ step 0 (After 6) (After 0)
@@ -122,8 +127,31 @@ switch_falls_through = refl
 function_with_default :
     file_edges
     (node kind.Function
-    (t (codes "function") (t (codes "f") (t (codes "(") (node kind.Param (t (codes "$a") (t (codes "=") (one none))) (t (codes ")") (block (node kind.Return (t (codes "return") (one (t (codes ";") none))) none) none))))))
+    (t (codes "function") (t (codes "f") (t (codes "(") (node kind.Param (t (codes "$a") (t (codes "=") (one none)))
+    (t (codes ")") (block (node kind.Return (t (codes "return") (one (t (codes ";") none))) none) none))))))
     none)
     ≡ step 0 (Before 0) (After 0) ∷ step 0 (After 2) (Before 3) ∷ step 2 (Before 2) (After 2)
     ∷ step 3 (Before 3) (Before 4) ∷ step 3 (After 4) (After 3) ∷ step 4 (Before 4) (Before 5) ∷ step 5 (Before 5) (After 5) ∷ []
 function_with_default = refl
+
+-- while (1) while (1) break 2; (While 0, Number 1, While 2, Number 3, Break 4)
+break_over_two :
+    file_edges
+    (node kind.While
+    (t (codes "while") (one (node kind.While (t (codes "while") (one (node kind.Break (t (codes "break") (t (codes "2") (t (codes ";") none))) none))) none)))
+    none)
+    ≡ step 0 (Before 0) (Before 1) ∷ step 0 (After 1) (Before 2) ∷ step 0 (After 2) (Before 1) ∷ step 0 (After 1) (After 0)
+    ∷ step 1 (Before 1) (After 1)
+    ∷ step 2 (Before 2) (Before 3) ∷ step 2 (After 3) (Before 4) ∷ step 2 (After 4) (Before 3) ∷ step 2 (After 3) (After 2)
+    ∷ step 3 (Before 3) (After 3) ∷ step 4 (Before 4) (After 0) ∷ []
+break_over_two = refl
+
+abbrev points : ℕ → ℕ → Option NodePoints
+points before after = Some (record { before = before; after = after })
+
+-- function f($a = 1) { return 1; }: its parameter has no points
+parameters_are_no_points :
+    numbers 10
+    ((kind.Function, none) ∷ (kind.Param, none) ∷ (kind.Number, none) ∷ (kind.Block, none) ∷ (kind.Return, none) ∷ (kind.Number, none) ∷ [])
+    ≡ points 10 11 ∷ None ∷ points 12 13 ∷ points 14 15 ∷ points 16 17 ∷ points 18 19 ∷ []
+parameters_are_no_points = refl

@@ -1,4 +1,10 @@
 pub mod Pieces
+pub mod Flows
+pub mod Levels
 pub mod Rows
 pub mod Edges
 pub mod Following
+pub mod Chosen
+pub mod Walked
+pub mod Numbers
+pub mod Seen

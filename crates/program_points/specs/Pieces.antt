@@ -5,96 +5,97 @@ use Rattle.std.specs.Str.{str_eq_ignore_ascii_case}
 use Rattle.php_tree.specs.declared.kind.NodeKind.{NodeKind}
 use Rattle.php_tree.specs.declared.kind.NodeKind.TheVariants as kind
 use Rattle.php_tree.specs.Tree.{Forest, none, leaf, node, count}
+use Rattle.program_points.specs.declared.kinds.Sort.{Sort}
+use Rattle.program_points.specs.declared.kinds.Sort.TheVariants as sort
 
--- what stands before and behind a node of a file
-pub data Point : Type 0 where
-  Before : ℕ → Point
-  After : ℕ → Point
+-- what a kind of node is to evaluation: a statement, an expression, a part of one that is looked through, or another node
+abbrev pub sort_of : NodeKind → Sort
+sort_of kind.Block = sort.Statement
+sort_of kind.Empty = sort.Statement
+sort_of kind.ExprStmt = sort.Statement
+sort_of kind.Echo = sort.Statement
+sort_of kind.Html = sort.Statement
+sort_of kind.Return = sort.Statement
+sort_of kind.If = sort.Statement
+sort_of kind.IfAlt = sort.Statement
+sort_of kind.While = sort.Statement
+sort_of kind.DoWhile = sort.Statement
+sort_of kind.For = sort.Statement
+sort_of kind.Foreach = sort.Statement
+sort_of kind.Switch = sort.Statement
+sort_of kind.Break = sort.Statement
+sort_of kind.Continue = sort.Statement
+sort_of kind.Global = sort.Statement
+sort_of kind.Statics = sort.Statement
+sort_of kind.Unset = sort.Statement
+sort_of kind.Throw = sort.Statement
+sort_of kind.Try = sort.Statement
+sort_of kind.Function = sort.Statement
+sort_of kind.Class = sort.Statement
+sort_of kind.Interface = sort.Statement
+sort_of kind.Trait = sort.Statement
+sort_of kind.Const = sort.Statement
+sort_of kind.Namespace = sort.Statement
+sort_of kind.Use = sort.Statement
+sort_of kind.Declare = sort.Statement
+sort_of kind.Goto = sort.Statement
+sort_of kind.LabelStmt = sort.Statement
+sort_of kind.Variable = sort.Expression
+sort_of kind.Number = sort.Expression
+sort_of kind.Float = sort.Expression
+sort_of kind.Text = sort.Expression
+sort_of kind.Quoted = sort.Expression
+sort_of kind.Constant = sort.Expression
+sort_of kind.ClassConstant = sort.Expression
+sort_of kind.Array = sort.Expression
+sort_of kind.Paren = sort.Expression
+sort_of kind.Offset = sort.Expression
+sort_of kind.BraceOffset = sort.Expression
+sort_of kind.Prop = sort.Expression
+sort_of kind.StaticProp = sort.Expression
+sort_of kind.Call = sort.Expression
+sort_of kind.MethodCall = sort.Expression
+sort_of kind.StaticCall = sort.Expression
+sort_of kind.New = sort.Expression
+sort_of kind.Isset = sort.Expression
+sort_of kind.EmptyTest = sort.Expression
+sort_of kind.Exit = sort.Expression
+sort_of kind.Closure = sort.Expression
+sort_of kind.Arrow = sort.Expression
+sort_of kind.Include = sort.Expression
+sort_of kind.EvalTest = sort.Expression
+sort_of kind.Binary = sort.Expression
+sort_of kind.Prefix = sort.Expression
+sort_of kind.Postfix = sort.Expression
+sort_of kind.Cast = sort.Expression
+sort_of kind.Ternary = sort.Expression
+sort_of kind.ShortTernary = sort.Expression
+sort_of kind.Assign = sort.Expression
+sort_of kind.AssignRef = sort.Expression
+sort_of kind.CompoundAssign = sort.Expression
+sort_of kind.InstanceOf = sort.Expression
+sort_of kind.Print = sort.Expression
+sort_of kind.Yield = sort.Expression
+sort_of kind.Item = sort.LookedThrough
+sort_of kind.List = sort.LookedThrough
+sort_of kind.Args = sort.LookedThrough
+sort_of k = sort.Other
 
--- the kinds that are statements
-abbrev pub is_statement : NodeKind → Bool
-is_statement kind.Block = true
-is_statement kind.Empty = true
-is_statement kind.ExprStmt = true
-is_statement kind.Echo = true
-is_statement kind.Html = true
-is_statement kind.Return = true
-is_statement kind.If = true
-is_statement kind.IfAlt = true
-is_statement kind.While = true
-is_statement kind.DoWhile = true
-is_statement kind.For = true
-is_statement kind.Foreach = true
-is_statement kind.Switch = true
-is_statement kind.Break = true
-is_statement kind.Continue = true
-is_statement kind.Global = true
-is_statement kind.Statics = true
-is_statement kind.Unset = true
-is_statement kind.Throw = true
-is_statement kind.Try = true
-is_statement kind.Function = true
-is_statement kind.Class = true
-is_statement kind.Interface = true
-is_statement kind.Trait = true
-is_statement kind.Const = true
-is_statement kind.Namespace = true
-is_statement kind.Use = true
-is_statement kind.Declare = true
-is_statement kind.Goto = true
-is_statement kind.LabelStmt = true
-is_statement k = false
+-- statements and expressions have points
+abbrev pub is_evaluated : Sort → Bool
+is_evaluated sort.Statement = true
+is_evaluated sort.Expression = true
+is_evaluated sort.LookedThrough = false
+is_evaluated sort.Other = false
 
--- the kinds that are expressions
-abbrev pub is_expression : NodeKind → Bool
-is_expression kind.Variable = true
-is_expression kind.Number = true
-is_expression kind.Float = true
-is_expression kind.Text = true
-is_expression kind.Quoted = true
-is_expression kind.Constant = true
-is_expression kind.ClassConstant = true
-is_expression kind.Array = true
-is_expression kind.Paren = true
-is_expression kind.Offset = true
-is_expression kind.BraceOffset = true
-is_expression kind.Prop = true
-is_expression kind.StaticProp = true
-is_expression kind.Call = true
-is_expression kind.MethodCall = true
-is_expression kind.StaticCall = true
-is_expression kind.New = true
-is_expression kind.Isset = true
-is_expression kind.EmptyTest = true
-is_expression kind.Exit = true
-is_expression kind.Closure = true
-is_expression kind.Arrow = true
-is_expression kind.Include = true
-is_expression kind.EvalTest = true
-is_expression kind.Binary = true
-is_expression kind.Prefix = true
-is_expression kind.Postfix = true
-is_expression kind.Cast = true
-is_expression kind.Ternary = true
-is_expression kind.ShortTernary = true
-is_expression kind.Assign = true
-is_expression kind.AssignRef = true
-is_expression kind.CompoundAssign = true
-is_expression kind.InstanceOf = true
-is_expression kind.Print = true
-is_expression kind.Yield = true
-is_expression k = false
-
--- the nodes that have points
+-- whether a node has points
 abbrev pub has_points : NodeKind → Bool
-has_points k = is_statement k || is_expression k
+has_points k = is_evaluated (sort_of k)
 
--- the parts of expressions that are looked through
-abbrev pub is_looked_through : NodeKind → Bool
-is_looked_through kind.Item = true
-is_looked_through kind.List = true
-is_looked_through kind.Args = true
-is_looked_through k = false
+-- whether a node is a case of a `switch`
+abbrev pub is_case : NodeKind → Bool
+is_case kind.Case = true
+is_case k = false
 
 -- In order: a word; an expression; a statement; another node with its pieces; each before further ones.
 pub data Pieces : Type 0 where
@@ -120,12 +121,16 @@ without_words (expr n ps) = expr n (without_words ps)
 without_words (stmt n ps) = stmt n (without_words ps)
 without_words (other k n inner ps) = other k n inner (without_words ps)
 
--- a node before other pieces, by its kind, its number and its own pieces
+-- a node before other pieces, by its sort, its kind, its number and its own pieces
+abbrev pub piece_by : Sort → NodeKind → ℕ → Pieces → Pieces → Pieces
+piece_by sort.Statement k n inner more = stmt n more
+piece_by sort.Expression k n inner more = expr n more
+piece_by sort.LookedThrough k n inner more = and_then (without_words inner) more
+piece_by sort.Other k n inner more = other k n inner more
+
+-- the same by its kind
 abbrev pub piece_before : NodeKind → ℕ → Pieces → Pieces → Pieces
-piece_before k n inner more =
-    if is_expression k then expr n more
-    else (if is_statement k then stmt n more
-    else (if is_looked_through k then and_then (without_words inner) more else other k n inner more))
+piece_before k n inner more = piece_by (sort_of k) k n inner more
 
 -- the pieces of a forest whose first node has a number
 abbrev pub pieces : ℕ → Forest → Pieces
@@ -135,6 +140,7 @@ pieces n (node k c f) = piece_before k n (pieces (suc n) c) (pieces (suc n + cou
 
 -- ---- among pieces
 
+-- words are compared without case
 abbrev pub is_word : List ℕ → List ℕ → Bool
 is_word = str_eq_ignore_ascii_case
 
@@ -162,7 +168,7 @@ steps (expr n ps) = n ∷ steps ps
 steps (stmt n ps) = n ∷ steps ps
 steps (other k n inner ps) = steps ps
 
--- what stands before a word, and behind it
+-- what stands before a word
 abbrev pub up_to : List ℕ → Pieces → Pieces
 up_to w end = end
 up_to w (word t ps) = if is_word w t then end else word t (up_to w ps)
@@ -170,6 +176,7 @@ up_to w (expr n ps) = expr n (up_to w ps)
 up_to w (stmt n ps) = stmt n (up_to w ps)
 up_to w (other k n inner ps) = other k n inner (up_to w ps)
 
+-- what stands behind it
 abbrev pub behind : List ℕ → Pieces → Pieces
 behind w end = end
 behind w (word t ps) = if is_word w t then ps else behind w ps
@@ -177,6 +184,7 @@ behind w (expr n ps) = behind w ps
 behind w (stmt n ps) = behind w ps
 behind w (other k n inner ps) = behind w ps
 
+-- whether a word is among them
 abbrev pub has_word : List ℕ → Pieces → Bool
 has_word w end = false
 has_word w (word t ps) = is_word w t || has_word w ps
@@ -184,10 +192,14 @@ has_word w (expr n ps) = has_word w ps
 has_word w (stmt n ps) = has_word w ps
 has_word w (other k n inner ps) = has_word w ps
 
+-- whether a node is a parameter
+abbrev pub is_param : NodeKind → Bool
+is_param kind.Param = true
+is_param k = false
+
 -- the expression that a parameter has as its default
 abbrev pub default_of : NodeKind → Pieces → List ℕ
-default_of kind.Param inner = exprs inner
-default_of k inner = []
+default_of k inner = if is_param k then exprs inner else []
 
 -- the defaults of the parameters that have one
 abbrev pub defaults : Pieces → List ℕ

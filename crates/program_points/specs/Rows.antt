@@ -1,16 +1,22 @@
 -- The edges of each kind of node, in the order of evaluation (PHP manual, "Control Structures", "Operators", "Exceptions";
 -- `docs/POINTS.md` has the table with the reasons).
-use Rattle.std.specs.Prelude.{ℕ, zero, suc, ◌+◌, ◌-◌, ◌*◌, Bool, false, ◌||◌, ◌&&◌, ◌==◌, nat_le, if◌then◌else◌, codes, List, [], ◌∷◌, ◌++◌, Option, Some, None}
-use Rattle.php_tree.specs.declared.kind.NodeKind.{NodeKind}
-use Rattle.php_tree.specs.declared.kind.NodeKind.TheVariants as kind
-use Rattle.program_points.specs.Pieces.{Pieces, Point, Before, After, end, word, expr, stmt, other, exprs, stmts, steps, up_to, behind, has_word}
+use Rattle.std.specs.Prelude.{ℕ, zero, suc, Bool, ◌||◌, if◌then◌else◌, codes, List, [], ◌∷◌, ◌++◌, Option, Some, None, unwrap_or}
+use Rattle.program_points.specs.declared.point.Point.{Point}
+use Rattle.program_points.specs.declared.point.Point.TheVariants.{Before, After}
+use Rattle.program_points.specs.declared.file_edge.FileEdge.{FileEdge}
+use Rattle.program_points.specs.declared.frame.Again.{Again}
+use Rattle.program_points.specs.declared.frame.Again.TheVariants.{Nowhere, To, Either}
+use Rattle.program_points.specs.declared.frame.Frame.{Frame}
+use Rattle.program_points.specs.declared.frame.Frame.TheVariants.{Loop, Finally}
+use Rattle.program_points.specs.declared.case.Case.{Case}
+use Rattle.program_points.specs.declared.case.Entry.{Entry}
+use Rattle.program_points.specs.Pieces.{Pieces, end, word, expr, stmt, other, exprs, stmts, steps, up_to, behind, has_word, is_case}
 
 -- evaluation may step from one point to another by what a node does
-pub record Edge : Type 0 where
-  pub from : Point
-  pub to : Point
-  pub node : ℕ
+abbrev pub Edge : Type 0
+Edge = FileEdge
 
+-- one edge, by what a node does
 abbrev pub edge : ℕ → Point → Point → List Edge
 edge n from to = record { from = from; to = to; node = n } ∷ []
 
@@ -33,6 +39,11 @@ first_or (a ∷ more) to = Before a
 abbrev pub last_or : List ℕ → Point → Point
 last_or [] from = from
 last_or (a ∷ more) from = last_or more (After a)
+
+-- the first of some nodes, if there is one
+abbrev pub head_of : List ℕ → Option ℕ
+head_of [] = None
+head_of (a ∷ more) = Some a
 
 -- ---- expressions
 
@@ -64,6 +75,7 @@ is_short ps =
     has_word (codes "&&") ps || has_word (codes "||") ps || has_word (codes "and") ps || has_word (codes "or") ps
     || has_word (codes "??") ps || has_word (codes "??=") ps
 
+-- an operator with its two sides
 abbrev pub by_operator : ℕ → Pieces → List Edge
 by_operator n ps = if is_short ps then maybe_second n (steps ps) else in_order n (steps ps)
 
@@ -133,126 +145,118 @@ foreach_loop n ss (a ∷ more) =
     chain n (Before n) (ss ++ a ∷ more) (Before a) ++ edge n (last_or ss (Before n)) (After n)
     ++ edge n (last_or more (After a)) (After n)
 
+-- what stands before `as` is the subject
 abbrev pub foreach_of : ℕ → Pieces → List Edge
 foreach_of n ps = foreach_loop n (exprs (up_to (codes "as") ps)) (passes ps)
 
 -- ---- switch
 
--- a case: its value, none for a default, and its statements
-pub record Case : Type 0 where
-  pub value : Option ℕ
-  pub statements : List ℕ
-
+-- a case by its pieces: its value, none for a default, and the first of its statements
 abbrev pub case_of : Pieces → Case
-case_of ps = record {
-  value = elim (exprs ps) [ [] ↦ None | c ∷ cs ↦ Some c ];
-  statements = stmts ps;
-}
+case_of inner = record { value = head_of (exprs inner); first = head_of (stmts inner) }
 
-abbrev pub case_if : NodeKind → Pieces → List Case
-case_if kind.Case inner = case_of inner ∷ []
-case_if k inner = []
-
+-- the cases, in order
 abbrev pub cases : Pieces → List Case
 cases end = []
 cases (word t ps) = cases ps
 cases (expr n ps) = cases ps
 cases (stmt n ps) = cases ps
-cases (other k n inner ps) = case_if k inner ++ cases ps
+cases (other k n inner ps) = if is_case k then case_of inner ∷ cases ps else cases ps
+
+-- the statements of each, in order
+abbrev pub all_statements : Pieces → List ℕ
+all_statements end = []
+all_statements (word t ps) = all_statements ps
+all_statements (expr n ps) = all_statements ps
+all_statements (stmt n ps) = all_statements ps
+all_statements (other k n inner ps) = if is_case k then stmts inner ++ all_statements ps else all_statements ps
+
+-- the point before a node, if there is one, or else this one
+abbrev pub before_or : Option ℕ → Point → Point
+before_or None to = to
+before_or (Some n) to = Before n
 
 -- where evaluation goes on from the front of some cases
 abbrev pub start_of : List Case → Point → Point
 start_of [] to = to
-start_of (c ∷ cs) to = first_or c.statements (start_of cs to)
+start_of (c ∷ cs) to = before_or c.first (start_of cs to)
+
+-- the cases with where each goes on from its front
+abbrev pub entries : List Case → Point → List Entry
+entries [] to = []
+entries (c ∷ cs) to = record { value = c.value; start = start_of (c ∷ cs) to } ∷ entries cs to
 
 -- the values in turn, each with the step to its statements
-abbrev pub tests : ℕ → Point → List Case → List Edge
+abbrev pub tests : ℕ → Point → List Entry → List Edge
 tests n from [] = []
-tests n from (c ∷ cs) = elim c.value [
-  | None ↦ tests n from cs
-  | Some v ↦ edge n from (Before v) ++ edge n (After v) (start_of (c ∷ cs) (After n)) ++ tests n (After v) cs
+tests n from (e ∷ es) = elim e.value [
+  | None ↦ tests n from es
+  | Some v ↦ edge n from (Before v) ++ edge n (After v) e.start ++ tests n (After v) es
 ]
 
 -- the point at which no value was the subject's
-abbrev pub untested : Point → List Case → Point
+abbrev pub untested : Point → List Entry → Point
 untested from [] = from
-untested from (c ∷ cs) = elim c.value [ None ↦ untested from cs | Some v ↦ untested (After v) cs ]
+untested from (e ∷ es) = elim e.value [ None ↦ untested from es | Some v ↦ untested (After v) es ]
+
+-- where the default starts, if there is one
+abbrev pub first_default : List Entry → Option Point
+first_default [] = None
+first_default (e ∷ es) = elim e.value [ None ↦ Some e.start | Some v ↦ first_default es ]
 
 -- where that goes: to the default, or behind the switch
-abbrev pub default_case : List Case → Point → Point
-default_case [] to = to
-default_case (c ∷ cs) to = elim c.value [ None ↦ start_of (c ∷ cs) to | Some v ↦ default_case cs to ]
-
-abbrev pub all_statements : List Case → List ℕ
-all_statements [] = []
-all_statements (c ∷ cs) = c.statements ++ all_statements cs
+abbrev pub default_start : List Entry → Point → Point
+default_start es to = unwrap_or (first_default es) to
 
 -- from the first on, each statement goes on to the next
 abbrev pub falls : ℕ → List ℕ → Point → List Edge
 falls n [] to = []
 falls n (a ∷ more) to = chain n (After a) more to
 
+-- the subject; the values in turn; where none was equal, the default; and the statements, one after another
 abbrev pub switch_of : ℕ → Pieces → List Edge
 switch_of n ps =
     let from = last_or (exprs ps) (Before n) in
-    run n (Before n) (exprs ps) ++ tests n from (cases ps) ++ edge n (untested from (cases ps)) (default_case (cases ps) (After n))
-    ++ falls n (all_statements (cases ps)) (After n)
+    let es = entries (cases ps) (After n) in
+    run n (Before n) (exprs ps) ++ tests n from es ++ edge n (untested from es) (default_start es (After n))
+    ++ falls n (all_statements ps) (After n)
 
 -- ---- functions
+
+-- from a default through the further ones to the body, if it begins with something
+abbrev pub from_default : ℕ → ℕ → List ℕ → List ℕ → List Edge
+from_default n d ds [] = run n (After d) ds
+from_default n d ds (b ∷ bs) = chain n (After d) ds (Before b)
 
 -- the defaults in turn, and then the body
 abbrev pub then_body : ℕ → List ℕ → List ℕ → List Edge
 then_body n [] body = []
-then_body n (d ∷ ds) [] = run n (After d) ds
-then_body n (d ∷ ds) (b ∷ bs) = chain n (After d) ds (Before b)
+then_body n (d ∷ ds) body = from_default n d ds body
 
 -- ---- jumps
 
--- What a jump may lead to, the innermost first: a loop or switch, with where `break` goes on and where `continue` does; or the
--- last part of a `try`, through which each jump goes.
-pub data Frame : Type 0 where
-  Loop : Point → List Point → Frame
-  Finally : ℕ → Frame
+-- the points of `continue`
+abbrev pub ways : Again → List Point
+ways Nowhere = []
+ways (To p) = p ∷ []
+ways (Either p q) = p ∷ q ∷ []
 
--- the points at which a jump over so many loops goes on
+-- the points at which a jump that aims at a loop goes on
+abbrev pub landing : Bool → Point → Again → List Point
+landing is_break out again = if is_break then out ∷ [] else ways again
+
+-- the points at which a jump over so many loops goes on, the innermost of what is around it first
 abbrev pub jump : Bool → ℕ → List Frame → List Point
 jump is_break n [] = []
 jump is_break n (Finally b ∷ fs) = Before b ∷ []
-jump is_break zero (Loop out again ∷ fs) = if is_break then out ∷ [] else again
-jump is_break (suc zero) (Loop out again ∷ fs) = if is_break then out ∷ [] else again
+jump is_break zero (Loop out again ∷ fs) = landing is_break out again
+jump is_break (suc zero) (Loop out again ∷ fs) = landing is_break out again
 jump is_break (suc (suc n)) (Loop out again ∷ fs) = jump is_break (suc n) fs
 
+-- from a point to each of some
 abbrev pub to_each : ℕ → Point → List Point → List Edge
 to_each n from [] = []
 to_each n from (p ∷ ps) = edge n from p ++ to_each n from ps
-
--- the value of a digit
-abbrev pub digit : ℕ → ℕ
-digit b = if nat_le b 57 then b - 48 else (if nat_le b 70 then b - 55 else b - 87)
-
--- the value of digits to a base, where this was read so far; `_` stands between digits
-abbrev pub digits_from : ℕ → ℕ → List ℕ → ℕ
-digits_from base v [] = v
-digits_from base v (b ∷ bs) = if b == 95 then digits_from base v bs else digits_from base (base * v + digit b) bs
-
--- the value of an int literal (PHP manual, "Integers")
-abbrev pub int_value : List ℕ → ℕ
-int_value [] = 0
-int_value (a ∷ []) = digit a
-int_value (a ∷ b ∷ bs) =
-    if a == 48 then
-    (if b == 120 || b == 88 then digits_from 16 0 bs
-    else (if b == 98 || b == 66 then digits_from 2 0 bs else digits_from 8 0 (b ∷ bs)))
-    else digits_from 10 0 (a ∷ b ∷ bs)
-
-abbrev pub begins_with_digit : List ℕ → Bool
-begins_with_digit [] = false
-begins_with_digit (b ∷ bs) = nat_le 48 b && nat_le b 57
-
--- over how many loops a `break` or `continue` goes: 1 where it says nothing
-abbrev pub level : Pieces → ℕ
-level (word w (word v ps)) = if begins_with_digit v then int_value v else 1
-level ps = 1
 
 -- ---- try
 
@@ -270,12 +274,14 @@ abbrev pub ends : ℕ → List ℕ → Point → List Edge
 ends n [] to = []
 ends n (a ∷ more) to = edge n (After a) to ++ ends n more to
 
+-- from the last part, where there is one, to where jumps out of the others go on
+abbrev pub leave : ℕ → List ℕ → List Point → List Edge
+leave n [] out = []
+leave n (b ∷ bs) out = to_each n (After b) out
+
+-- the body; its ends and those of the `catch` parts; the last part's end, and the jumps out of the others
 abbrev pub try_of : ℕ → Pieces → List Point → List Edge
 try_of n ps leaving =
     run n (Before n) (try_body ps) ++ ends n (try_body ps) (first_or (finally_of ps) (After n))
     ++ ends n (catches ps) (first_or (finally_of ps) (After n))
     ++ ends n (finally_of ps) (After n) ++ leave n (finally_of ps) leaving
-  where
-    leave : ℕ → List ℕ → List Point → List Edge
-    leave n [] out = []
-    leave n (b ∷ bs) out = to_each n (After b) out

@@ -54,7 +54,8 @@ walk_node-returns-clause-told t c =
     let first = c.args.told.now.items in
     let second = c.tell_own.new.told.items in
     node_told f n c.args.parts.number s s c.args.spot.is_top c.stays_top-is_top.result k g first second c.walk_parts-2.new.told.items
-    (subst (λ (is : List Import). second ≡ first ++ told_at (record { file = f; node = n }) c.args.spot.is_top k g (site_at path space from is)) c.as_slice.ensures.value c.in_ok-tell_own.ensures)
+    (subst (λ (is : List Import). second ≡ first ++ told_at (record { file = f; node = n }) c.args.spot.is_top k g
+    (site_at path space from is)) c.as_slice.ensures.value c.in_ok-tell_own.ensures)
     c.in_ok-walk_parts-2.ensures.told
     c.requires.number
     (sym (within_other k (form g) s (sym c.is_space.ensures ∙ c.if-is_space.false)))

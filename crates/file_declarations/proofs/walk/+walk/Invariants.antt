@@ -15,7 +15,9 @@ decreases-walk_node l = 2 * weight (forest_in l.parts) + 1
 abbrev pub invariant-walk_parts-parts : goal.invariant-walk_parts-parts
 invariant-walk_parts-parts l =
     Holds l.fn.spot.path.now l.fn.spot.space.now l.fn.spot.file l.fn.spot.is_top l.fn.imports.items (weight (forest_in l.fn.parts))
-    (l.fn.told.items ++ told l.fn.spot.file l.fn.parts.number (site_at l.fn.spot.path.now l.fn.spot.space.now l.fn.spot.from l.fn.imports.items) l.fn.spot.is_top (forest_in l.fn.parts))
+    (l.fn.told.items ++ told l.fn.spot.file l.fn.parts.number
+    (site_at l.fn.spot.path.now l.fn.spot.space.now l.fn.spot.from l.fn.imports.items) l.fn.spot.is_top
+    (forest_in l.fn.parts))
     l.told.items l.left.number l.standing.own l.standing.from l.imports.items (forest_in l.left)
 
 abbrev pub decreases-walk_parts-parts : goal.decreases-walk_parts-parts

@@ -1,0 +1,9 @@
+use Rattle.std.proofs.Common.{◌≡◌, length}
+use Rattle.program_points.specs.Chosen.{chosen, pieces_of}
+use Rattle.program_points.proofs.chains.next_of.Given as goal
+
+abbrev pub invariant-loop-left : goal.invariant-loop-left
+invariant-loop-left l = chosen l.which (pieces_of l.left) ≡ chosen l.which (pieces_of l.fn.pieces)
+
+abbrev pub decreases-loop-left : goal.decreases-loop-left
+decreases-loop-left l = length l.left
