@@ -1,5 +1,33 @@
 -- The reading of sources, file by file.
-use Rattle.std.proofs.Common.{◌≡◌, ◌<◌, ◌≤◌, ℕ, suc, ◌+◌, Bool, true, false, List, [], ◌∷◌, ◌++◌, length, map, get_or, take, drop, refl, ap, ap₂, sym, ◌∙◌, subst, arith, if◌then◌else◌, nat_lt}
+use Rattle.std.proofs.Common.{
+  ◌≡◌,
+  ◌<◌,
+  ◌≤◌,
+  ℕ,
+  suc,
+  ◌+◌,
+  Bool,
+  true,
+  false,
+  List,
+  [],
+  ◌∷◌,
+  ◌++◌,
+  length,
+  map,
+  get_or,
+  take,
+  drop,
+  refl,
+  ap,
+  ap₂,
+  sym,
+  ◌∙◌,
+  subst,
+  arith,
+  if◌then◌else◌,
+  nat_lt,
+}
 use Rattle.std.specs.Prelude.{Option, Some, None, IfSome, IsSome, Result, Ok, Err, Vec}
 use Rattle.std.specs.declared.alloc.Global.{Global}
 use Rattle.std.proofs.lemmas.Bool.{le-ltb, lt-ltb}
@@ -21,7 +49,26 @@ use Rattle.rule_tables.specs.SettingsView.{SettingsView}
 use Rattle.upgrade_cli.specs.declared.ready.Ready.{Ready}
 use Rattle.upgrade_cli.specs.declared.stop.Stop.{Stop}
 use Rattle.upgrade_cli.specs.declared.stop.Stop.TheVariants as stop
-use Rattle.upgrade_cli.specs.Ready.{IsWithin, IsListing, IsTooMany, IsTooLong, IsReading, IsAdding, AreReading, IsFiles, Progress, IsNext, IsSettingsReading, IsSaid, IsReady, is_long, said, said_by, first_limit, bytes_of}
+use Rattle.upgrade_cli.specs.Ready.{
+  IsWithin,
+  IsListing,
+  IsTooMany,
+  IsTooLong,
+  IsReading,
+  IsAdding,
+  AreReading,
+  IsFiles,
+  Progress,
+  IsNext,
+  IsSettingsReading,
+  IsSaid,
+  IsReady,
+  is_long,
+  said,
+  said_by,
+  first_limit,
+  bytes_of,
+}
 use Rattle.upgrade_cli.specs.Stops.{settings_stop}
 
 -- ---- the listing

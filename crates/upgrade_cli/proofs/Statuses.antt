@@ -9,9 +9,9 @@ use Rattle.io_ports.specs.Files as ports
 use Rattle.io_ports.specs.Files.{content}
 use Rattle.rule_tables.specs.SettingsView.{SettingsView}
 use Rattle.upgrade_core.specs.declared.fault.LimitFault.{LimitFault}
-use Rattle.upgrade_core.specs.declared.fault.NamesFault.{NamesFault}
-use Rattle.upgrade_core.specs.declared.fault.NamesFault.TheVariants as names
-use Rattle.upgrade_core.specs.Outcome.{absent, IsNamesFault}
+use Rattle.resolved_names.specs.declared.names_fault.NamesFault.{NamesFault}
+use Rattle.resolved_names.specs.declared.names_fault.NamesFault.TheVariants as names
+use Rattle.upgrade_core.specs.Names.{AreResolved, IsNamesFault}
 use Rattle.upgrade_core.specs.Files.{Trees}
 use Rattle.upgrade_core.specs.Trees.{AreRead, IsFirstUnread}
 use Rattle.upgrade_cli.specs.declared.stop.Status.{Status}
@@ -111,9 +111,17 @@ read_or_not (f ∷ fs) (t ∷ ts) path r (inl u) = u.1 t.1 r.0.1
 read_or_not (f ∷ fs) (t ∷ ts) path r (inr u) = read_or_not fs ts path r.1 u.1
 
 -- names are refused or not
-names_or_not : (settings : SettingsView) (fs : List ports.File) (n : NamesFault) → absent settings fs ≡ None
-    → IsNamesFault settings fs n → ⊥
-names_or_not settings fs (names.NoFile path) e h = let no : ⊥ = cc in no
+names_or_not : (settings : SettingsView) (trees : Trees) (n : NamesFault) → AreResolved settings trees → IsNamesFault settings trees n → ⊥
+names_or_not settings trees (names.NoFile path) clear h = let found = clear.asked.found in let no : ⊥ = cc in no
+names_or_not settings trees (names.Twice name first second) clear h = clear.once h.es h.p h.asked h.clash.i h.clash.j h.clash.clash.is
+names_or_not settings trees (names.Cycle classes) clear h = clear.no_cycle classes.items h.cycle.is
+names_or_not settings trees names.Memory clear h = h
+
+-- so of the trees of one program
+module _ (settings : SettingsView) (fs : List ports.File) (ts us : Trees) (n : NamesFault) (r : AreRead fs ts) (q : AreRead fs us) where
+  clear_or_not : AreResolved settings ts → IsNamesFault settings us n → ⊥
+  clear_or_not clear h =
+      names_or_not settings us n (subst (λ (x : Trees). AreResolved settings x) (read_once fs ts us r q) clear) h
 
 -- ---- each status
 
@@ -128,7 +136,7 @@ by_settings settings fs (Ok s) (Err (stop.Limit l)) h k = absurd k
 by_settings settings fs (Ok s) (Err stop.NoSettings) h k = absurd k
 by_settings settings fs (Ok s) (Err (stop.Settings fault)) h k = absurd k
 by_settings settings fs (Ok s) (Err (stop.Source path)) h k = absurd (read_or_not fs h.0 path h.1.read k)
-by_settings settings fs (Ok s) (Err (stop.Names fault)) h k = absurd (names_or_not settings fs fault h.1.names k.2)
+by_settings settings fs (Ok s) (Err (stop.Names fault)) h k = absurd (clear_or_not settings fs h.0 k.0 k.2.0 h.1.read k.1 h.1.names k.2.1)
 by_settings settings fs (Ok s) (Err stop.SourceFault) h k = absurd k
 by_settings settings fs (Ok s) (Err stop.SinkFault) h k = absurd k
 by_settings settings fs (Ok s) (Err stop.TargetFault) h k = absurd k
@@ -144,7 +152,7 @@ by_settings settings fs (Err (stop.Source p)) (Err stop.SourceFault) h k = absur
 by_settings settings fs (Err (stop.Source p)) (Err stop.SinkFault) h k = absurd k
 by_settings settings fs (Err (stop.Source p)) (Err stop.TargetFault) h k = absurd k
 by_settings settings fs (Err (stop.Source p)) (Err stop.Memory) h k = absurd k
-by_settings settings fs (Err (stop.Names n)) (Ok s) h k = absurd (names_or_not settings fs n k.1.names h.2)
+by_settings settings fs (Err (stop.Names n)) (Ok s) h k = absurd (clear_or_not settings fs k.0 h.0 h.2.0 k.1.read h.1 k.1.names h.2.1)
 by_settings settings fs (Err (stop.Names n)) (Err stop.Usage) h k = absurd k
 by_settings settings fs (Err (stop.Names n)) (Err (stop.Limit l)) h k = absurd k
 by_settings settings fs (Err (stop.Names n)) (Err stop.NoSettings) h k = absurd k

@@ -8,6 +8,7 @@ use Rattle.io_ports.specs.Files.{content}
 use Rattle.io_ports.specs.declared.report.Report.{Report}
 use Rattle.rule_tables.specs.SettingsView.{SettingsView}
 use Rattle.report_handing.specs.Sinks.{Sinks}
+use Rattle.resolved_names.specs.declared.names_fault.NamesFault.{NamesFault}
 use Rattle.upgrade_core.specs.declared.fault.LimitFault.{LimitFault}
 use Rattle.upgrade_core.specs.declared.fault.UpgradeFault.{UpgradeFault}
 use Rattle.upgrade_core.specs.declared.fault.UpgradeFault.TheVariants as fault
@@ -24,9 +25,24 @@ use Rattle.upgrade_cli.specs.declared.stop.Stop.{Stop}
 use Rattle.upgrade_cli.specs.declared.stop.Stop.TheVariants as stop
 use Rattle.upgrade_cli.specs.declared.stop.Summary.{Summary}
 use Rattle.upgrade_cli.specs.Ready.{first_limit, is_long, said, IsReady}
-use Rattle.upgrade_cli.specs.Outcome.{name_of, writes, counts, Comes, ComesBy, ComesWith, Through, Planned, AreHanded, IsOutcome, SinksLeft, TargetLeft, planned_files, with_written}
+use Rattle.upgrade_cli.specs.Outcome.{
+  name_of,
+  writes,
+  counts,
+  Comes,
+  ComesBy,
+  ComesWith,
+  Through,
+  Planned,
+  AreHanded,
+  IsOutcome,
+  SinksLeft,
+  TargetLeft,
+  planned_files,
+  with_written,
+}
 use Rattle.upgrade_cli.specs.Run.{SinkCause}
-use Rattle.upgrade_cli.specs.Stops.{upgrade_stop}
+use Rattle.upgrade_cli.specs.Stops.{IsNamesStop, IsUpgradeStop}
 use Rattle.upgrade_cli.specs.Whole.{summary_of, IsUpgrading, IsWriting, IsOfWriting, IsDoing}
 use Rattle.upgrade_cli.specs.Writing.{put_all, ArePut}
 
@@ -121,46 +137,98 @@ through content files r trees h clear = record {
 
 -- a stop of the upgrade
 module _ (content : Option (List ℕ)) (files : List ports.File) (r : Ready) (h : IsReady content files (Ok r)) where
-  refused : (x : UpgradeFault) → core.IsOutcome r.settings (map file_of r.files.items) (Err x)
-      → IsOutcome content files (Err (upgrade_stop x))
-  refused (fault.Source path) o =
-      comes content files r.settings (Err (stop.Source path)) h.1 h.2
-      (subst (λ (xs : List ports.File). ComesBy r.settings xs (Err (stop.Source path))) h.0 o.1)
-  refused (fault.Names n) o =
-      comes content files r.settings (Err (stop.Names n)) h.1 h.2
-      (subst (λ (xs : List ports.File). ComesBy r.settings xs (Err (stop.Names n))) h.0 (o.1, o.2, o.3))
-  refused (fault.Limit l) o =
+  -- where the names are refused
+  names_refused : (n : NamesFault) (e : Stop) → IsNamesStop (map file_of r.files.items) n e
+      → core.IsOutcome r.settings (map file_of r.files.items) (Err (fault.Names n)) → IsOutcome content files (Err e)
+  names_refused n (stop.Names told) u o =
+      comes content files r.settings (Err (stop.Names told)) h.1 h.2
+      (subst (λ (xs : List ports.File). ComesBy r.settings xs (Err (stop.Names told))) h.0 (o.1, o.2, (n, o.3, u o.1 o.2)))
+  names_refused n stop.Memory u o = tt
+  names_refused n stop.Usage u o = absurd u
+  names_refused n (stop.Limit l) u o = absurd u
+  names_refused n stop.NoSettings u o = absurd u
+  names_refused n (stop.Settings s) u o = absurd u
+  names_refused n (stop.Source path) u o = absurd u
+  names_refused n stop.SourceFault u o = absurd u
+  names_refused n stop.SinkFault u o = absurd u
+  names_refused n stop.TargetFault u o = absurd u
+
+  names_left : (n : NamesFault) (e : Stop) (old new : Sinks) → IsNamesStop (map file_of r.files.items) n e → new ≡ old
+      → SinksLeft content files (Err e) old new
+  names_left n (stop.Names told) old new u s = s
+  names_left n stop.Memory old new u s = inl s
+  names_left n stop.Usage old new u s = absurd u
+  names_left n (stop.Limit l) old new u s = absurd u
+  names_left n stop.NoSettings old new u s = absurd u
+  names_left n (stop.Settings x) old new u s = absurd u
+  names_left n (stop.Source path) old new u s = absurd u
+  names_left n stop.SourceFault old new u s = absurd u
+  names_left n stop.SinkFault old new u s = absurd u
+  names_left n stop.TargetFault old new u s = absurd u
+
+  names_target : (w : Bool) (n : NamesFault) (e : Stop) (target : List ports.File) → IsNamesStop (map file_of r.files.items) n e
+      → TargetLeft w content files (Err e) target (Some target)
+  names_target w n (stop.Names told) target u = refl
+  names_target w n stop.Memory target u = inl refl
+  names_target w n stop.Usage target u = absurd u
+  names_target w n (stop.Limit l) target u = absurd u
+  names_target w n stop.NoSettings target u = absurd u
+  names_target w n (stop.Settings x) target u = absurd u
+  names_target w n (stop.Source path) target u = absurd u
+  names_target w n stop.SourceFault target u = absurd u
+  names_target w n stop.SinkFault target u = absurd u
+  names_target w n stop.TargetFault target u = absurd u
+
+  -- what a run comes to where the upgrade is refused
+  is_refused : (e s : Stop) → e ≡ s → IsOutcome content files (Err s) → IsOutcome content files (Err e)
+  is_refused e s u o = subst (λ (x : Stop). IsOutcome content files (Err x)) (sym u) o
+
+  refused : (x : UpgradeFault) (e : Stop) → IsUpgradeStop (map file_of r.files.items) x e
+      → core.IsOutcome r.settings (map file_of r.files.items) (Err x) → IsOutcome content files (Err e)
+  refused (fault.Source path) e u o =
+      is_refused e (stop.Source path) u
+      (comes content files r.settings (Err (stop.Source path)) h.1 h.2
+      (subst (λ (xs : List ports.File). ComesBy r.settings xs (Err (stop.Source path))) h.0 o.1))
+  refused (fault.Names n) e u o = names_refused n e u o
+  refused (fault.Limit l) e u o =
       let none = no_limit content files h.1 in
       let some : limit_of files ≡ Some l = subst (λ (xs : List ports.File). limit_of xs ≡ Some l) h.0 o in
       absurd (let no : ⊥ = cc in no)
-  refused (fault.Sink at) o = through content files r o.0 h o.1
-  refused fault.Memory o = tt
+  refused (fault.Sink at) e u o = is_refused e stop.SinkFault u (through content files r o.0 h o.1)
+  refused fault.Memory e u o = is_refused e stop.Memory u tt
 
   abbrev planned : (rs : List Report) → core.ArePlanned r.settings (map file_of r.files.items) rs → Planned content files
   planned rs p = record { through = through content files r p.0 h p.1; reports = rs; are = p.2 }
 
-  left : (x : UpgradeFault) (old new : Sinks) → core.AreLeft r.settings (map file_of r.files.items) (Err x) old new
-      → SinksLeft content files (Err (upgrade_stop x)) old new
-  left (fault.Source path) old new s = s
-  left (fault.Names n) old new s = s
-  left (fault.Limit l) old new s = s
-  left (fault.Sink at) old new s = record {
+  is_left : (e s : Stop) (old new : Sinks) → e ≡ s → SinksLeft content files (Err s) old new → SinksLeft content files (Err e) old new
+  is_left e s old new u l = subst (λ (x : Stop). SinksLeft content files (Err x) old new) (sym u) l
+
+  left : (x : UpgradeFault) (e : Stop) (old new : Sinks) → IsUpgradeStop (map file_of r.files.items) x e
+      → core.AreLeft r.settings (map file_of r.files.items) (Err x) old new → SinksLeft content files (Err e) old new
+  left (fault.Source path) e old new u s = is_left e (stop.Source path) old new u s
+  left (fault.Names n) e old new u s = names_left n e old new u s
+  left (fault.Limit l) e old new u s = is_left e (stop.Limit l) old new u s
+  left (fault.Sink at) e old new u s = is_left e stop.SinkFault old new u (record {
     stopped = record { planned = planned s.0 s.1; at = at; handed = s.2 };
     rose = s.3;
-  }
-  left fault.Memory old new (inl s) = inl s
-  left fault.Memory old new (inr s) = inr (inl (record {
+  })
+  left fault.Memory e old new u (inl s) = is_left e stop.Memory old new u (inl s)
+  left fault.Memory e old new u (inr s) = is_left e stop.Memory old new u (inr (inl (record {
     stopped = record { planned = planned s.0 s.2; at = s.1; handed = s.3 };
     same = s.4;
-  }))
+  })))
 
-  target_left : (w : Bool) (x : UpgradeFault) (target : List ports.File)
-      → TargetLeft w content files (Err (upgrade_stop x)) target (Some target)
-  target_left w (fault.Source path) target = refl
-  target_left w (fault.Names n) target = refl
-  target_left w (fault.Limit l) target = refl
-  target_left w (fault.Sink at) target = refl
-  target_left w fault.Memory target = inl refl
+  is_kept : (w : Bool) (e s : Stop) (target : List ports.File) → e ≡ s → TargetLeft w content files (Err s) target (Some target)
+      → TargetLeft w content files (Err e) target (Some target)
+  is_kept w e s target u l = subst (λ (x : Stop). TargetLeft w content files (Err x) target (Some target)) (sym u) l
+
+  target_left : (w : Bool) (x : UpgradeFault) (e : Stop) (target : List ports.File) → IsUpgradeStop (map file_of r.files.items) x e
+      → TargetLeft w content files (Err e) target (Some target)
+  target_left w (fault.Source path) e target u = is_kept w e (stop.Source path) target u refl
+  target_left w (fault.Names n) e target u = names_target w n e target u
+  target_left w (fault.Limit l) e target u = is_kept w e (stop.Limit l) target u refl
+  target_left w (fault.Sink at) e target u = is_kept w e stop.SinkFault target u refl
+  target_left w fault.Memory e target u = is_kept w e stop.Memory target u (inl refl)
 
 pub upgrade_does : (asked : Asked) (ss fs : Option (List ports.File)) (r : Ready) (e : Stop) (old new : Sinks) (before : Option (List ports.File))
     → IfSome ss (λ st. IfSome fs (λ f. IsReady (content (name_of asked) st) f (Ok r)))
@@ -168,17 +236,15 @@ pub upgrade_does : (asked : Asked) (ss fs : Option (List ports.File)) (r : Ready
     → IfSome ss (λ st. IfSome fs (λ f. IsDoing asked st f (Err e) old new before before))
 upgrade_does asked None fs r e old new before h u = tt
 upgrade_does asked (Some st) None r e old new before h u = tt
-upgrade_does asked (Some st) (Some f) r e old new before h u =
-    subst (λ (x : Stop). IsDoing asked st f (Err x) old new before before) (sym u.1) (record {
-      outcome = refused (content (name_of asked) st) f r h u.0 u.2;
-      sinks = left (content (name_of asked) st) f r h u.0 old new u.3;
-      target = by before;
-    })
+upgrade_does asked (Some st) (Some f) r e old new before h u = record {
+  outcome = refused (content (name_of asked) st) f r h u.0 e u.1 u.2;
+  sinks = left (content (name_of asked) st) f r h u.0 e old new u.1 u.3;
+  target = by before;
+}
   where
-    by : (b : Option (List ports.File))
-        → IfSome b (λ x. TargetLeft (writes asked) (content (name_of asked) st) f (Err (upgrade_stop u.0)) x b)
+    by : (b : Option (List ports.File)) → IfSome b (λ x. TargetLeft (writes asked) (content (name_of asked) st) f (Err e) x b)
     by None = tt
-    by (Some x) = target_left (content (name_of asked) st) f r h (writes asked) u.0 x
+    by (Some x) = target_left (content (name_of asked) st) f r h (writes asked) u.0 e x u.1
 
 -- ---- the writing
 
@@ -286,15 +352,31 @@ writing_stops asked (Some st) (Some f) r u e old new before after h is only w =
     cut_off asked st f r u old new h is.0 is.1 e before after only w
 
 -- the counts of the sinks after a stop of the upgrade
+names_cause : (fs : List ports.File) (n : NamesFault) (e : Stop) (old new : Sinks) → IsNamesStop fs n e → new ≡ old
+    → SinkCause {X = Upgraded} (Err e) old.faults new.faults
+names_cause fs n (stop.Names told) old new u s = ap (λ (k : Sinks). k.faults) s
+names_cause fs n stop.Memory old new u s = ap (λ (k : Sinks). k.faults) s
+names_cause fs n stop.Usage old new u s = absurd u
+names_cause fs n (stop.Limit l) old new u s = absurd u
+names_cause fs n stop.NoSettings old new u s = absurd u
+names_cause fs n (stop.Settings x) old new u s = absurd u
+names_cause fs n (stop.Source path) old new u s = absurd u
+names_cause fs n stop.SourceFault old new u s = absurd u
+names_cause fs n stop.SinkFault old new u s = absurd u
+names_cause fs n stop.TargetFault old new u s = absurd u
+
 pub upgrade_cause : (r : Ready) (e : Stop) (old new : Sinks)
     → IsUpgrading r.settings (map file_of r.files.items) (Err e) old new → SinkCause {X = Upgraded} (Err e) old.faults new.faults
-upgrade_cause r e old new u = subst (λ (x : Stop). SinkCause {X = Upgraded} (Err x) old.faults new.faults) (sym u.1) (by u.0 u.3)
+upgrade_cause r e old new u = by u.0 u.1 u.3
   where
-    by : (x : UpgradeFault) → core.AreLeft r.settings (map file_of r.files.items) (Err x) old new
-        → SinkCause {X = Upgraded} (Err (upgrade_stop x)) old.faults new.faults
-    by (fault.Source path) s = ap (λ (k : Sinks). k.faults) s
-    by (fault.Names n) s = ap (λ (k : Sinks). k.faults) s
-    by (fault.Limit l) s = ap (λ (k : Sinks). k.faults) s
-    by (fault.Sink at) s = (at, s.3)
-    by fault.Memory (inl s) = ap (λ (k : Sinks). k.faults) s
-    by fault.Memory (inr s) = s.4
+    is_cause : (s : Stop) → e ≡ s → SinkCause {X = Upgraded} (Err s) old.faults new.faults → SinkCause {X = Upgraded} (Err e) old.faults new.faults
+    is_cause s is c = subst (λ (x : Stop). SinkCause {X = Upgraded} (Err x) old.faults new.faults) (sym is) c
+
+    by : (x : UpgradeFault) → IsUpgradeStop (map file_of r.files.items) x e
+        → core.AreLeft r.settings (map file_of r.files.items) (Err x) old new → SinkCause {X = Upgraded} (Err e) old.faults new.faults
+    by (fault.Source path) is s = is_cause (stop.Source path) is (ap (λ (k : Sinks). k.faults) s)
+    by (fault.Names n) is s = names_cause (map file_of r.files.items) n e old new is s
+    by (fault.Limit l) is s = is_cause (stop.Limit l) is (ap (λ (k : Sinks). k.faults) s)
+    by (fault.Sink at) is s = is_cause stop.SinkFault is (at, s.3)
+    by fault.Memory is (inl s) = is_cause stop.Memory is (ap (λ (k : Sinks). k.faults) s)
+    by fault.Memory is (inr s) = is_cause stop.Memory is s.4

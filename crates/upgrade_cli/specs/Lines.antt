@@ -1,12 +1,13 @@
 -- The line that a run puts: this project's own.
-use Rattle.std.specs.Prelude.{ℕ, List, ◌++◌, codes, decimal, Result, Ok, Err}
+use Rattle.std.specs.Prelude.{ℕ, List, [], ◌∷◌, ◌++◌, codes, decimal, Result, Ok, Err}
 use Rattle.rule_tables.specs.declared.settings_fault.SettingsFault.{SettingsFault}
 use Rattle.rule_tables.specs.declared.settings_fault.SettingsFault.TheVariants as settings
 use Rattle.upgrade_core.specs.declared.fault.LimitFault.{LimitFault}
 use Rattle.upgrade_core.specs.declared.fault.LimitKind.{LimitKind}
 use Rattle.upgrade_core.specs.declared.fault.LimitKind.TheVariants as kind
-use Rattle.upgrade_core.specs.declared.fault.NamesFault.{NamesFault}
-use Rattle.upgrade_core.specs.declared.fault.NamesFault.TheVariants as names
+use Rattle.upgrade_core.specs.declared.place.Place.{Place}
+use Rattle.upgrade_cli.specs.declared.stop.NamesStop.{NamesStop}
+use Rattle.upgrade_cli.specs.declared.stop.NamesStop.TheVariants as names
 use Rattle.upgrade_cli.specs.declared.stop.Stop.{Stop}
 use Rattle.upgrade_cli.specs.declared.stop.Stop.TheVariants as stop
 use Rattle.upgrade_cli.specs.declared.stop.Summary.{Summary}
@@ -38,7 +39,17 @@ settings_line (settings.BadValue key) = codes "settings bad-value " ++ key ++ co
 settings_line settings.Memory = codes ""
 
 -- names that are refused
-abbrev pub names_line : NamesFault → List ℕ
+abbrev pub place_text : Place → List ℕ
+place_text p = codes " " ++ p.path ++ codes ":" ++ decimal p.start
+
+abbrev pub spaced : List (List ℕ) → List ℕ
+spaced [] = []
+spaced (n ∷ ns) = codes " " ++ n ++ spaced ns
+
+abbrev pub names_line : NamesStop → List ℕ
+names_line (names.Twice name first second) =
+    codes "names twice " ++ name ++ place_text first ++ place_text second ++ codes "\n"
+names_line (names.Cycle classes) = codes "names cycle" ++ spaced classes.items ++ codes "\n"
 names_line (names.NoFile path) = codes "names no-file " ++ path ++ codes "\n"
 
 -- of a run that stopped

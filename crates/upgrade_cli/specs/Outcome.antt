@@ -5,7 +5,9 @@ use Rattle.io_ports.specs.Files as ports
 use Rattle.io_ports.specs.declared.report.Report.{Report}
 use Rattle.rule_tables.specs.SettingsView.{SettingsView}
 use Rattle.upgrade_core.specs.declared.fault.LimitFault.{LimitFault}
-use Rattle.upgrade_core.specs.Outcome.{IsClear, IsNamesFault}
+use Rattle.resolved_names.specs.declared.names_fault.NamesFault.{NamesFault}
+use Rattle.upgrade_core.specs.Names.{IsNamesFault}
+use Rattle.upgrade_core.specs.Outcome.{IsClear}
 use Rattle.report_handing.specs.Sinks.{Sinks, HandedAll, HandedSome, IsSameButAt}
 use Rattle.upgrade_core.specs.Files.{Trees}
 use Rattle.upgrade_core.specs.Trees.{AreRead, IsFirstUnread}
@@ -14,6 +16,7 @@ use Rattle.upgrade_cli.specs.declared.stop.Stop.{Stop}
 use Rattle.upgrade_cli.specs.declared.stop.Stop.TheVariants as stop
 use Rattle.upgrade_cli.specs.declared.stop.Summary.{Summary}
 use Rattle.upgrade_cli.specs.Ready.{first_limit, said}
+use Rattle.upgrade_cli.specs.Stops.{IsToldOf}
 use Rattle.upgrade_cli.specs.Writing.{put_all, IsCutOff, IsPrefix}
 
 -- ---- what was asked for
@@ -43,8 +46,8 @@ counts settings trees = record {
 abbrev pub ComesBy : SettingsView → List ports.File → Result Summary Stop → Type 0
 ComesBy settings files (Ok s) = (trees : Trees) × IsClear settings files trees × (s ≡ counts settings trees)
 ComesBy settings files (Err (stop.Source path)) = IsFirstUnread files path
-ComesBy settings files (Err (stop.Names fault)) =
-    (trees : Trees) × AreRead files trees × IsNamesFault settings files fault
+ComesBy settings files (Err (stop.Names told)) =
+    (trees : Trees) × AreRead files trees × ((fault : NamesFault) × IsNamesFault settings trees fault × IsToldOf trees fault told)
 ComesBy settings files (Err _) = ⊥
 
 -- by the first size that passes its limit, and what the settings file says

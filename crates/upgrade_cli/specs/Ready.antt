@@ -1,5 +1,34 @@
 -- What a run needs of the outside: its settings and its files, and what is refused of them.
-use Rattle.std.specs.Prelude.{◌≡◌, ◌≤◌, ◌<◌, ◌^◌, ◌+◌, ℕ, Bool, true, false, if◌then◌else◌, nat_lt, List, [], ◌∷◌, ◌++◌, length, map, take, drop, Option, Some, None, option_map, IfSome, Result, Ok, Err, Vec}
+use Rattle.std.specs.Prelude.{
+  ◌≡◌,
+  ◌≤◌,
+  ◌<◌,
+  ◌^◌,
+  ◌+◌,
+  ℕ,
+  Bool,
+  true,
+  false,
+  if◌then◌else◌,
+  nat_lt,
+  List,
+  [],
+  ◌∷◌,
+  ◌++◌,
+  length,
+  map,
+  take,
+  drop,
+  Option,
+  Some,
+  None,
+  option_map,
+  IfSome,
+  Result,
+  Ok,
+  Err,
+  Vec,
+}
 use Rattle.std.specs.declared.alloc.Global.{Global}
 use Rattle.io_ports.specs.Files as ports
 use Rattle.io_ports.specs.Files.{IsTree}

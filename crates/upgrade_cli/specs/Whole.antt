@@ -14,7 +14,7 @@ use Rattle.upgrade_cli.specs.declared.stop.Stop.{Stop}
 use Rattle.upgrade_cli.specs.declared.stop.Stop.TheVariants as stop
 use Rattle.upgrade_cli.specs.declared.stop.Summary.{Summary}
 use Rattle.upgrade_cli.specs.Outcome.{name_of, writes, IsOutcome, SinksLeft, TargetLeft}
-use Rattle.upgrade_cli.specs.Stops.{upgrade_stop}
+use Rattle.upgrade_cli.specs.Stops.{IsUpgradeStop}
 use Rattle.upgrade_cli.specs.Writing.{ArePut}
 pub use Rattle.upgrade_cli.specs.Run.{TargetCause}
 
@@ -32,7 +32,7 @@ abbrev pub IsUpgrading : SettingsView → List ports.File → Result Upgraded St
 IsUpgrading settings files (Ok u) old new =
     core.IsOutcome settings files (Ok u) × core.AreLeft settings files (Ok u) old new
 IsUpgrading settings files (Err stop) old new =
-    (fault : UpgradeFault) × (stop ≡ upgrade_stop fault)
+    (fault : UpgradeFault) × IsUpgradeStop files fault stop
     × core.IsOutcome settings files (Err fault) × core.AreLeft settings files (Err fault) old new
 
 -- a stop of the upgrade

@@ -4,6 +4,7 @@
 mod files;
 mod line;
 mod listing;
+mod names;
 mod ready;
 mod settings;
 mod stop;

@@ -1,11 +1,12 @@
 // The line of a run.
-ghost use Rattle.std.specs.Prelude.{◌≡◌, IfOk, string_bytes};
+ghost use Rattle.std.specs.Prelude.{◌≡◌, ◌++◌, IfOk, OnOk, string_bytes};
 ghost use Rattle.upgrade_cli.specs.Lines as spec;
 
-use crate::stop::{Stop, Summary};
+use crate::stop::{NamesStop, Stop, Summary};
+use io_ports::Bytes;
 use rule_tables::SettingsFault;
 use std::alloc::{AllocError, Global};
-use upgrade_core::{LimitFault, LimitKind, NamesFault};
+use upgrade_core::{LimitFault, LimitKind, Place};
 
 fn summary_line(alloc: Global, summary: &Summary) -> Result<String, AllocError>
     ensures { IfOk result (λ s. string_bytes s ≡ spec.summary_line summary.now) }
@@ -60,43 +61,88 @@ fn settings_line(alloc: Global, fault: &SettingsFault) -> Result<String, AllocEr
     }
 }
 
-fn names_line(alloc: Global, fault: &NamesFault) -> Result<String, AllocError>
-    ensures { IfOk result (λ s. string_bytes s ≡ spec.names_line fault.now) }
+// Puts a space and a place at the end of a line: a path, a colon, and the byte at which something begins.
+fn push_place(alloc: Global, line: &mut Vec<u8>, place: &Place) -> Result<(), AllocError>
+    ensures { OnOk result (line.new.items ≡ line.old.items ++ spec.place_text place.now) }
 {
-    match fault {
-        NamesFault::NoFile(path) => {
-            let path = path.as_str();
-            format!(in alloc; "names no-file {path}\n")
-        }
-    }
+    let path = place.path.as_str();
+    let start = place.start;
+    let text = format!(in alloc; " {path}:{start}")?;
+    line.extend_from_slice(text.as_str().as_bytes())
 }
 
-fn stop_line(alloc: Global, stop: &Stop) -> Result<String, AllocError>
-    ensures { IfOk result (λ s. string_bytes s ≡ spec.stop_line stop.now) }
+// Puts each of some names at the end of a line, behind a space.
+fn push_names(line: &mut Vec<u8>, names: &[Bytes]) -> Result<(), AllocError>
+    ensures { OnOk result (line.new.items ≡ line.old.items ++ spec.spaced names.now) }
+{
+    for name in names {
+        line.extend_from_slice(b" ")?;
+        line.extend_from_slice(name.as_slice())?;
+    }
+    Ok(())
+}
+
+fn names_line(alloc: Global, names: &NamesStop) -> Result<Vec<u8>, AllocError>
+    ensures { IfOk result (λ line. line.items ≡ spec.names_line names.now) }
+{
+    let mut line = Vec::new(alloc);
+    match names {
+        NamesStop::Twice {
+            name,
+            first,
+            second,
+        } => {
+            line.extend_from_slice(b"names twice ")?;
+            line.extend_from_slice(name.as_slice())?;
+            push_place(alloc, &mut line, first)?;
+            push_place(alloc, &mut line, second)?;
+        }
+        NamesStop::Cycle(classes) => {
+            line.extend_from_slice(b"names cycle")?;
+            push_names(&mut line, classes.as_slice())?;
+        }
+        NamesStop::NoFile(path) => {
+            line.extend_from_slice(b"names no-file ")?;
+            line.extend_from_slice(path.as_str().as_bytes())?;
+        }
+    }
+    line.extend_from_slice(b"\n")?;
+    Ok(line)
+}
+
+// The bytes of a text.
+fn bytes_of(alloc: Global, text: &str) -> Result<Vec<u8>, AllocError>
+    ensures { IfOk result (λ line. line.items ≡ text.now) }
+{
+    Vec::from_slice(alloc, text.as_bytes())
+}
+
+fn stop_line(alloc: Global, stop: &Stop) -> Result<Vec<u8>, AllocError>
+    ensures { IfOk result (λ line. line.items ≡ spec.stop_line stop.now) }
 {
     match stop {
-        Stop::Usage => String::from_str(alloc, "usage: upgrader upgrade, check, sample or serve\n"),
-        Stop::Limit(limit) => limit_line(alloc, limit),
-        Stop::NoSettings => String::from_str(alloc, "settings absent\n"),
-        Stop::Settings(fault) => settings_line(alloc, fault),
+        Stop::Usage => bytes_of(alloc, "usage: upgrader upgrade, check, sample or serve\n"),
+        Stop::Limit(limit) => bytes_of(alloc, limit_line(alloc, limit)?.as_str()),
+        Stop::NoSettings => bytes_of(alloc, "settings absent\n"),
+        Stop::Settings(fault) => bytes_of(alloc, settings_line(alloc, fault)?.as_str()),
         Stop::Source(path) => {
             let path = path.as_str();
-            format!(in alloc; "source {path}\n")
+            bytes_of(alloc, format!(in alloc; "source {path}\n")?.as_str())
         }
-        Stop::Names(fault) => names_line(alloc, fault),
-        Stop::SourceFault => String::from_str(alloc, "fault source\n"),
-        Stop::SinkFault => String::from_str(alloc, "fault sink\n"),
-        Stop::TargetFault => String::from_str(alloc, "fault target\n"),
-        Stop::Memory => Ok(String::new(alloc)),
+        Stop::Names(names) => names_line(alloc, names),
+        Stop::SourceFault => bytes_of(alloc, "fault source\n"),
+        Stop::SinkFault => bytes_of(alloc, "fault sink\n"),
+        Stop::TargetFault => bytes_of(alloc, "fault target\n"),
+        Stop::Memory => Ok(Vec::new(alloc)),
     }
 }
 
 /// The line of what a run came to, with its newline. The only error is want of memory.
-pub fn line_of(alloc: Global, came: &Result<Summary, Stop>) -> Result<String, AllocError>
-    ensures { IfOk result (λ s. string_bytes s ≡ spec.line came.now) }
+pub fn line_of(alloc: Global, came: &Result<Summary, Stop>) -> Result<Vec<u8>, AllocError>
+    ensures { IfOk result (λ line. line.items ≡ spec.line came.now) }
 {
     match came {
-        Ok(summary) => summary_line(alloc, summary),
+        Ok(summary) => bytes_of(alloc, summary_line(alloc, summary)?.as_str()),
         Err(stop) => stop_line(alloc, stop),
     }
 }

@@ -4,10 +4,10 @@ ghost use Rattle.upgrade_cli.specs.Run as spec;
 ghost use Rattle.upgrade_cli.specs.Stops as stops;
 
 use command_words::WordsFault;
-use io_ports::{PathText, PortFault};
+use io_ports::{Bytes, PathText, PortFault};
 use rule_tables::SettingsFault;
 use std::alloc::AllocError;
-use upgrade_core::{LimitFault, NamesFault, UpgradeFault};
+use upgrade_core::{LimitFault, Place};
 
 /// How a run ended.
 #[derive(Clone, Copy, Debug, PartialEq, Eq)]
@@ -49,6 +49,21 @@ pub fn status_number(status: Status) -> u8
     }
 }
 
+/// Why the names of a program are refused, with the places that are told.
+#[derive(Drop)]
+pub enum NamesStop {
+    /// One run would begin with two declarations of this function, class or constant.
+    Twice {
+        name: Bytes,
+        first: Place,
+        second: Place,
+    },
+    /// Each of these classes extends the next one, and the last one the first.
+    Cycle(Vec<Bytes>),
+    /// A file that the settings name isn't there.
+    NoFile(PathText),
+}
+
 /// Why a run stopped before its work was done.
 #[derive(Drop)]
 pub enum Stop {
@@ -63,7 +78,7 @@ pub enum Stop {
     /// The file of this path has no tree.
     Source(PathText),
     /// The names are refused.
-    Names(NamesFault),
+    Names(NamesStop),
     /// The source failed.
     SourceFault,
     /// A sink of reports failed.
@@ -162,18 +177,5 @@ pub fn settings_stop(fault: SettingsFault) -> Stop
     match fault {
         SettingsFault::Memory => Stop::Memory,
         other => Stop::Settings(other),
-    }
-}
-
-/// Why a run stops where the upgrade was refused.
-pub fn upgrade_stop(fault: UpgradeFault) -> Stop
-    ensures { result ≡ stops.upgrade_stop fault }
-{
-    match fault {
-        UpgradeFault::Source(path) => Stop::Source(path),
-        UpgradeFault::Names(names) => Stop::Names(names),
-        UpgradeFault::Limit(limit) => Stop::Limit(limit),
-        UpgradeFault::Sink(_) => Stop::SinkFault,
-        UpgradeFault::Memory => Stop::Memory,
     }
 }

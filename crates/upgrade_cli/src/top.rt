@@ -24,7 +24,7 @@ fn answer<O: Sink>(alloc: Global, out: &mut O, came: &Result<Summary, Stop>) -> 
     let Ok(line) = line_of(alloc, came) else {
         return Status::Memory;
     };
-    match out.put(line.as_str().as_bytes()) {
+    match out.put(line.as_slice()) {
         Ok(()) => status_of(came),
         Err(PortFault::Failed) => Status::Fault,
         Err(PortFault::Memory) => Status::Memory,

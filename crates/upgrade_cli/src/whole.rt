@@ -8,8 +8,9 @@ ghost use Rattle.upgrade_cli.specs.Outcome as spec;
 ghost use Rattle.upgrade_cli.specs.Run.{HaveCauses, Keeps, KeepsSinks, SinkCause};
 ghost use Rattle.upgrade_cli.specs.Whole as whole;
 
+use crate::names::upgrade_stop;
 use crate::ready::{Ready, read_all};
-use crate::stop::{Stop, Summary, upgrade_stop, words_stop};
+use crate::stop::{Stop, Summary, words_stop};
 use crate::writing::write_files;
 use command_words::{Command, read_words};
 use io_ports::{SourceTree, TargetTree};
@@ -60,7 +61,7 @@ fn upgrade_ready<S: Slot>(alloc: Global, ready: &Ready, sinks: &mut [S]) -> Resu
 {
     match upgrade_into(alloc, ready.files.as_slice(), &ready.settings, sinks) {
         Ok(upgraded) => Ok(upgraded),
-        Err(fault) => Err(upgrade_stop(fault)),
+        Err(fault) => Err(upgrade_stop(alloc, ready.files.as_slice(), fault)),
     }
 }
 

@@ -1,5 +1,37 @@
 -- Files upgraded one after another.
-use Rattle.std.proofs.Common.{◌≡◌, ◌<◌, ◌≤◌, ℕ, zero, suc, ◌+◌, ◌*◌, ◌^◌, Bool, true, false, cond, List, [], ◌∷◌, ◌++◌, length, map, get_or, take, count_by, sum_by, refl, ap, ap₂, sym, ◌∙◌, subst, arith, append_assoc}
+use Rattle.std.proofs.Common.{
+  ◌≡◌,
+  ◌<◌,
+  ◌≤◌,
+  ℕ,
+  zero,
+  suc,
+  ◌+◌,
+  ◌*◌,
+  ◌^◌,
+  Bool,
+  true,
+  false,
+  cond,
+  List,
+  [],
+  ◌∷◌,
+  ◌++◌,
+  length,
+  map,
+  get_or,
+  take,
+  count_by,
+  sum_by,
+  refl,
+  ap,
+  ap₂,
+  sym,
+  ◌∙◌,
+  subst,
+  arith,
+  append_assoc,
+}
 use Rattle.std.specs.List.Sorted.{IsNonDecreasingBy, IsPermutation}
 use Rattle.std.proofs.lemmas.List.{append-nil, length-append, map-append}
 use Rattle.std.proofs.lemmas.List.Recursion.{is_count_by}
@@ -15,7 +47,21 @@ use Rattle.syntax_upgrade.specs.declared.whole.Upgrade.{Upgrade}
 use Rattle.syntax_upgrade.specs.Found as found
 use Rattle.upgrade_core.specs.declared.upgraded.Upgraded.{Upgraded}
 use Rattle.upgrade_core.specs.Files.{file_of, Trees}
-use Rattle.upgrade_core.specs.Upgrade.{rewritten, edits, reports, order_of, stops, AreOf, IsReportOf, AreReportsOf, AreReported, written, edits_in_all, reports_in_all, stops_in_all}
+use Rattle.upgrade_core.specs.Upgrade.{
+  rewritten,
+  edits,
+  reports,
+  order_of,
+  stops,
+  AreOf,
+  IsReportOf,
+  AreReportsOf,
+  AreReported,
+  written,
+  edits_in_all,
+  reports_in_all,
+  stops_in_all,
+}
 use Rattle.upgrade_core.specs.Made.{AreAdded, IsOfTree, IsNothing, IsAdded, IsOf}
 
 -- ---- reports in order

@@ -12,8 +12,11 @@ use Rattle.upgrade_core.specs.declared.fault.LimitKind.TheVariants as kind
 use Rattle.upgrade_core.specs.declared.fault.UpgradeFault.{UpgradeFault}
 use Rattle.upgrade_core.specs.declared.fault.UpgradeFault.TheVariants as fault
 use Rattle.upgrade_core.specs.declared.upgraded.Upgraded.{Upgraded}
+use Rattle.upgrade_core.specs.Files.{Trees}
 use Rattle.upgrade_core.specs.Limits.{limit, limit_of, bytes_limit}
+use Rattle.upgrade_core.specs.Named.{IsPlanOf}
 use Rattle.upgrade_core.specs.Rows.{IsReadFault}
+use Rattle.upgrade_core.specs.Trees.{AreRead}
 use Rattle.upgrade_core.specs.Outcome.{IsPlan, IsOutcome, IsRefused, AreLeft, Keeps, ArePlanned, sink_fault}
 
 -- few files are limited by their bytes alone
@@ -32,6 +35,16 @@ read_refused settings files (fault.Names n) e h = absurd h
 read_refused settings files (fault.Limit l) e h = absurd h
 read_refused settings files (fault.Sink at) e h = absurd h
 read_refused settings files fault.Memory e h = tt
+
+-- what is made of the trees of files within the limits
+pub plan_of : (settings : SettingsView) (files : List ports.File) (trees : Trees) (r : Result Upgraded UpgradeFault)
+    → limit_of files ≡ None → AreRead files trees → IsPlanOf settings trees r → IsPlan settings files r
+plan_of settings files trees (Ok u) e read h = (trees, record { limits = e; read = read; names = h.0 }, h.1)
+plan_of settings files trees (Err (fault.Source path)) e read h = absurd h
+plan_of settings files trees (Err (fault.Names n)) e read h = (e, trees, read, h)
+plan_of settings files trees (Err (fault.Limit l)) e read h = absurd h
+plan_of settings files trees (Err (fault.Sink at)) e read h = absurd h
+plan_of settings files trees (Err fault.Memory) e read h = tt
 
 -- what comes before any sink is called
 pub planned : (settings : SettingsView) (files : List ports.File) (r : Result Upgraded UpgradeFault) → IsPlan settings files r

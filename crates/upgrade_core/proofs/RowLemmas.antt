@@ -1,5 +1,35 @@
 -- Rows of files, read one after another.
-use Rattle.std.proofs.Common.{◌≡◌, ◌<◌, ◌≤◌, ℕ, zero, suc, ◌+◌, List, [], ◌∷◌, ◌++◌, length, map, get_or, take, drop, refl, inl, inr, ap, sym, ◌∙◌, subst, arith, Bool, true, false, if◌then◌else◌, nat_lt}
+use Rattle.std.proofs.Common.{
+  ◌≡◌,
+  ◌<◌,
+  ◌≤◌,
+  ℕ,
+  zero,
+  suc,
+  ◌+◌,
+  List,
+  [],
+  ◌∷◌,
+  ◌++◌,
+  length,
+  map,
+  get_or,
+  take,
+  drop,
+  refl,
+  inl,
+  inr,
+  ap,
+  sym,
+  ◌∙◌,
+  subst,
+  arith,
+  Bool,
+  true,
+  false,
+  if◌then◌else◌,
+  nat_lt,
+}
 use Rattle.std.specs.Prelude.{Err, None}
 use Rattle.std.proofs.lemmas.Bool.{ltb-false}
 use Rattle.upgrade_core.specs.declared.fault.LimitKind.TheVariants as kind
@@ -104,7 +134,7 @@ rows_all files i rows all h = subst (λ (fs : List SourceFile). AreRows (map fil
 -- ---- within the limits
 
 -- a file of files within them is, and so are those behind it
-first_within : (sum : ℕ) (f : ports.File) (fs : List ports.File) → bytes_limit sum (f ∷ fs) ≡ None
+pub first_within : (sum : ℕ) (f : ports.File) (fs : List ports.File) → bytes_limit sum (f ∷ fs) ≡ None
     → (length f.1 ≤ 1048576) × (bytes_limit (sum + length f.1) fs ≡ None)
 first_within sum f fs e = by (nat_lt 1048576 (length f.1)) (nat_lt 4194304 (sum + length f.1)) refl e
   where

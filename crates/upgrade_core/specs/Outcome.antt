@@ -1,13 +1,10 @@
 -- What an upgrade answers, and what stands in the sinks after it.
-use Rattle.std.specs.Prelude.{◌≡◌, ◌⊎◌, ℕ, List, find, if◌then◌else◌, Option, Some, None, Result, Ok, Err, is_none}
+use Rattle.std.specs.Prelude.{◌≡◌, ◌⊎◌, ℕ, List, Some, None, Result, Ok, Err}
 use Rattle.io_ports.specs.Files as ports
-use Rattle.io_ports.specs.Files.{content}
 use Rattle.io_ports.specs.declared.fault.PortFault.{PortFault}
 use Rattle.io_ports.specs.declared.fault.PortFault.TheVariants as port
 use Rattle.io_ports.specs.declared.report.Report.{Report}
 use Rattle.rule_tables.specs.SettingsView.{SettingsView}
-use Rattle.upgrade_core.specs.declared.fault.NamesFault.{NamesFault}
-use Rattle.upgrade_core.specs.declared.fault.NamesFault.TheVariants as names
 use Rattle.upgrade_core.specs.declared.fault.UpgradeFault.{UpgradeFault}
 use Rattle.upgrade_core.specs.declared.fault.UpgradeFault.TheVariants as fault
 use Rattle.upgrade_core.specs.declared.upgraded.Upgraded.{Upgraded}
@@ -15,34 +12,9 @@ use Rattle.upgrade_core.specs.Limits.{limit_of}
 use Rattle.upgrade_core.specs.Made.{IsOf}
 use Rattle.report_handing.specs.Sinks.{Sinks, HandedAll, HandedSome, IsSameButAt}
 use Rattle.upgrade_core.specs.Files.{Trees}
+use Rattle.upgrade_core.specs.Names.{IsNamesFault, AreResolved}
 use Rattle.upgrade_core.specs.Trees.{AreRead, IsFirstUnread}
 use Rattle.upgrade_core.specs.Upgrade.{AreReported}
-
--- ---- files that the settings name and that aren't there
-
--- the first of some paths that is no file's
-abbrev pub first_absent : List (List ℕ) → List ports.File → Option (List ℕ)
-first_absent paths files = find (λ path. is_none (content path files)) paths
-
-abbrev pub absent_entry : SettingsView → List ports.File → Option (List ℕ)
-absent_entry settings files = elim settings.entries [ None ↦ None | Some paths ↦ first_absent paths files ]
-
-abbrev pub absent_prepend : SettingsView → List ports.File → Option (List ℕ)
-absent_prepend settings files = elim settings.prepend [
-  | None ↦ None
-  | Some path ↦ if is_none (content path files) then Some path else None
-]
-
--- the first entry, and then the file that each run starts with
-abbrev pub absent : SettingsView → List ports.File → Option (List ℕ)
-absent settings files = elim (absent_entry settings files) [
-  | Some path ↦ Some path
-  | None ↦ absent_prepend settings files
-]
-
--- the names of the program are refused
-abbrev pub IsNamesFault : SettingsView → List ports.File → NamesFault → Type 0
-IsNamesFault settings files (names.NoFile path) = absent settings files ≡ Some path
 
 -- ---- the answer
 
@@ -50,14 +22,14 @@ IsNamesFault settings files (names.NoFile path) = absent settings files ≡ Some
 pub record IsClear (settings : SettingsView) (files : List ports.File) (trees : Trees) : Type 0 where
   pub limits : limit_of files ≡ None
   pub read : AreRead files trees
-  pub names : absent settings files ≡ None
+  pub names : AreResolved settings trees
 
 -- Each refusal comes only where it should: the limits are asked before the trees, and these before the names.
 abbrev pub IsRefused : SettingsView → List ports.File → UpgradeFault → Type 0
 IsRefused settings files (fault.Limit l) = limit_of files ≡ Some l
 IsRefused settings files (fault.Source path) = (limit_of files ≡ None) × IsFirstUnread files path
 IsRefused settings files (fault.Names n) =
-    (limit_of files ≡ None) × (trees : Trees) × AreRead files trees × IsNamesFault settings files n
+    (limit_of files ≡ None) × (trees : Trees) × AreRead files trees × IsNamesFault settings trees n
 IsRefused settings files (fault.Sink at) = (trees : Trees) × IsClear settings files trees
 IsRefused settings files fault.Memory = Unit {0}
 

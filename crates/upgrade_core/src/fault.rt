@@ -1,5 +1,6 @@
 // Why an upgrade is refused.
 use io_ports::PathText;
+use resolved_names::NamesFault;
 use std::alloc::AllocError;
 use thiserror::Error;
 
@@ -28,22 +29,13 @@ pub struct LimitFault {
     pub number: u64,
 }
 
-/// Why the names of a program are refused.
-#[derive(Debug, Drop, Error)]
-pub enum NamesFault {
-    /// A file that the settings name isn't there: the first of the entries in their order, or else the one that
-    /// each run starts with.
-    #[error("no file {}", .0.as_str())]
-    NoFile(PathText),
-}
-
 /// Why an upgrade is refused.
 #[derive(Debug, Drop, Error)]
 pub enum UpgradeFault {
     /// 7.4 reads no tree in the file of this path, the first such.
     #[error("no tree in {}", .0.as_str())]
     Source(PathText),
-    /// The names are refused.
+    /// The names are refused, and never for want of memory.
     #[error("the names are refused")]
     Names(NamesFault),
     /// A size passes its limit.

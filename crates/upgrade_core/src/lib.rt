@@ -4,15 +4,18 @@
 mod fault;
 mod file;
 mod limits;
-mod named;
+mod names;
+mod place;
 mod reading;
 mod reporting;
 mod upgraded;
 mod whole;
 
-pub use fault::{LimitFault, LimitKind, NamesFault, UpgradeFault};
+pub use fault::{LimitFault, LimitKind, UpgradeFault};
 pub use file::SourceFile;
 pub use limits::{MAX_ALL_BYTES, MAX_FILE_BYTES, MAX_FILES, limit_of};
+pub use place::{Place, place_of};
 pub use report_handing::Slot;
+pub use resolved_names::{NamesFault, NodeRef};
 pub use upgraded::Upgraded;
 pub use whole::{upgrade, upgrade_into};

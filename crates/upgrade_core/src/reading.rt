@@ -29,7 +29,7 @@ fn refused(fault: ReadFault) -> Result<(), AllocError>
 }
 
 // The tree that 7.4 reads in the bytes of a file; none exactly where it reads none.
-fn tree_of(alloc: Global, bytes: Vec<u8>) -> Result<Option<RowTree>, AllocError>
+pub(crate) fn tree_of(alloc: Global, bytes: Vec<u8>) -> Result<Option<RowTree>, AllocError>
     requires { length bytes.items ≤ MAX_FILE_BYTES }
     ensures { IfOk result (λ r. spec.MayBeRead bytes.items r) }
 {

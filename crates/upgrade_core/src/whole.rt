@@ -1,15 +1,15 @@
 // The whole upgrade.
-ghost use Rattle.std.specs.Prelude.{◌≡◌, ◌<◌, ◌^◌, length, map, None};
-ghost use Rattle.upgrade_core.specs.Limits.{limit_of};
-ghost use Rattle.upgrade_core.specs.Rows.{AreRows};
+ghost use Rattle.std.specs.Prelude.{◌≡◌, ◌<◌, ◌^◌, length, map};
+ghost use Rattle.upgrade_core.specs.Named as named;
+ghost use Rattle.upgrade_core.specs.Rows.{AreAllRead, trees_of};
 ghost use Rattle.upgrade_core.specs.Files.{file_of};
 ghost use Rattle.upgrade_core.specs.Outcome as spec;
 ghost use Rattle.report_handing.specs.Sinks.{AllOpen, sinks_by};
 
-use crate::fault::{NamesFault, UpgradeFault};
+use crate::fault::UpgradeFault;
 use crate::file::SourceFile;
 use crate::limits::limit_of;
-use crate::named::absent;
+use crate::names::{program_of, resolve};
 use crate::reading::read_files;
 use crate::upgraded::{Upgraded, upgrade_rows};
 use io_ports::{PathText, PortFault, ReportSink};
@@ -21,20 +21,17 @@ use std::alloc::Global;
 // All behind the reading.
 fn upgrade_named(
     alloc: Global,
-    files: &[SourceFile],
-    rows: &[(PathText, RowTree)],
+    rows: Vec<(PathText, RowTree)>,
     settings: &Settings,
 ) -> Result<Upgraded, UpgradeFault>
-    requires limits { limit_of (map file_of files.now) ≡ None }
-    requires read { AreRows (map file_of files.now) rows.now }
-    ensures { spec.IsPlan settings.now (map file_of files.now) result }
+    requires { AreAllRead rows.items }
+    ensures { named.IsPlanOf settings.now (trees_of rows.items) result }
 {
-    if let Some(path) = absent(files, settings) {
-        let path = path.copy(alloc)?;
-        return Err(UpgradeFault::Names(NamesFault::NoFile(path)));
+    let program = program_of(rows)?;
+    match resolve(alloc, &program, settings) {
+        Ok(()) => Ok(upgrade_rows(alloc, program.files(), settings)?),
+        Err(fault) => Err(fault),
     }
-    let upgraded = upgrade_rows(alloc, rows, settings)?;
-    Ok(upgraded)
 }
 
 // All but the sinks.
@@ -49,7 +46,7 @@ fn upgrade_files(
         return Err(UpgradeFault::Limit(limit));
     }
     match read_files(alloc, files) {
-        Ok(rows) => upgrade_named(alloc, files, rows.as_slice(), settings),
+        Ok(rows) => upgrade_named(alloc, rows, settings),
         Err(fault) => Err(fault),
     }
 }
@@ -91,8 +88,10 @@ pub fn upgrade_into<S: Slot>(
 ///
 /// `Limit` comes exactly where a size passes its limit, the first of these: the number of files, and then, file by
 /// file, its own bytes and the bytes so far. Then `Source` comes exactly where 7.4 reads no tree in some file, the
-/// first such; then `Names` exactly where the names are refused. `Sink` comes only where the count of faults of the
-/// sink at this position rose in this call. No other refusal calls a sink.
+/// first such; then `Names` exactly where a file that the settings name isn't there, a run would begin with two
+/// declarations of one name, or classes extend one another in a cycle. `Sink` comes only where the count of faults of
+/// the sink at this position rose in this call. No other refusal calls a sink. Files whose paths don't ascend strictly
+/// are answered as where no memory is at hand.
 pub fn upgrade(
     alloc: Global,
     files: &[SourceFile],

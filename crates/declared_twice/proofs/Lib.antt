@@ -1,0 +1,10 @@
+pub mod AskedLemmas
+pub mod AskingLemmas
+pub mod ClashLemmas
+pub mod ClashRows
+pub mod EntryLemmas
+pub mod LaterLemmas
+pub mod MarkedLemmas
+pub mod MetLemmas
+pub mod NextLemmas
+pub mod RunLemmas

@@ -1,0 +1,511 @@
+-- What a node tells, opens and passes on, kind by kind.
+use Rattle.std.specs.Prelude.{codes}
+use Rattle.std.proofs.Common.{◌≡◌, ℕ, Bool, true, false, List, ◌++◌, refl, ap, ◌∙◌}
+use Rattle.php_tree.specs.declared.kind.NodeKind.{NodeKind}
+use Rattle.php_tree.specs.declared.kind.NodeKind.TheVariants as kind
+use Rattle.php_tree.specs.Tree.{Forest, node}
+use Rattle.scope_names.specs.Form.{Form, form, texts}
+use Rattle.scope_names.specs.Imports.{Import, imports}
+use Rattle.scope_names.specs.Sites.{Site, names_within, names_beside}
+use Rattle.scope_names.specs.Words.{has_word}
+use Rattle.node_names.specs.Uses.{uses}
+use Rattle.node_names.specs.Slots.{Standing, closure_within, kid_variables}
+use Rattle.node_facts.specs.Named.{named_at}
+use Rattle.node_facts.specs.UseRoles.{use_role, uses_by}
+use Rattle.node_facts.specs.Standing.{closure_by}
+use Rattle.node_facts.specs.Dispatch.{asks_form, form_if, literal_of, named_by}
+
+-- a node is read by its form where that is asked for
+pub named_is : (k : NodeKind) (c : Forest) (p : Standing) → named_by k (form_if (asks_form k) (form c)) c p ≡ named_at k c p
+named_is kind.Block c p = refl
+named_is kind.Empty c p = refl
+named_is kind.ExprStmt c p = refl
+named_is kind.Echo c p = refl
+named_is kind.Html c p = refl
+named_is kind.Return c p = refl
+named_is kind.If c p = refl
+named_is kind.IfAlt c p = refl
+named_is kind.While c p = refl
+named_is kind.DoWhile c p = refl
+named_is kind.For c p = refl
+named_is kind.Foreach c p = refl
+named_is kind.Switch c p = refl
+named_is kind.Case c p = refl
+named_is kind.Break c p = refl
+named_is kind.Continue c p = refl
+named_is kind.Global c p = refl
+named_is kind.Statics c p = refl
+named_is kind.Unset c p = refl
+named_is kind.Throw c p = refl
+named_is kind.Try c p = refl
+named_is kind.Function c p = refl
+named_is kind.Param c p = refl
+named_is kind.TypeName c p = refl
+named_is kind.Class c p = refl
+named_is kind.Interface c p = refl
+named_is kind.Trait c p = refl
+named_is kind.Property c p = refl
+named_is kind.ClassConst c p = refl
+named_is kind.Method c p = refl
+named_is kind.TraitUse c p = refl
+named_is kind.Const c p = refl
+named_is kind.Namespace c p = refl
+named_is kind.Use c p = refl
+named_is kind.Declare c p = refl
+named_is kind.Goto c p = refl
+named_is kind.LabelStmt c p = refl
+named_is kind.Variable c p = refl
+named_is kind.Number c p = refl
+named_is kind.Float c p = refl
+named_is kind.Text c p = refl
+named_is kind.Quoted c p = refl
+named_is kind.Constant c p = refl
+named_is kind.ClassConstant c p = refl
+named_is kind.Array c p = refl
+named_is kind.Item c p = refl
+named_is kind.List c p = refl
+named_is kind.Paren c p = refl
+named_is kind.Offset c p = refl
+named_is kind.BraceOffset c p = refl
+named_is kind.Prop c p = refl
+named_is kind.StaticProp c p = refl
+named_is kind.Call c p = refl
+named_is kind.MethodCall c p = refl
+named_is kind.StaticCall c p = refl
+named_is kind.Args c p = refl
+named_is kind.New c p = refl
+named_is kind.Isset c p = refl
+named_is kind.EmptyTest c p = refl
+named_is kind.Exit c p = refl
+named_is kind.Closure c p = refl
+named_is kind.Arrow c p = refl
+named_is kind.Include c p = refl
+named_is kind.EvalTest c p = refl
+named_is kind.Binary c p = refl
+named_is kind.Prefix c p = refl
+named_is kind.Postfix c p = refl
+named_is kind.Cast c p = refl
+named_is kind.Ternary c p = refl
+named_is kind.ShortTernary c p = refl
+named_is kind.Assign c p = refl
+named_is kind.AssignRef c p = refl
+named_is kind.CompoundAssign c p = refl
+named_is kind.InstanceOf c p = refl
+named_is kind.Print c p = refl
+named_is kind.Yield c p = refl
+
+-- what it opens too
+pub within_is : (k : NodeKind) (f : Form) (s : Site) → names_within k (form_if (asks_form k) f) s ≡ names_within k f s
+within_is kind.Block f s = refl
+within_is kind.Empty f s = refl
+within_is kind.ExprStmt f s = refl
+within_is kind.Echo f s = refl
+within_is kind.Html f s = refl
+within_is kind.Return f s = refl
+within_is kind.If f s = refl
+within_is kind.IfAlt f s = refl
+within_is kind.While f s = refl
+within_is kind.DoWhile f s = refl
+within_is kind.For f s = refl
+within_is kind.Foreach f s = refl
+within_is kind.Switch f s = refl
+within_is kind.Case f s = refl
+within_is kind.Break f s = refl
+within_is kind.Continue f s = refl
+within_is kind.Global f s = refl
+within_is kind.Statics f s = refl
+within_is kind.Unset f s = refl
+within_is kind.Throw f s = refl
+within_is kind.Try f s = refl
+within_is kind.Function f s = refl
+within_is kind.Param f s = refl
+within_is kind.TypeName f s = refl
+within_is kind.Class f s = refl
+within_is kind.Interface f s = refl
+within_is kind.Trait f s = refl
+within_is kind.Property f s = refl
+within_is kind.ClassConst f s = refl
+within_is kind.Method f s = refl
+within_is kind.TraitUse f s = refl
+within_is kind.Const f s = refl
+within_is kind.Namespace f s = refl
+within_is kind.Use f s = refl
+within_is kind.Declare f s = refl
+within_is kind.Goto f s = refl
+within_is kind.LabelStmt f s = refl
+within_is kind.Variable f s = refl
+within_is kind.Number f s = refl
+within_is kind.Float f s = refl
+within_is kind.Text f s = refl
+within_is kind.Quoted f s = refl
+within_is kind.Constant f s = refl
+within_is kind.ClassConstant f s = refl
+within_is kind.Array f s = refl
+within_is kind.Item f s = refl
+within_is kind.List f s = refl
+within_is kind.Paren f s = refl
+within_is kind.Offset f s = refl
+within_is kind.BraceOffset f s = refl
+within_is kind.Prop f s = refl
+within_is kind.StaticProp f s = refl
+within_is kind.Call f s = refl
+within_is kind.MethodCall f s = refl
+within_is kind.StaticCall f s = refl
+within_is kind.Args f s = refl
+within_is kind.New f s = refl
+within_is kind.Isset f s = refl
+within_is kind.EmptyTest f s = refl
+within_is kind.Exit f s = refl
+within_is kind.Closure f s = refl
+within_is kind.Arrow f s = refl
+within_is kind.Include f s = refl
+within_is kind.EvalTest f s = refl
+within_is kind.Binary f s = refl
+within_is kind.Prefix f s = refl
+within_is kind.Postfix f s = refl
+within_is kind.Cast f s = refl
+within_is kind.Ternary f s = refl
+within_is kind.ShortTernary f s = refl
+within_is kind.Assign f s = refl
+within_is kind.AssignRef f s = refl
+within_is kind.CompoundAssign f s = refl
+within_is kind.InstanceOf f s = refl
+within_is kind.Print f s = refl
+within_is kind.Yield f s = refl
+
+-- the variables among the nodes
+pub kids_are : (k : NodeKind) (c f : Forest) → kid_variables (node k c f) ≡ literal_of k c ++ kid_variables f
+kids_are kind.Block c f = refl
+kids_are kind.Empty c f = refl
+kids_are kind.ExprStmt c f = refl
+kids_are kind.Echo c f = refl
+kids_are kind.Html c f = refl
+kids_are kind.Return c f = refl
+kids_are kind.If c f = refl
+kids_are kind.IfAlt c f = refl
+kids_are kind.While c f = refl
+kids_are kind.DoWhile c f = refl
+kids_are kind.For c f = refl
+kids_are kind.Foreach c f = refl
+kids_are kind.Switch c f = refl
+kids_are kind.Case c f = refl
+kids_are kind.Break c f = refl
+kids_are kind.Continue c f = refl
+kids_are kind.Global c f = refl
+kids_are kind.Statics c f = refl
+kids_are kind.Unset c f = refl
+kids_are kind.Throw c f = refl
+kids_are kind.Try c f = refl
+kids_are kind.Function c f = refl
+kids_are kind.Param c f = refl
+kids_are kind.TypeName c f = refl
+kids_are kind.Class c f = refl
+kids_are kind.Interface c f = refl
+kids_are kind.Trait c f = refl
+kids_are kind.Property c f = refl
+kids_are kind.ClassConst c f = refl
+kids_are kind.Method c f = refl
+kids_are kind.TraitUse c f = refl
+kids_are kind.Const c f = refl
+kids_are kind.Namespace c f = refl
+kids_are kind.Use c f = refl
+kids_are kind.Declare c f = refl
+kids_are kind.Goto c f = refl
+kids_are kind.LabelStmt c f = refl
+kids_are kind.Variable c f = refl
+kids_are kind.Number c f = refl
+kids_are kind.Float c f = refl
+kids_are kind.Text c f = refl
+kids_are kind.Quoted c f = refl
+kids_are kind.Constant c f = refl
+kids_are kind.ClassConstant c f = refl
+kids_are kind.Array c f = refl
+kids_are kind.Item c f = refl
+kids_are kind.List c f = refl
+kids_are kind.Paren c f = refl
+kids_are kind.Offset c f = refl
+kids_are kind.BraceOffset c f = refl
+kids_are kind.Prop c f = refl
+kids_are kind.StaticProp c f = refl
+kids_are kind.Call c f = refl
+kids_are kind.MethodCall c f = refl
+kids_are kind.StaticCall c f = refl
+kids_are kind.Args c f = refl
+kids_are kind.New c f = refl
+kids_are kind.Isset c f = refl
+kids_are kind.EmptyTest c f = refl
+kids_are kind.Exit c f = refl
+kids_are kind.Closure c f = refl
+kids_are kind.Arrow c f = refl
+kids_are kind.Include c f = refl
+kids_are kind.EvalTest c f = refl
+kids_are kind.Binary c f = refl
+kids_are kind.Prefix c f = refl
+kids_are kind.Postfix c f = refl
+kids_are kind.Cast c f = refl
+kids_are kind.Ternary c f = refl
+kids_are kind.ShortTernary c f = refl
+kids_are kind.Assign c f = refl
+kids_are kind.AssignRef c f = refl
+kids_are kind.CompoundAssign c f = refl
+kids_are kind.InstanceOf c f = refl
+kids_are kind.Print c f = refl
+kids_are kind.Yield c f = refl
+
+-- the same site with another namespace and other imports
+abbrev pub with_names : Site → List ℕ → List Import → Site
+with_names s space is = record s { space = space; imports = is }
+
+-- the same site with what another has of a file's names
+abbrev pub named_as : Site → Site → Site
+named_as s t = with_names s t.space t.imports
+
+space_named_as : (b : Bool) (f : Form) (s t : Site) → s.space ≡ t.space → s.imports ≡ t.imports → has_word (codes "{") (texts f) ≡ b →
+    names_beside kind.Namespace f s ≡ named_as s (names_beside kind.Namespace f t)
+space_named_as true f s t e i h = rw h (ap (λ (sp : List ℕ). with_names s sp s.imports) e ∙ ap (λ (is : List Import). with_names s t.space is) i)
+space_named_as false f s t e i h = rw h refl
+
+use_named_as : (is : List Import) (s t : Site) → s.space ≡ t.space → s.imports ≡ t.imports →
+    with_names s s.space (is ++ s.imports) ≡ with_names s t.space (is ++ t.imports)
+use_named_as is s t e i = ap (λ (sp : List ℕ). with_names s sp (is ++ s.imports)) e ∙ ap (λ (js : List Import). with_names s t.space (is ++ js)) i
+
+same_named_as : (s t : Site) → s.space ≡ t.space → s.imports ≡ t.imports → s ≡ named_as s t
+same_named_as s t e i = ap (λ (sp : List ℕ). with_names s sp s.imports) e ∙ ap (λ (is : List Import). with_names s t.space is) i
+
+-- behind a node, of where code stands only the namespace and the imports change
+pub beside_named : (k : NodeKind) (f : Form) (s t : Site) → s.space ≡ t.space → s.imports ≡ t.imports →
+    names_beside k f s ≡ named_as s (names_beside k f t)
+beside_named kind.Block f s t e i = same_named_as s t e i
+beside_named kind.Empty f s t e i = same_named_as s t e i
+beside_named kind.ExprStmt f s t e i = same_named_as s t e i
+beside_named kind.Echo f s t e i = same_named_as s t e i
+beside_named kind.Html f s t e i = same_named_as s t e i
+beside_named kind.Return f s t e i = same_named_as s t e i
+beside_named kind.If f s t e i = same_named_as s t e i
+beside_named kind.IfAlt f s t e i = same_named_as s t e i
+beside_named kind.While f s t e i = same_named_as s t e i
+beside_named kind.DoWhile f s t e i = same_named_as s t e i
+beside_named kind.For f s t e i = same_named_as s t e i
+beside_named kind.Foreach f s t e i = same_named_as s t e i
+beside_named kind.Switch f s t e i = same_named_as s t e i
+beside_named kind.Case f s t e i = same_named_as s t e i
+beside_named kind.Break f s t e i = same_named_as s t e i
+beside_named kind.Continue f s t e i = same_named_as s t e i
+beside_named kind.Global f s t e i = same_named_as s t e i
+beside_named kind.Statics f s t e i = same_named_as s t e i
+beside_named kind.Unset f s t e i = same_named_as s t e i
+beside_named kind.Throw f s t e i = same_named_as s t e i
+beside_named kind.Try f s t e i = same_named_as s t e i
+beside_named kind.Function f s t e i = same_named_as s t e i
+beside_named kind.Param f s t e i = same_named_as s t e i
+beside_named kind.TypeName f s t e i = same_named_as s t e i
+beside_named kind.Class f s t e i = same_named_as s t e i
+beside_named kind.Interface f s t e i = same_named_as s t e i
+beside_named kind.Trait f s t e i = same_named_as s t e i
+beside_named kind.Property f s t e i = same_named_as s t e i
+beside_named kind.ClassConst f s t e i = same_named_as s t e i
+beside_named kind.Method f s t e i = same_named_as s t e i
+beside_named kind.TraitUse f s t e i = same_named_as s t e i
+beside_named kind.Const f s t e i = same_named_as s t e i
+beside_named kind.Namespace f s t e i = space_named_as (has_word (codes "{") (texts f)) f s t e i refl
+beside_named kind.Use f s t e i = use_named_as (imports (texts f)) s t e i
+beside_named kind.Declare f s t e i = same_named_as s t e i
+beside_named kind.Goto f s t e i = same_named_as s t e i
+beside_named kind.LabelStmt f s t e i = same_named_as s t e i
+beside_named kind.Variable f s t e i = same_named_as s t e i
+beside_named kind.Number f s t e i = same_named_as s t e i
+beside_named kind.Float f s t e i = same_named_as s t e i
+beside_named kind.Text f s t e i = same_named_as s t e i
+beside_named kind.Quoted f s t e i = same_named_as s t e i
+beside_named kind.Constant f s t e i = same_named_as s t e i
+beside_named kind.ClassConstant f s t e i = same_named_as s t e i
+beside_named kind.Array f s t e i = same_named_as s t e i
+beside_named kind.Item f s t e i = same_named_as s t e i
+beside_named kind.List f s t e i = same_named_as s t e i
+beside_named kind.Paren f s t e i = same_named_as s t e i
+beside_named kind.Offset f s t e i = same_named_as s t e i
+beside_named kind.BraceOffset f s t e i = same_named_as s t e i
+beside_named kind.Prop f s t e i = same_named_as s t e i
+beside_named kind.StaticProp f s t e i = same_named_as s t e i
+beside_named kind.Call f s t e i = same_named_as s t e i
+beside_named kind.MethodCall f s t e i = same_named_as s t e i
+beside_named kind.StaticCall f s t e i = same_named_as s t e i
+beside_named kind.Args f s t e i = same_named_as s t e i
+beside_named kind.New f s t e i = same_named_as s t e i
+beside_named kind.Isset f s t e i = same_named_as s t e i
+beside_named kind.EmptyTest f s t e i = same_named_as s t e i
+beside_named kind.Exit f s t e i = same_named_as s t e i
+beside_named kind.Closure f s t e i = same_named_as s t e i
+beside_named kind.Arrow f s t e i = same_named_as s t e i
+beside_named kind.Include f s t e i = same_named_as s t e i
+beside_named kind.EvalTest f s t e i = same_named_as s t e i
+beside_named kind.Binary f s t e i = same_named_as s t e i
+beside_named kind.Prefix f s t e i = same_named_as s t e i
+beside_named kind.Postfix f s t e i = same_named_as s t e i
+beside_named kind.Cast f s t e i = same_named_as s t e i
+beside_named kind.Ternary f s t e i = same_named_as s t e i
+beside_named kind.ShortTernary f s t e i = same_named_as s t e i
+beside_named kind.Assign f s t e i = same_named_as s t e i
+beside_named kind.AssignRef f s t e i = same_named_as s t e i
+beside_named kind.CompoundAssign f s t e i = same_named_as s t e i
+beside_named kind.InstanceOf f s t e i = same_named_as s t e i
+beside_named kind.Print f s t e i = same_named_as s t e i
+beside_named kind.Yield f s t e i = same_named_as s t e i
+
+-- the innermost closure inside a node
+pub closure_is : (k : NodeKind) (p : Standing) → closure_within k p ≡ closure_by k p.closure p.next
+closure_is kind.Block p = refl
+closure_is kind.Empty p = refl
+closure_is kind.ExprStmt p = refl
+closure_is kind.Echo p = refl
+closure_is kind.Html p = refl
+closure_is kind.Return p = refl
+closure_is kind.If p = refl
+closure_is kind.IfAlt p = refl
+closure_is kind.While p = refl
+closure_is kind.DoWhile p = refl
+closure_is kind.For p = refl
+closure_is kind.Foreach p = refl
+closure_is kind.Switch p = refl
+closure_is kind.Case p = refl
+closure_is kind.Break p = refl
+closure_is kind.Continue p = refl
+closure_is kind.Global p = refl
+closure_is kind.Statics p = refl
+closure_is kind.Unset p = refl
+closure_is kind.Throw p = refl
+closure_is kind.Try p = refl
+closure_is kind.Function p = refl
+closure_is kind.Param p = refl
+closure_is kind.TypeName p = refl
+closure_is kind.Class p = refl
+closure_is kind.Interface p = refl
+closure_is kind.Trait p = refl
+closure_is kind.Property p = refl
+closure_is kind.ClassConst p = refl
+closure_is kind.Method p = refl
+closure_is kind.TraitUse p = refl
+closure_is kind.Const p = refl
+closure_is kind.Namespace p = refl
+closure_is kind.Use p = refl
+closure_is kind.Declare p = refl
+closure_is kind.Goto p = refl
+closure_is kind.LabelStmt p = refl
+closure_is kind.Variable p = refl
+closure_is kind.Number p = refl
+closure_is kind.Float p = refl
+closure_is kind.Text p = refl
+closure_is kind.Quoted p = refl
+closure_is kind.Constant p = refl
+closure_is kind.ClassConstant p = refl
+closure_is kind.Array p = refl
+closure_is kind.Item p = refl
+closure_is kind.List p = refl
+closure_is kind.Paren p = refl
+closure_is kind.Offset p = refl
+closure_is kind.BraceOffset p = refl
+closure_is kind.Prop p = refl
+closure_is kind.StaticProp p = refl
+closure_is kind.Call p = refl
+closure_is kind.MethodCall p = refl
+closure_is kind.StaticCall p = refl
+closure_is kind.Args p = refl
+closure_is kind.New p = refl
+closure_is kind.Isset p = refl
+closure_is kind.EmptyTest p = refl
+closure_is kind.Exit p = refl
+closure_is kind.Closure p = refl
+closure_is kind.Arrow p = refl
+closure_is kind.Include p = refl
+closure_is kind.EvalTest p = refl
+closure_is kind.Binary p = refl
+closure_is kind.Prefix p = refl
+closure_is kind.Postfix p = refl
+closure_is kind.Cast p = refl
+closure_is kind.Ternary p = refl
+closure_is kind.ShortTernary p = refl
+closure_is kind.Assign p = refl
+closure_is kind.AssignRef p = refl
+closure_is kind.CompoundAssign p = refl
+closure_is kind.InstanceOf p = refl
+closure_is kind.Print p = refl
+closure_is kind.Yield p = refl
+
+-- what a node uses, by its role
+pub uses_are : (k : NodeKind) (f : Form) (s : Site) → uses k f s ≡ uses_by (use_role k) f s
+uses_are kind.Block f s = refl
+uses_are kind.Empty f s = refl
+uses_are kind.ExprStmt f s = refl
+uses_are kind.Echo f s = refl
+uses_are kind.Html f s = refl
+uses_are kind.Return f s = refl
+uses_are kind.If f s = refl
+uses_are kind.IfAlt f s = refl
+uses_are kind.While f s = refl
+uses_are kind.DoWhile f s = refl
+uses_are kind.For f s = refl
+uses_are kind.Foreach f s = refl
+uses_are kind.Switch f s = refl
+uses_are kind.Case f s = refl
+uses_are kind.Break f s = refl
+uses_are kind.Continue f s = refl
+uses_are kind.Global f s = refl
+uses_are kind.Statics f s = refl
+uses_are kind.Unset f s = refl
+uses_are kind.Throw f s = refl
+uses_are kind.Try f s = refl
+uses_are kind.Function f s = refl
+uses_are kind.Param f s = refl
+uses_are kind.TypeName f s = refl
+uses_are kind.Class f s = refl
+uses_are kind.Interface f s = refl
+uses_are kind.Trait f s = refl
+uses_are kind.Property f s = refl
+uses_are kind.ClassConst f s = refl
+uses_are kind.Method f s = refl
+uses_are kind.TraitUse f s = refl
+uses_are kind.Const f s = refl
+uses_are kind.Namespace f s = refl
+uses_are kind.Use f s = refl
+uses_are kind.Declare f s = refl
+uses_are kind.Goto f s = refl
+uses_are kind.LabelStmt f s = refl
+uses_are kind.Variable f s = refl
+uses_are kind.Number f s = refl
+uses_are kind.Float f s = refl
+uses_are kind.Text f s = refl
+uses_are kind.Quoted f s = refl
+uses_are kind.Constant f s = refl
+uses_are kind.ClassConstant f s = refl
+uses_are kind.Array f s = refl
+uses_are kind.Item f s = refl
+uses_are kind.List f s = refl
+uses_are kind.Paren f s = refl
+uses_are kind.Offset f s = refl
+uses_are kind.BraceOffset f s = refl
+uses_are kind.Prop f s = refl
+uses_are kind.StaticProp f s = refl
+uses_are kind.Call f s = refl
+uses_are kind.MethodCall f s = refl
+uses_are kind.StaticCall f s = refl
+uses_are kind.Args f s = refl
+uses_are kind.New f s = refl
+uses_are kind.Isset f s = refl
+uses_are kind.EmptyTest f s = refl
+uses_are kind.Exit f s = refl
+uses_are kind.Closure f s = refl
+uses_are kind.Arrow f s = refl
+uses_are kind.Include f s = refl
+uses_are kind.EvalTest f s = refl
+uses_are kind.Binary f s = refl
+uses_are kind.Prefix f s = refl
+uses_are kind.Postfix f s = refl
+uses_are kind.Cast f s = refl
+uses_are kind.Ternary f s = refl
+uses_are kind.ShortTernary f s = refl
+uses_are kind.Assign f s = refl
+uses_are kind.AssignRef f s = refl
+uses_are kind.CompoundAssign f s = refl
+uses_are kind.InstanceOf f s = refl
+uses_are kind.Print f s = refl
+uses_are kind.Yield f s = refl

@@ -1,0 +1,3 @@
+mod FactLemmas
+mod KindRows
+mod Walking

@@ -1,0 +1,55 @@
+// What the nodes of a whole file tell.
+ghost use Rattle.std.specs.Prelude.{◌≡◌, map, IfOk};
+ghost use Rattle.php_rows.specs.File.{file_in};
+ghost use Rattle.node_names.specs.Slots.{in_file};
+ghost use Rattle.node_facts.specs.Named.{file_named, named};
+ghost use Rattle.node_facts.specs.Seen.{named_in};
+
+use crate::counts::Counts;
+use crate::node_fact::NodeFact;
+use crate::spot::Spot;
+use crate::walk::walk_parts;
+use php_rows::RowTree;
+use span_edits::PathText;
+use std::alloc::{AllocError, Global};
+
+// What the nodes of a file tell, where its first statement stands.
+fn walked(alloc: Global, path: &[u8], tree: &RowTree) -> Result<Vec<NodeFact>, AllocError>
+    ensures { IfOk result (λ xs. map (named_in path.now) xs.items ≡ named (in_file path.now) (file_in tree.now).statements) }
+{
+    let mut facts = Vec::new(alloc);
+    let mut imports = Vec::new(alloc);
+    let mut counts = Counts { number: 0, next: 0 };
+    let spot = Spot {
+        path,
+        space: &[],
+        from: 0,
+        body: None,
+        class: None,
+        parent: None,
+        members: None,
+        closure: None,
+    };
+    walk_parts(
+        alloc,
+        &mut facts,
+        &mut imports,
+        &mut counts,
+        spot,
+        tree.statements(),
+    )?;
+    Ok(facts)
+}
+
+/// What the nodes of the file with a path tell of names, in preorder. The only error is want of memory, of which 2^32 nodes
+/// are one.
+#[tactic(auto, using(crate::proofs::FactLemmas::named_file))]
+pub fn file_facts(
+    alloc: Global,
+    path: &PathText,
+    tree: &RowTree,
+) -> Result<Vec<NodeFact>, AllocError>
+    ensures { IfOk result (λ xs. map (named_in path.now) xs.items ≡ file_named path.now (file_in tree.now).statements) }
+{
+    walked(alloc, path.as_str().as_bytes(), tree)
+}

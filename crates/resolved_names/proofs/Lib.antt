@@ -1,0 +1,6 @@
+mod ClashLemmas
+mod IndexLemmas
+mod NamesLemmas
+mod ReadLemmas
+mod ResolveLemmas
+mod ToldLemmas

@@ -1,0 +1,6 @@
+pub mod Index
+pub mod NodeReads
+pub mod Reads
+pub mod Refusals
+pub mod Resolved
+pub mod SlotNumbers

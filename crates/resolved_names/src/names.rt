@@ -1,0 +1,108 @@
+// The names of a program, resolved.
+use crate::found_nodes::nodes_of;
+use crate::names_fault::NamesFault;
+use crate::node_uses::NodeUses;
+use crate::resolve::resolved;
+use indexmap::IndexMap;
+use program_names::{NodeRef, Program};
+use span_edits::PathText;
+use std::alloc::Global;
+
+/// What the names of a program stand for. No read walks, and none takes memory.
+#[derive(Drop)]
+pub struct Names {
+    pub(crate) index: IndexMap<Vec<u8>, Vec<NodeRef>>,
+    pub(crate) files: Vec<Vec<NodeUses>>,
+    pub(crate) entries: Vec<u32>,
+    pub(crate) prepend: Option<u32>,
+}
+
+impl Names {
+    ghost use Rattle.std.specs.Prelude.{◌≡◌, option_copied, IfOk, IfErr};
+    ghost use Rattle.program_names.specs.Classes.{class_number as class_number_of};
+    ghost use Rattle.program_names.specs.Entries.{paths_of};
+    ghost use Rattle.program_names.specs.Table.{Table, table_of, declarations as declarations_of};
+    ghost use Rattle.program_names.specs.Whole.{files_of};
+    ghost use Rattle.resolved_names.specs.Reads.{AreNames, class_in, entries_of, prepend_of, read_in};
+    ghost use Rattle.resolved_names.specs.Resolved.{IsNamesFault, IsResolved};
+
+    /// What the names of a program stand for: the entries are all files, or those that are listed and then each file that
+    /// none so far reaches by includes; `prepend` is the path of the file that runs before each entry.
+    ///
+    /// `NoFile` comes exactly where a listed entry or the prepended path is no path of the program: the first in the order
+    /// of the list, the prepended one last. Then `Twice` comes exactly where one run begins with two declarations of one
+    /// function, class or constant, the first pair in the order of paths and places; then `Cycle` exactly where classes
+    /// extend one another in a cycle, the first one in the order of dictionaries. `Memory` is want of memory.
+    pub fn resolve(
+        alloc: Global,
+        program: &Program,
+        entries: Option<&[PathText]>,
+        prepend: Option<&PathText>,
+    ) -> Result<Names, NamesFault>
+        ensures resolved { IfOk result (λ ns. IsResolved (paths_of (files_of program.now)) (table_of (files_of program.now)) (option_copied entries.entry) (option_copied prepend.entry) ns) }
+        ensures refused { IfErr result (λ e. IsNamesFault (paths_of (files_of program.now)) (table_of (files_of program.now)) (option_copied entries.entry) (option_copied prepend.entry) e) }
+    {
+        resolved(alloc, program, entries, prepend)
+    }
+
+    // What the name of a node with a number was found to stand for.
+    fn read(&self, use_at: NodeRef, n: u32) -> &[NodeRef]
+        ensures { result.now ≡ read_in self.now.index.entries self.now.files.items use_at n }
+    {
+        let Some(file) = self.files.get(use_at.file as usize) else {
+            return &[];
+        };
+        let Some(node) = file.get(use_at.node as usize) else {
+            return &[];
+        };
+        let Some(found) = node.uses.get(n as usize) else {
+            return &[];
+        };
+        nodes_of(&self.index, found)
+    }
+
+    /// The nodes that declare name n, from 0 in the order of the source, that a node uses as the name of a function, class,
+    /// interface, constant, method, class constant or property; a member's name stands for all members of that kind and
+    /// name. None where the node uses no such name.
+    pub fn declarations(&self, use_at: NodeRef, n: u32) -> &[NodeRef]
+        ensures { (t : Table) → AreNames self.now t → result.now ≡ declarations_of t use_at n }
+    {
+        self.read(use_at, n)
+    }
+
+    // The number of the class that a node declares.
+    fn class_at(&self, at: NodeRef) -> Option<u32>
+        ensures { result ≡ class_in self.now.files.items at }
+    {
+        let Some(file) = self.files.get(at.file as usize) else {
+            return None;
+        };
+        let Some(node) = file.get(at.node as usize) else {
+            return None;
+        };
+        node.class
+    }
+
+    /// The number of the class or interface that a node declares: 0 for `stdClass`, 1 to 10 for the exception classes, and
+    /// from 11 on for the others that are declared, in the order of the bytes of their names. None exactly where the node
+    /// declares neither.
+    pub fn class_number(&self, at: NodeRef) -> Option<u32>
+        ensures { (t : Table) → (a : AreNames self.now t) → result ≡ class_number_of t a.others at }
+    {
+        self.class_at(at)
+    }
+
+    /// The entries by number, in their order.
+    pub fn entries(&self) -> &[u32]
+        ensures { result.now ≡ entries_of self.now }
+    {
+        self.entries.as_slice()
+    }
+
+    /// The number of the file that runs before each entry; none exactly where none was given.
+    pub fn prepend(&self) -> Option<u32>
+        ensures { result ≡ prepend_of self.now }
+    {
+        self.prepend
+    }
+}
