@@ -41,10 +41,13 @@ same_brace _ = refl
 
 -- ---- a node
 
-no_keyword : (k : NodeKind) → ((s : Standing) (x y : Terminal) → own.refuses k s x y ≡ own.is_keyword_now x) → (c : Forest) (at : ℕ) → of_reserved at (k, c) ≡ [] → words.has words.is_keyword_now (words.named c) ≡ false
+no_keyword : (k : NodeKind) → ((s : Standing) (x y : Terminal) → own.refuses k s x y ≡ own.is_keyword_now x)
+    → (c : Forest) (at : ℕ) → of_reserved at (k, c) ≡ [] → words.has words.is_keyword_now (words.named c) ≡ false
 no_keyword k h c at e = none_anywhere k words.is_keyword_now refl refl refl (λ s x y r. same_keyword x ∙ sym (h s x y) ∙ r) c at_first at e
 
-before_colon : (k : NodeKind) → ((s : Standing) (x y : Terminal) → own.refuses k s x y ≡ (own.is_keyword_now x && not (own.is_double_colon s.before))) → (c : Forest) (at : ℕ) → of_reserved at (k, c) ≡ []
+before_colon : (k : NodeKind) → ((s : Standing) (x y : Terminal)
+    → own.refuses k s x y ≡ (own.is_keyword_now x && not (own.is_double_colon s.before))) → (c : Forest) (at : ℕ)
+    → of_reserved at (k, c) ≡ []
     → words.has_before words.is_double_colon (words.named c) ≡ false
 before_colon k h c at e =
     none_before k words.is_double_colon refl refl (λ s. own.is_double_colon s.before) h (λ s x o i. sym (same_colon x) ∙ i) (λ s o. refl) c at_first at refl e
@@ -61,7 +64,8 @@ none_refused kind.ClassConstant c at s n e = before_colon kind.ClassConstant (λ
 none_refused kind.StaticProp c at s n e = before_colon kind.StaticProp (λ s x y. refl) c at e
 none_refused kind.StaticCall c at s n e = before_colon kind.StaticCall (λ s x y. refl) c at e
 none_refused kind.TraitUse c at s n e =
-    none_before kind.TraitUse words.is_brace refl refl (λ s. s.in_braces) (λ s x y. refl) (λ s x o i. or_none s.in_braces (own.is_brace x) o (sym (same_brace x) ∙ i)) (λ s o. o) c at_first at refl e
+    none_before kind.TraitUse words.is_brace refl refl (λ s. s.in_braces) (λ s x y. refl)
+    (λ s x o i. or_none s.in_braces (own.is_brace x) o (sym (same_brace x) ∙ i)) (λ s o. o) c at_first at refl e
 none_refused kind.Class c at s n e = none_in_class kind.Class (λ s x y. refl) c at e
 none_refused kind.Interface c at s n e = none_in_class kind.Interface (λ s x y. refl) c at e
 none_refused kind.Trait c at s n e = none_in_class kind.Trait (λ s x y. refl) c at e

@@ -51,7 +51,9 @@ no_name false = refl
 module _ (kind : NodeKind) (refused : (s : Standing) (x y : Terminal) → refuses kind s x y ≡ own.in_class s x) where
   class_none : (f : Forest) (m : ℕ) (s : Standing) (at : ℕ) → refused_tokens kind s m at f ≡ [] → in_class (words.declares s.before) (left m f) ≡ false
   class_none none m s at e = refl
-  class_none (leaf x f) (suc m) s at e = class_none f m s (behind at x) (empty_if (is_last m && refuses_last kind s (terminal x) (next f)) at x (refused_tokens kind s m (behind at x) f) e).1
+  class_none (leaf x f) (suc m) s at e = class_none f m s (behind at x)
+      (empty_if (is_last m && refuses_last kind s (terminal x) (next f)) at x
+      (refused_tokens kind s m (behind at x) f) e).1
   class_none (leaf x f) zero s at e =
       let h = head_at x f in
       let k = class_by h.more (terminal x) in

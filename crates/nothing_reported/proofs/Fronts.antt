@@ -1,5 +1,32 @@
 -- Parts with whole names begin with a token that stands alone, or with a name.
-use Rattle.std.proofs.Common.{◌≡◌, ℕ, zero, suc, Bool, true, false, cond, ◌&&◌, ◌||◌, if◌then◌else◌, ◌⊎◌, inl, inr, codes, List, [], ◌++◌, Option, Some, None, refl, sym, ap, ◌∙◌, append-nil}
+use Rattle.std.proofs.Common.{
+  ◌≡◌,
+  ℕ,
+  zero,
+  suc,
+  Bool,
+  true,
+  false,
+  cond,
+  ◌&&◌,
+  ◌||◌,
+  if◌then◌else◌,
+  ◌⊎◌,
+  inl,
+  inr,
+  codes,
+  List,
+  [],
+  ◌++◌,
+  Option,
+  Some,
+  None,
+  refl,
+  sym,
+  ap,
+  ◌∙◌,
+  append-nil,
+}
 use Rattle.php_tree.specs.declared.token.Token.{Token}
 use Rattle.php_tree.specs.declared.token.TokenKind.TheVariants.{Name}
 use Rattle.php_tree.specs.Tree.{Forest, leaf}
@@ -44,7 +71,8 @@ front_is x f = ap rewritten (fits x f).first
 
 -- ---- classes
 
-name_if : (p : Terminal → Bool) (a b : Bool) → p t.FullName ≡ p t.QualifiedName → p t.RelativeName ≡ p t.QualifiedName → p (cond a t.FullName (cond b t.RelativeName t.QualifiedName)) ≡ p t.QualifiedName
+name_if : (p : Terminal → Bool) (a b : Bool) → p t.FullName ≡ p t.QualifiedName → p t.RelativeName ≡ p t.QualifiedName
+    → p (cond a t.FullName (cond b t.RelativeName t.QualifiedName)) ≡ p t.QualifiedName
 name_if p true b e d = e
 name_if p false true e d = d
 name_if p false false e d = refl

@@ -42,11 +42,14 @@ word_none p x f b e h full relative qualified = go (sort x f)
 
 -- ---- anywhere in a node
 
-module _ (kind : NodeKind) (which : Terminal → Bool) (full : which t.FullName ≡ which t.QualifiedName) (relative : which t.RelativeName ≡ which t.QualifiedName) (qualified : which t.QualifiedName ≡ false)
+module _ (kind : NodeKind) (which : Terminal → Bool) (full : which t.FullName ≡ which t.QualifiedName)
+    (relative : which t.RelativeName ≡ which t.QualifiedName) (qualified : which t.QualifiedName ≡ false)
     (refused : (s : Standing) (x y : Terminal) → refuses kind s x y ≡ false → which x ≡ false) where
   has_none : (f : Forest) (m : ℕ) (s : Standing) (at : ℕ) → refused_tokens kind s m at f ≡ [] → has which (left m f) ≡ false
   has_none none m s at e = refl
-  has_none (leaf x f) (suc m) s at e = has_none f m s (behind at x) (empty_if (is_last m && refuses_last kind s (terminal x) (next f)) at x (refused_tokens kind s m (behind at x) f) e).1
+  has_none (leaf x f) (suc m) s at e = has_none f m s (behind at x)
+      (empty_if (is_last m && refuses_last kind s (terminal x) (next f)) at x
+      (refused_tokens kind s m (behind at x) f) e).1
   has_none (leaf x f) zero s at e =
       let h = head_at x f in
       let p = empty_if (is_last h.more && refuses kind s (terminal x) (next f)) at x (refused_tokens kind (past s (class_by h.more (terminal x))) h.more (behind at x) f) e in
@@ -77,7 +80,9 @@ module _ (kind : NodeKind) (end : Terminal → Bool) (full : end t.FullName ≡ 
     (stays_node : (s : Standing) → is_past s ≡ false → is_past (past_node s) ≡ false) where
   before_none : (f : Forest) (m : ℕ) (s : Standing) (at : ℕ) → is_past s ≡ false → refused_tokens kind s m at f ≡ [] → has_before end (left m f) ≡ false
   before_none none m s at o e = refl
-  before_none (leaf x f) (suc m) s at o e = before_none f m s (behind at x) o (empty_if (is_last m && refuses_last kind s (terminal x) (next f)) at x (refused_tokens kind s m (behind at x) f) e).1
+  before_none (leaf x f) (suc m) s at o e = before_none f m s (behind at x) o
+      (empty_if (is_last m && refuses_last kind s (terminal x) (next f)) at x
+      (refused_tokens kind s m (behind at x) f) e).1
   before_none (leaf x f) zero s at o e =
       let h = head_at x f in
       let k = class_by h.more (terminal x) in

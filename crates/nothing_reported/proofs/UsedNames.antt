@@ -15,7 +15,24 @@ use Rattle.tracked_changes.specs.Draft.{unchanged_token}
 use Rattle.syntax_rules.specs.SplitName.{is_label, is_name}
 use Rattle.syntax_upgrade.specs.NameHeads.{head_at}
 use Rattle.syntax_upgrade.specs.ReservedName as own
-use Rattle.syntax_upgrade.specs.ReservedName.{Rank, first, second, later, Standing, at_first, class_by, gives_type, is_class_next, is_last, next, past, past_node, refused_tokens, refuses, refuses_last}
+use Rattle.syntax_upgrade.specs.ReservedName.{
+  Rank,
+  first,
+  second,
+  later,
+  Standing,
+  at_first,
+  class_by,
+  gives_type,
+  is_class_next,
+  is_last,
+  next,
+  past,
+  past_node,
+  refused_tokens,
+  refuses,
+  refuses_last,
+}
 use Rattle.nothing_reported.proofs.WholeHeads.{skipped, skipped_zero}
 use Rattle.rewritten_shapes.specs.Laws.{AreSpelled, has_no_root, is_label_text, is_spelled_by}
 use Rattle.rewritten_shapes.specs.RefusedWords as words
@@ -41,7 +58,9 @@ same_root _ = refl
 
 keyword_whole : (text : List ℕ) → is_whole_name (keyword text) ≡ false
 unfolding keywords
-keyword_whole text = cond_not is_whole_name (nat_lt 5 (length text) && is_word (codes "yield") (front 5 text)) t.YieldFrom (find_row t.OtherKeyword keywords text) refl (rows_not is_whole_name t.OtherKeyword keywords text refl refl)
+keyword_whole text = cond_not is_whole_name (nat_lt 5 (length text) && is_word (codes "yield") (front 5 text))
+    t.YieldFrom (find_row t.OtherKeyword keywords text) refl
+    (rows_not is_whole_name t.OtherKeyword keywords text refl refl)
 
 label_whole : (text : List ℕ) → is_whole_name (label text) ≡ false
 unfolding labels
@@ -52,7 +71,10 @@ unfolding operators
 operator_whole text = rows_not is_whole_name t.OtherOp operators text refl refl
 
 cast_whole : (text : List ℕ) → is_whole_name (cast text) ≡ false
-cast_whole text = cond_not is_whole_name (nat_lt (opening text) (length text)) (cast_letter (to_ascii_lowercase (slice_index text (opening text)))) t.Cast (cond_not is_whole_name (nat_eq (to_ascii_lowercase (slice_index text (opening text))) 114 || nat_eq (to_ascii_lowercase (slice_index text (opening text))) 117) t.OldCast t.Cast refl refl) refl
+cast_whole text = cond_not is_whole_name (nat_lt (opening text) (length text))
+    (cast_letter (to_ascii_lowercase (slice_index text (opening text)))) t.Cast
+    (cond_not is_whole_name (nat_eq (to_ascii_lowercase (slice_index text (opening text))) 114
+    || nat_eq (to_ascii_lowercase (slice_index text (opening text))) 117) t.OldCast t.Cast refl refl) refl
 
 no_whole : (k : TokenKind) (text : List ℕ) → is_name k ≡ false → is_whole_name (terminal_by k text) ≡ false
 no_whole token.Label text e = label_whole text
@@ -138,7 +160,8 @@ or_second : (a b : Bool) → (a || b) ≡ false → b ≡ false
 or_second true b e = absurd cc
 or_second false b e = e
 
-type_alone : (x : Token) (f : Forest) → is_name x.kind ≡ false → (head_at x f).token ≡ unchanged_token x → own.is_type_now (terminal x) ≡ false → is_type_name (front_token x f) ≡ false
+type_alone : (x : Token) (f : Forest) → is_name x.kind ≡ false → (head_at x f).token ≡ unchanged_token x
+    → own.is_type_now (terminal x) ≡ false → is_type_name (front_token x f) ≡ false
 type_alone x f k e h =
     let shown = front_token x f in
     or_none (words.is_type_now (terminal shown)) (is_whole_name (terminal shown) && names_refused shown.text)

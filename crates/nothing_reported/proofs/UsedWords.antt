@@ -9,7 +9,24 @@ use Rattle.php_terminals.specs.declared.terminal.Terminal.TheVariants as t
 use Rattle.php_terminals.specs.Classify.{terminal}
 use Rattle.syntax_upgrade.specs.NameHeads.{head_at}
 use Rattle.syntax_upgrade.specs.ReservedName as own
-use Rattle.syntax_upgrade.specs.ReservedName.{Rank, first, second, later, Standing, at_first, class_by, gives_type, is_class_next, is_last, next, past, past_node, refused_tokens, refuses, refuses_last}
+use Rattle.syntax_upgrade.specs.ReservedName.{
+  Rank,
+  first,
+  second,
+  later,
+  Standing,
+  at_first,
+  class_by,
+  gives_type,
+  is_class_next,
+  is_last,
+  next,
+  past,
+  past_node,
+  refused_tokens,
+  refuses,
+  refuses_last,
+}
 use Rattle.nothing_reported.proofs.WholeHeads.{skipped_zero}
 use Rattle.rewritten_shapes.specs.Laws.{AreSpelled}
 use Rattle.rewritten_shapes.specs.RefusedWords as words
@@ -64,16 +81,20 @@ flag_is x f u c =
 abbrev later_at : Terminal → Bool → Bool → Bool → Standing
 later_at b i u c = record { before = b; in_braces = i; rank = later; of_classes = u; of_class = c }
 
-used_none : (f : Forest) (m : ℕ) (b : Terminal) (i u c : Bool) (at : ℕ) → AreSpelled f → HasNoName f → refused_tokens kind.Use (later_at b i u c) m at f ≡ [] → in_use u c (left m f) ≡ false
+used_none : (f : Forest) (m : ℕ) (b : Terminal) (i u c : Bool) (at : ℕ) → AreSpelled f → HasNoName f
+    → refused_tokens kind.Use (later_at b i u c) m at f ≡ [] → in_use u c (left m f) ≡ false
 used_none none m b i u c at s n e = refl
 used_none (leaf x f) (suc m) b i u c at s n e =
-    used_none f m b i u c (behind at x) s.1 n.1 (empty_if (is_last m && refuses_last kind.Use (later_at b i u c) (terminal x) (next f)) at x (refused_tokens kind.Use (later_at b i u c) m (behind at x) f) e).1
+    used_none f m b i u c (behind at x) s.1 n.1
+    (empty_if (is_last m && refuses_last kind.Use (later_at b i u c) (terminal x) (next f)) at x
+    (refused_tokens kind.Use (later_at b i u c) m (behind at x) f) e).1
 used_none (leaf x f) zero b i u c at s n e =
     let h = head_at x f in
     let k = class_by h.more (terminal x) in
     let shown = front_token x f in
     let rest = left h.more f in
-    let p = empty_if (is_last h.more && refuses kind.Use (later_at b i u c) (terminal x) (next f)) at x (refused_tokens kind.Use (past (later_at b i u c) k) h.more (behind at x) f) e in
+    let p = empty_if (is_last h.more && refuses kind.Use (later_at b i u c) (terminal x) (next f)) at x
+    (refused_tokens kind.Use (past (later_at b i u c) k) h.more (behind at x) f) e in
     let here = use_here x f (later_at b i u c) at s.1 n e in
     let flagged : Bool = if own.is_comma k then u else c && not (own.is_of_code k) in
     let tail : in_use u flagged rest ≡ false = used_none f h.more k (i || own.is_brace k) u flagged (behind at x) s.1 n.1 p.1 in
@@ -105,11 +126,14 @@ second_flag false false = refl
 abbrev second_at : Terminal → Bool → Bool → Standing
 second_at b i u = record { before = b; in_braces = i; rank = second; of_classes = u; of_class = true }
 
-second_none : (f : Forest) (m : ℕ) (b : Terminal) (i u : Bool) (at : ℕ) → AreSpelled f → HasNoName f → refused_tokens kind.Use (second_at b i u) m at f ≡ [] → in_second (left m f) ≡ false
+second_none : (f : Forest) (m : ℕ) (b : Terminal) (i u : Bool) (at : ℕ) → AreSpelled f → HasNoName f
+    → refused_tokens kind.Use (second_at b i u) m at f ≡ [] → in_second (left m f) ≡ false
 second_none none m b i u at s n e = refl
 second_none (node j q f) m b i u at s n e = refl
 second_none (leaf x f) (suc m) b i u at s n e =
-    second_none f m b i u (behind at x) s.1 n.1 (empty_if (is_last m && refuses_last kind.Use (second_at b i u) (terminal x) (next f)) at x (refused_tokens kind.Use (second_at b i u) m (behind at x) f) e).1
+    second_none f m b i u (behind at x) s.1 n.1
+    (empty_if (is_last m && refuses_last kind.Use (second_at b i u) (terminal x) (next f)) at x
+    (refused_tokens kind.Use (second_at b i u) m (behind at x) f) e).1
 second_none (leaf x f) zero b i u at s n e =
     let h = head_at x f in
     let k = class_by h.more (terminal x) in
@@ -117,7 +141,8 @@ second_none (leaf x f) zero b i u at s n e =
     let code : Bool = words.is_of_code (terminal shown) in
     let classes : Bool = if code then false else true in
     let rest = left h.more f in
-    let p = empty_if (is_last h.more && refuses kind.Use (second_at b i u) (terminal x) (next f)) at x (refused_tokens kind.Use (past (second_at b i u) k) h.more (behind at x) f) e in
+    let p = empty_if (is_last h.more && refuses kind.Use (second_at b i u) (terminal x) (next f)) at x
+    (refused_tokens kind.Use (past (second_at b i u) k) h.more (behind at x) f) e in
     let here = use_here x f (second_at b i u) at s.1 n e in
     let flagged : Bool = not (own.is_of_code k) in
     let tail : in_use flagged flagged rest ≡ false = used_none f h.more k (i || own.is_brace k) flagged flagged (behind at x) s.1 n.1 p.1 in

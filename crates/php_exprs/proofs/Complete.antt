@@ -1,5 +1,30 @@
 -- What is spelled so is read, and nothing else is: so there is at most one tree.
-use Rattle.std.proofs.Common.{◌≡◌, ℕ, zero, suc, ◌+◌, ◌<◌, ◌≤◌, true, List, [], ◌∷◌, ◌++◌, length, Some, None, nat_lt, refl, sym, ap, ◌∙◌, subst, append_assoc, arith, length-append}
+use Rattle.std.proofs.Common.{
+  ◌≡◌,
+  ℕ,
+  zero,
+  suc,
+  ◌+◌,
+  ◌<◌,
+  ◌≤◌,
+  true,
+  List,
+  [],
+  ◌∷◌,
+  ◌++◌,
+  length,
+  Some,
+  None,
+  nat_lt,
+  refl,
+  sym,
+  ap,
+  ◌∙◌,
+  subst,
+  append_assoc,
+  arith,
+  length-append,
+}
 use Rattle.std.proofs.lemmas.Bool.{lt-ltb}
 use Rattle.php_tree.specs.declared.token.Token.{Token}
 use Rattle.php_tree.specs.declared.kind.NodeKind.{NodeKind}
@@ -22,7 +47,8 @@ nested_more rank m n (Turns g ∷ is) le h = let lt = h.0 in (omega arith, neste
 nested_more rank m n (Span ∷ is) le h = nested_more rank m n is le h
 
 abbrev ChildReads : Tables → ℕ → (Sort → List Token → Read Tree) → Type 0
-ChildReads T d child_at = (s : Sort) (k : NodeKind) (c : Forest) (rest : List Token) → Grows T s k c rest → T.tail s (k, c) rest ≡ None → depth c < d → child_at s (leaves c ++ rest) ≡ Some ((k, c), rest)
+ChildReads T d child_at = (s : Sort) (k : NodeKind) (c : Forest) (rest : List Token) → Grows T s k c rest
+    → T.tail s (k, c) rest ≡ None → depth c < d → child_at s (leaves c ++ rest) ≡ Some ((k, c), rest)
 
 pub walk_is : (T : Tables) (child_at : Sort → List Token → Read Tree) (n : ℕ) → walk T child_at n ≡ items_at T child_at (under T child_at n)
 walk_is T child_at zero = refl
@@ -33,16 +59,24 @@ join_text h f rest = ap (λ (m : List Token). m ++ rest) (leaves_append h f) ∙
 
 module _ (T : Tables) (child_at : Sort → List Token → Read Tree) (steps : Steps) where
   -- the steps of the rules
-  word_reads : (c : Terminal) (is : List Item) (t : Token) (f : Forest) (ts rest : List Token) → T.accepts c t ≡ true → items_at T child_at steps is ts ≡ Some (f, rest) → items_at T child_at steps (Word c ∷ is) (t ∷ ts) ≡ Some (leaf t f, rest)
+  word_reads : (c : Terminal) (is : List Item) (t : Token) (f : Forest) (ts rest : List Token) → T.accepts c t ≡ true
+      → items_at T child_at steps is ts ≡ Some (f, rest) → items_at T child_at steps (Word c ∷ is) (t ∷ ts) ≡ Some
+      (leaf t f, rest)
   word_reads c is t f ts rest p e = rw (p, e) refl
 
-  child_reads : (s : Sort) (is : List Item) (n : Tree) (f : Forest) (ts mid rest : List Token) → child_at s ts ≡ Some (n, mid) → items_at T child_at steps is mid ≡ Some (f, rest) → items_at T child_at steps (Node s ∷ is) ts ≡ Some (node n.0 n.1 f, rest)
+  child_reads : (s : Sort) (is : List Item) (n : Tree) (f : Forest) (ts mid rest : List Token)
+      → child_at s ts ≡ Some (n, mid) → items_at T child_at steps is mid ≡ Some (f, rest)
+      → items_at T child_at steps (Node s ∷ is) ts ≡ Some (node n.0 n.1 f, rest)
   child_reads s is n f ts mid rest p e = rw (p, e) refl
 
-  part_reads : (g : Group) (is : List Item) (h f : Forest) (ts mid rest : List Token) → steps (T.parts g ts) ts ≡ Some (h, mid) → items_at T child_at steps is mid ≡ Some (f, rest) → items_at T child_at steps (Part g ∷ is) ts ≡ Some (h +++ f, rest)
+  part_reads : (g : Group) (is : List Item) (h f : Forest) (ts mid rest : List Token)
+      → steps (T.parts g ts) ts ≡ Some (h, mid) → items_at T child_at steps is mid ≡ Some (f, rest)
+      → items_at T child_at steps (Part g ∷ is) ts ≡ Some (h +++ f, rest)
   part_reads g is h f ts mid rest p e = rw (p, e) refl
 
-  turns_reads : (g : Group) (is : List Item) (h f : Forest) (ts mid rest : List Token) → turns_at T steps (length ts) g ts ≡ Some (h, mid) → items_at T child_at steps is mid ≡ Some (f, rest) → items_at T child_at steps (Turns g ∷ is) ts ≡ Some (h +++ f, rest)
+  turns_reads : (g : Group) (is : List Item) (h f : Forest) (ts mid rest : List Token)
+      → turns_at T steps (length ts) g ts ≡ Some (h, mid) → items_at T child_at steps is mid ≡ Some (f, rest)
+      → items_at T child_at steps (Turns g ∷ is) ts ≡ Some (h +++ f, rest)
   turns_reads g is h f ts mid rest p e = rw (p, e) refl
 
 -- a run reads what is flat
@@ -52,7 +86,9 @@ run_reads (leaf t h) rest flat = rw (run_reads h rest flat) refl
 run_reads (node k c h) rest flat = absurd flat
 
 module _ (T : Tables) (child_at : Sort → List Token → Read Tree) (steps : Steps) where
-  span_reads : (is : List Item) (h f : Forest) (ts mid rest : List Token) → run_at (T.span ts) ts ≡ Some (h, mid) → items_at T child_at steps is mid ≡ Some (f, rest) → items_at T child_at steps (Span ∷ is) ts ≡ Some (h +++ f, rest)
+  span_reads : (is : List Item) (h f : Forest) (ts mid rest : List Token) → run_at (T.span ts) ts ≡ Some (h, mid)
+      → items_at T child_at steps is mid ≡ Some (f, rest) → items_at T child_at steps (Span ∷ is) ts ≡ Some
+      (h +++ f, rest)
   span_reads is h f ts mid rest p e = rw (p, e) refl
 
 abbrev with_items : Steps → List Item → Forest × List Token → Read Forest
@@ -63,10 +99,13 @@ then_items all is o = o >>= with_items all is
 
 -- the items read their parts: a group that may come again does so with any fuel that is enough
 abbrev Reads : Tables → (Sort → List Token → Read Tree) → Steps → List Item → Forest → List Token → Type 0
-Reads T child_at steps (Turns g ∷ is) f rest = (m : ℕ) → length (leaves f ++ rest) ≤ m → then_items (items_at T child_at steps) is (turns_at T steps m g (leaves f ++ rest)) ≡ Some (f, rest)
+Reads T child_at steps (Turns g ∷ is) f rest = (m : ℕ) → length (leaves f ++ rest) ≤ m
+    → then_items (items_at T child_at steps) is (turns_at T steps m g (leaves f ++ rest)) ≡ Some (f, rest)
 Reads T child_at steps is f rest = items_at T child_at steps is (leaves f ++ rest) ≡ Some (f, rest)
 
-from_reads : (T : Tables) (child_at : Sort → List Token → Read Tree) (steps : Steps) (is : List Item) (f : Forest) (rest : List Token) → Reads T child_at steps is f rest → items_at T child_at steps is (leaves f ++ rest) ≡ Some (f, rest)
+from_reads : (T : Tables) (child_at : Sort → List Token → Read Tree) (steps : Steps) (is : List Item) (f : Forest)
+    (rest : List Token) → Reads T child_at steps is f rest → items_at T child_at steps is (leaves f ++ rest) ≡ Some
+    (f, rest)
 from_reads T child_at steps [] f rest h = h
 from_reads T child_at steps (Word c ∷ is) f rest h = h
 from_reads T child_at steps (Node s ∷ is) f rest h = h
@@ -75,11 +114,17 @@ from_reads T child_at steps (Turns g ∷ is) f rest h = h (length (leaves f ++ r
 from_reads T child_at steps (Span ∷ is) f rest h = h
 
 module _ (T : Tables) (child_at : Sort → List Token → Read Tree) (steps : Steps) where
-  stop_reads : (g : Group) (is : List Item) (f : Forest) (rest : List Token) → T.parts g (leaves f ++ rest) ≡ [] → items_at T child_at steps is (leaves f ++ rest) ≡ Some (f, rest) → Reads T child_at steps (Turns g ∷ is) f rest
+  stop_reads : (g : Group) (is : List Item) (f : Forest) (rest : List Token) → T.parts g (leaves f ++ rest) ≡ []
+      → items_at T child_at steps is (leaves f ++ rest) ≡ Some (f, rest)
+      → Reads T child_at steps (Turns g ∷ is) f rest
   stop_reads g is f rest p e zero le = rw (p, e) refl
   stop_reads g is f rest p e (suc m) le = rw (p, e) refl
 
-  turn_reads : (g : Group) (i : Item) (js is : List Item) (h f : Forest) (rest : List Token) → T.parts g (leaves h ++ (leaves f ++ rest)) ≡ i ∷ js → steps (i ∷ js) (leaves h ++ (leaves f ++ rest)) ≡ Some (h, leaves f ++ rest) → 0 < length (leaves h) → Reads T child_at steps (Turns g ∷ is) f rest → (m : ℕ) → length (leaves h ++ (leaves f ++ rest)) ≤ m → then_items (items_at T child_at steps) is (turns_at T steps m g (leaves h ++ (leaves f ++ rest))) ≡ Some (h +++ f, rest)
+  turn_reads : (g : Group) (i : Item) (js is : List Item) (h f : Forest) (rest : List Token)
+      → T.parts g (leaves h ++ (leaves f ++ rest)) ≡ i ∷ js → steps (i ∷ js) (leaves h ++ (leaves f ++ rest)) ≡ Some
+      (h, leaves f ++ rest) → 0 < length (leaves h) → Reads T child_at steps (Turns g ∷ is) f rest → (m : ℕ)
+      → length (leaves h ++ (leaves f ++ rest)) ≤ m → then_items (items_at T child_at steps) is
+      (turns_at T steps m g (leaves h ++ (leaves f ++ rest))) ≡ Some (h +++ f, rest)
   turn_reads g i js is h f rest p e has ih zero le = absurd (omega (arith, length-append (leaves h) (leaves f ++ rest)))
   turn_reads g i js is h f rest p e has ih (suc m) le =
       let mid = leaves f ++ rest in
@@ -108,7 +153,8 @@ module _ (T : Tables) (top : ℕ) (rank : Group → ℕ) (law : Ranked T top ran
       let r = from_reads T child_at (under T child_at n) is f rest (items_read n v nest.1 (omega arith)) in
       let m = deeper T child_at (rank g) n nest.0 in
       let text = leaves h ++ (leaves f ++ rest) in
-      let inner = from_reads T child_at (under T child_at m.0) (T.parts g text) h (leaves f ++ rest) (items_read m.0 w (nested_more rank (rank g) m.0 (T.parts g text) m.1 (law.groups g text)) (omega arith)) in
+      let inner = from_reads T child_at (under T child_at m.0) (T.parts g text) h (leaves f ++ rest)
+      (items_read m.0 w (nested_more rank (rank g) m.0 (T.parts g text) m.1 (law.groups g text)) (omega arith)) in
       let steps_is : under T child_at n ≡ items_at T child_at (under T child_at m.0) = m.2 ∙ walk_is T child_at m.0 in
       let first : under T child_at n (T.parts g text) text ≡ Some (h, leaves f ++ rest) = ap (λ (st : Steps). st (T.parts g text) text) steps_is ∙ inner in
       rw (join_text h f rest) (part_reads T child_at (under T child_at n) g is h f text (leaves f ++ rest) rest first r)
@@ -131,8 +177,10 @@ module _ (T : Tables) (top : ℕ) (rank : Group → ℕ) (law : Ranked T top ran
       let first : run_at (T.span text) text ≡ Some (h, leaves f ++ rest) = ap (λ (m : ℕ). run_at m text) p ∙ run_reads h (leaves f ++ rest) flat in
       rw (join_text h f rest) (span_reads T child_at (under T child_at n) is h f text (leaves f ++ rest) rest first r)
 
-  pub walk_reads : {is : List Item} {f : Forest} {rest : List Token} → (n : ℕ) → Walks T is f rest → IsNested rank n is → depth f ≤ d → walk T child_at n is (leaves f ++ rest) ≡ Some (f, rest)
-  walk_reads {is} {f} {rest} n w nest low = ap (λ (st : Steps). st is (leaves f ++ rest)) (walk_is T child_at n) ∙ from_reads T child_at (under T child_at n) is f rest (items_read n w nest low)
+  pub walk_reads : {is : List Item} {f : Forest} {rest : List Token} → (n : ℕ) → Walks T is f rest
+      → IsNested rank n is → depth f ≤ d → walk T child_at n is (leaves f ++ rest) ≡ Some (f, rest)
+  walk_reads {is} {f} {rest} n w nest low = ap (λ (st : Steps). st is (leaves f ++ rest)) (walk_is T child_at n)
+      ∙ from_reads T child_at (under T child_at n) is f rest (items_read n w nest low)
 
 -- a node, as far as it has grown
 record Onward (T : Tables) (steps : Steps) (d : ℕ) (s : Sort) (t : Tree) (ts rest : List Token) (whole : Read Tree) : Type 0 where
@@ -140,10 +188,14 @@ record Onward (T : Tables) (steps : Steps) (d : ℕ) (s : Sort) (t : Tree) (ts r
   enough : d ≤ fuel + depth t.1
   same : whole ≡ grow T steps d fuel s t rest
 
-begin_reads : (T : Tables) (steps : Steps) (d : ℕ) (s : Sort) (k : NodeKind) (is : List Item) (c : Forest) (ts rest : List Token) → T.form s ts ≡ Some (k, is) → steps is ts ≡ Some (c, rest) → (begin steps (T.form s ts) ts >>= λ t. grow T steps d d s t.0 t.1) ≡ grow T steps d d s (k, c) rest
+begin_reads : (T : Tables) (steps : Steps) (d : ℕ) (s : Sort) (k : NodeKind) (is : List Item) (c : Forest)
+    (ts rest : List Token) → T.form s ts ≡ Some (k, is) → steps is ts ≡ Some (c, rest)
+    → (begin steps (T.form s ts) ts >>= λ t. grow T steps d d s t.0 t.1) ≡ grow T steps d d s (k, c) rest
 begin_reads T steps d s k is c ts rest p e = rw (p, e) refl
 
-onward_reads : (T : Tables) (steps : Steps) (d m : ℕ) (s : Sort) (j k : NodeKind) (is : List Item) (b f : Forest) (ts rest : List Token) → T.tail s (j, b) ts ≡ Some (k, is) → steps is ts ≡ Some (f, rest) → depth b + 1 < d → grow T steps d (suc m) s (j, b) ts ≡ grow T steps d m s (k, node j b f) rest
+onward_reads : (T : Tables) (steps : Steps) (d m : ℕ) (s : Sort) (j k : NodeKind) (is : List Item) (b f : Forest)
+    (ts rest : List Token) → T.tail s (j, b) ts ≡ Some (k, is) → steps is ts ≡ Some (f, rest) → depth b + 1 < d
+    → grow T steps d (suc m) s (j, b) ts ≡ grow T steps d m s (k, node j b f) rest
 onward_reads T steps d m s j k is b f ts rest p e low = rw (p, e, lt-ltb (depth b + 1) d low) refl
 
 ends_reads : (T : Tables) (steps : Steps) (d m : ℕ) (s : Sort) (t : Tree) (rest : List Token) → T.tail s t rest ≡ None → grow T steps d m s t rest ≡ Some (t, rest)
@@ -151,7 +203,9 @@ ends_reads T steps d zero s t rest p = rw p refl
 ends_reads T steps d (suc m) s t rest p = rw p refl
 
 module _ (T : Tables) (top : ℕ) (rank : Group → ℕ) (law : Ranked T top rank) (d : ℕ) (ih : ChildReads T d (parse T top d)) where
-  grows_read : {s : Sort} {k : NodeKind} {c : Forest} {rest : List Token} → Grows T s k c rest → depth c < suc d → Onward T (walk T (parse T top d) top) (suc d) s (k, c) (leaves c ++ rest) rest (parse T top (suc d) s (leaves c ++ rest))
+  grows_read : {s : Sort} {k : NodeKind} {c : Forest} {rest : List Token} → Grows T s k c rest → depth c < suc d
+      → Onward T (walk T (parse T top d) top) (suc d) s (k, c) (leaves c ++ rest) rest
+      (parse T top (suc d) s (leaves c ++ rest))
   grows_read (head {s} {k} {is} {c} {rest} p w) low =
       let e = walk_reads T top rank law d (parse T top d) ih top w (law.forms s (leaves c ++ rest) (k, is) p) (omega arith) in
       record {
@@ -165,13 +219,20 @@ module _ (T : Tables) (top : ℕ) (rank : Group → ℕ) (law : Ranked T top ran
       let e = walk_reads T top rank law d (parse T top d) ih top w (law.tails s (j, b) mid (k, is) p) (omega arith) in
       go j k is b f rest p e (omega arith) low o.fuel o.enough o.same
     where
-      go : (j k : NodeKind) (is : List Item) (b f : Forest) (rest : List Token) → T.tail s (j, b) (leaves f ++ rest) ≡ Some (k, is) → walk T (parse T top d) top is (leaves f ++ rest) ≡ Some (f, rest) → depth b + 1 < suc d → depth (node j b f) < suc d → (m : ℕ) → suc d ≤ m + depth b → parse T top (suc d) s (leaves b ++ (leaves f ++ rest)) ≡ grow T (walk T (parse T top d) top) (suc d) m s (j, b) (leaves f ++ rest) → Onward T (walk T (parse T top d) top) (suc d) s (k, node j b f) (leaves (node j b f) ++ rest) rest (parse T top (suc d) s (leaves (node j b f) ++ rest))
+      go : (j k : NodeKind) (is : List Item) (b f : Forest) (rest : List Token)
+          → T.tail s (j, b) (leaves f ++ rest) ≡ Some (k, is)
+          → walk T (parse T top d) top is (leaves f ++ rest) ≡ Some (f, rest) → depth b + 1 < suc d
+          → depth (node j b f) < suc d → (m : ℕ) → suc d ≤ m + depth b
+          → parse T top (suc d) s (leaves b ++ (leaves f ++ rest)) ≡ grow T (walk T (parse T top d) top) (suc d) m s
+          (j, b) (leaves f ++ rest) → Onward T (walk T (parse T top d) top) (suc d) s (k, node j b f)
+          (leaves (node j b f) ++ rest) rest (parse T top (suc d) s (leaves (node j b f) ++ rest))
       go j k is b f rest p e low1 low zero enough same = absurd (omega arith)
       go j k is b f rest p e low1 low (suc m) enough same =
           record {
             fuel = m;
             enough = omega arith;
-            same = ap (parse T top (suc d) s) (append_assoc (leaves b) (leaves f) rest) ∙ same ∙ onward_reads T (walk T (parse T top d) top) (suc d) m s j k is b f (leaves f ++ rest) rest p e low1;
+            same = ap (parse T top (suc d) s) (append_assoc (leaves b) (leaves f) rest) ∙ same
+                ∙ onward_reads T (walk T (parse T top d) top) (suc d) m s j k is b f (leaves f ++ rest) rest p e low1;
           }
 
 -- What is spelled so is read, whatever follows, where it is no deeper than d.
@@ -185,7 +246,9 @@ abbrev pub read : Tree → List Token → Read Tree
 read t rest = Some (t, rest)
 
 -- The tokens have at most one front that is a node of the sort, and it has one tree.
-pub one_tree : (T : Tables) (top : ℕ) (rank : Group → ℕ) → Ranked T top rank → (s : Sort) (t u : Tree) (after_t after_u : List Token) → Spells T s t after_t → Spells T s u after_u → leaves t.1 ++ after_t ≡ leaves u.1 ++ after_u → read t after_t ≡ read u after_u
+pub one_tree : (T : Tables) (top : ℕ) (rank : Group → ℕ) → Ranked T top rank
+    → (s : Sort) (t u : Tree) (after_t after_u : List Token) → Spells T s t after_t → Spells T s u after_u
+    → leaves t.1 ++ after_t ≡ leaves u.1 ++ after_u → read t after_t ≡ read u after_u
 one_tree T top rank law s t u after_t after_u p q e =
     let d = depth t.1 + depth u.1 + 1 in
     let a = parse_complete T top rank law d s t.0 t.1 after_t p.0 p.1 (omega arith) in

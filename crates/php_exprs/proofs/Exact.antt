@@ -21,7 +21,9 @@ use Rattle.php_exprs.proofs.Sound.{parse_sound}
 use Rattle.php_exprs.proofs.Complete.{parse_complete, read}
 use Rattle.php_grammar.proofs.Ranks.{rank, php_ranked}
 
-is_read : (v : Version) (s : Sort) (d : ℕ) (all : List Token) (old new : Row) (c : Closed) → GivesTree (Ok c) v all old new d (node_at (php v) d s (behind all old)) → (t : Tree) × ReadsNode v s d all old new c t
+is_read : (v : Version) (s : Sort) (d : ℕ) (all : List Token) (old new : Row) (c : Closed)
+    → GivesTree (Ok c) v all old new d (node_at (php v) d s (behind all old)) → (t : Tree)
+    × ReadsNode v s d all old new c t
 unfolding node_at
 is_read v s d all old new c g = go (parse (php v) 7 d s (behind all old)) refl g
   where
@@ -32,7 +34,9 @@ is_read v s d all old new c g = go (parse (php v) 7 d s (behind all old)) refl g
         let P : List Token → Type 0 = λ rest. Reads v s d (behind all old) y.0 rest in
         (y.0, record { reads = subst P (sym g.2) (record { spells = p.spells; text = p.text; low = p.low }); added = g.0; told = g.1 })
 
-pub only_read : (v : Version) (s : Sort) (d : ℕ) (all : List Token) (old new : Row) (r : Result Closed ParseFault) → GivesTree r v all old new d (node_at (php v) d s (behind all old)) → (t : Tree) (rest : List Token) → Reads v s d (behind all old) t rest → Answers r all old new t rest
+pub only_read : (v : Version) (s : Sort) (d : ℕ) (all : List Token) (old new : Row) (r : Result Closed ParseFault)
+    → GivesTree r v all old new d (node_at (php v) d s (behind all old)) → (t : Tree) (rest : List Token)
+    → Reads v s d (behind all old) t rest → Answers r all old new t rest
 unfolding node_at
 only_read v s d all old new (Err Memory) g t rest p = tt
 only_read v s d all old new (Err NotInGrammar) g t rest p =
@@ -49,6 +53,8 @@ only_read v s d all old new (Ok x) g t rest p = go (parse (php v) 7 d s (behind 
         let P : Tree → Type 0 = λ u. Grew old new (alone u) in
         (subst P (ap (λ (y : Tree × List Token). y.0) same) g.0.grew, g.2 ∙ ap (λ (y : Tree × List Token). y.1) same)
 
-pub found_from : (v : Version) (s : Sort) (d : ℕ) (all : List Token) (old new : Row) (r : Result Closed ParseFault) → GivesTree r v all old new d (node_at (php v) d s (behind all old)) → IfOk r (λ c. (t : Tree) × ReadsNode v s d all old new c t)
+pub found_from : (v : Version) (s : Sort) (d : ℕ) (all : List Token) (old new : Row) (r : Result Closed ParseFault)
+    → GivesTree r v all old new d (node_at (php v) d s (behind all old))
+    → IfOk r (λ c. (t : Tree) × ReadsNode v s d all old new c t)
 found_from v s d all old new (Ok c) g = is_read v s d all old new c g
 found_from v s d all old new (Err e) g = tt

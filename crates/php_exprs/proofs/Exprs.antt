@@ -1,5 +1,35 @@
 -- Expressions of tokens that stand elsewhere.
-use Rattle.std.proofs.Common.{◌≡◌, ℕ, zero, suc, ◌+◌, ◌-◌, ◌<◌, ◌≤◌, List, [], ◌∷◌, ◌++◌, length, take, drop, map, Option, Some, None, Result, Ok, Err, slice_range, refl, sym, ap, ◌∙◌, subst, arith}
+use Rattle.std.proofs.Common.{
+  ◌≡◌,
+  ℕ,
+  zero,
+  suc,
+  ◌+◌,
+  ◌-◌,
+  ◌<◌,
+  ◌≤◌,
+  List,
+  [],
+  ◌∷◌,
+  ◌++◌,
+  length,
+  take,
+  drop,
+  map,
+  Option,
+  Some,
+  None,
+  Result,
+  Ok,
+  Err,
+  slice_range,
+  refl,
+  sym,
+  ap,
+  ◌∙◌,
+  subst,
+  arith,
+}
 use Rattle.std.proofs.lemmas.List.{append-nil, drop_all, drop-take, length-append, length-drop, length-map, take-map}
 use Rattle.std.specs.List.{drop-map}
 use Rattle.php_tree.specs.declared.kind.NodeKind.{NodeKind}
@@ -87,7 +117,8 @@ abbrev with_leaves : Tree → List Token → Tree
 with_leaves x ts = (x.0, with_tokens x.1 ts)
 
 -- the tree of tokens that stand elsewhere, with these tokens
-pub placed_tree : (v : Version) (s : Sort) (d : ℕ) (ts us : List Token) (x : Tree) → all_placeless ts ≡ all_placeless us → Reads v s d us x [] → Reads v s d ts (with_leaves x ts) []
+pub placed_tree : (v : Version) (s : Sort) (d : ℕ) (ts us : List Token) (x : Tree)
+    → all_placeless ts ≡ all_placeless us → Reads v s d us x [] → Reads v s d ts (with_leaves x ts) []
 placed_tree v s d ts us x e r =
     let c = parse_complete (php v) 7 rank (php_ranked v) d s x.0 x.1 [] r.spells.0 r.spells.1 r.low in
     let there : parse (php v) 7 d s us ≡ Some (x, []) = ap (parse (php v) 7 d s) r.text ∙ c in
@@ -124,13 +155,16 @@ front_same ts us a b le e =
 abbrev expression : Sort
 expression = Operand 24
 
-whole_reads : (v : Version) (d : ℕ) (us : List Token) (old new : Row) (c : Closed) (t : Tree) → old.at ≡ 0 → ReadsNode v expression d us old new c t → length us ≤ new.at → Reads v expression d us t []
+whole_reads : (v : Version) (d : ℕ) (us : List Token) (old new : Row) (c : Closed) (t : Tree) → old.at ≡ 0
+    → ReadsNode v expression d us old new c t → length us ≤ new.at → Reads v expression d us t []
 whole_reads v d us old new c t z r le =
     let here : behind us old ≡ us = ap (λ (n : ℕ). drop n us) z in
     let rest : behind us new ≡ [] = drop_all new.at us le in
     subst (λ (xs : List Token). Reads v expression d xs t []) here (subst (λ (xs : List Token). Reads v expression d (behind us old) t xs) rest r.reads)
 
-pub whole_found : (v : Version) (d : ℕ) (ts us : List Token) (old new : Row) (c : Closed) (t x : Tree) (f : Forest) → old.at ≡ 0 → ReadsNode v expression d us old new c t → length us ≤ new.at → all_placeless ts ≡ all_placeless us → x ≡ (c.kind, with_tokens f ts) → f ≡ t.1 → IsExpression v d ts x
+pub whole_found : (v : Version) (d : ℕ) (ts us : List Token) (old new : Row) (c : Closed) (t x : Tree) (f : Forest)
+    → old.at ≡ 0 → ReadsNode v expression d us old new c t → length us ≤ new.at → all_placeless ts ≡ all_placeless us
+    → x ≡ (c.kind, with_tokens f ts) → f ≡ t.1 → IsExpression v d ts x
 whole_found v d ts us old new c t x f z r le e is parts =
     let p = placed_tree v expression d ts us t e (whole_reads v d us old new c t z r le) in
     let same : x ≡ with_leaves t ts = is ∙ ap (λ (k : NodeKind). with_kind k (with_tokens f ts)) r.told.kind ∙ ap (λ (g : Forest). with_kind t.0 (with_tokens g ts)) parts in
@@ -139,18 +173,26 @@ whole_found v d ts us old new c t x f z r le e is parts =
     with_kind : NodeKind → Forest → Tree
     with_kind k g = (k, g)
 
-pub whole_count : (v : Version) (d : ℕ) (ts us : List Token) (old new : Row) (c : Closed) (t : Tree) (f : Forest) → old.at ≡ 0 → ReadsNode v expression d us old new c t → length us ≤ new.at → all_placeless ts ≡ all_placeless us → f ≡ t.1 → length ts ≡ tokens f
+pub whole_count : (v : Version) (d : ℕ) (ts us : List Token) (old new : Row) (c : Closed) (t : Tree) (f : Forest)
+    → old.at ≡ 0 → ReadsNode v expression d us old new c t → length us ≤ new.at → all_placeless ts ≡ all_placeless us
+    → f ≡ t.1 → length ts ≡ tokens f
 whole_count v d ts us old new c t f z r le e parts =
     let q = whole_reads v d us old new c t z r le in
-    sym (length-map ts placeless) ∙ ap (λ (xs : List Token). length xs) e ∙ length-map us placeless ∙ ap (λ (xs : List Token). length xs) (q.text ∙ append-nil (leaves t.1)) ∙ ap tokens (sym parts)
+    sym (length-map ts placeless) ∙ ap (λ (xs : List Token). length xs) e ∙ length-map us placeless
+    ∙ ap (λ (xs : List Token). length xs) (q.text ∙ append-nil (leaves t.1)) ∙ ap tokens (sym parts)
 
-pub whole_inner : (v : Version) (d : ℕ) (all : Tokens) (old new : Row) (c : Closed) (t : Tree) → old.nodes.items ≡ [] → ReadsNode v expression d (tokens_in all) old new c t → IsInner old 0 new all t.0 t.1 (behind (tokens_in all) new)
+pub whole_inner : (v : Version) (d : ℕ) (all : Tokens) (old new : Row) (c : Closed) (t : Tree) → old.nodes.items ≡ []
+    → ReadsNode v expression d (tokens_in all) old new c t → IsInner old 0 new all t.0 t.1
+    (behind (tokens_in all) new)
 whole_inner v d all old new c t n r =
     let w = r.added.within in
     let m = marks_many all in
     record { grew = r.added.grew; place = ap length n; text = r.added.text; within = omega arith }
 
-pub whole_none : (v : Version) (d : ℕ) (ts us : List Token) (old new : Row) (c : Closed) → old.at ≡ 0 → new.at < length us → all_placeless ts ≡ all_placeless us → ((t : Tree) (rest : List Token) → Reads v expression d (behind us old) t rest → Answers (Ok c) us old new t rest) → IsNone v d ts
+pub whole_none : (v : Version) (d : ℕ) (ts us : List Token) (old new : Row) (c : Closed) → old.at ≡ 0
+    → new.at < length us → all_placeless ts ≡ all_placeless us
+    → ((t : Tree) (rest : List Token) → Reads v expression d (behind us old) t rest
+    → Answers (Ok c) us old new t rest) → IsNone v d ts
 whole_none v d ts us old new c z lt e only t p =
     let q = placed_tree v expression d us ts t (sym e) p in
     let here : us ≡ behind us old = ap (λ (n : ℕ). drop n us) (sym z) in
@@ -159,7 +201,10 @@ whole_none v d ts us old new c z lt e only t p =
     let m = length-drop new.at us in
     omega arith
 
-pub whole_fails : (v : Version) (d : ℕ) (ts us : List Token) (old new : Row) (e : ParseFault) → old.at ≡ 0 → e ≡ NotInGrammar → all_placeless ts ≡ all_placeless us → ((t : Tree) (rest : List Token) → Reads v expression d (behind us old) t rest → Answers (Err e) us old new t rest) → IsNone v d ts
+pub whole_fails : (v : Version) (d : ℕ) (ts us : List Token) (old new : Row) (e : ParseFault) → old.at ≡ 0
+    → e ≡ NotInGrammar → all_placeless ts ≡ all_placeless us
+    → ((t : Tree) (rest : List Token) → Reads v expression d (behind us old) t rest
+    → Answers (Err e) us old new t rest) → IsNone v d ts
 whole_fails v d ts us old new e z is same only t p =
     let q = placed_tree v expression d us ts t (sym same) p in
     let here : us ≡ behind us old = ap (λ (n : ℕ). drop n us) (sym z) in

@@ -32,7 +32,8 @@ added_join v all a b c f g p q =
     let d2 = q.deep in
     record {
       grew = grew_join a.0 b.0 c.0 f g p.grew q.grew;
-      text = join_text (behind all a.0) (behind all b.0) (behind all c.0) (leaves f) (leaves g) p.text q.text ∙ ap (λ (us : List Token). us ++ behind all c.0) (sym (leaves_append f g));
+      text = join_text (behind all a.0) (behind all b.0) (behind all c.0) (leaves f) (leaves g) p.text q.text
+          ∙ ap (λ (us : List Token). us ++ behind all c.0) (sym (leaves_append f g));
       within = q.within;
       deep = omega (arith, depth_append f g);
       edge = q.edge ∙ ap (λ (e : ℕ). edge_from v e g) p.edge ∙ sym (edge_append v a.1.edge f g);
@@ -43,7 +44,9 @@ pub behind_more : (all : List Token) (old new : Row) (f : Forest) → behind all
 behind_more all old new f e = ap length e ∙ length-append (leaves f) (behind all new)
 
 -- a node was read, and its number is known
-pub node_added : (v : Version) (all : List Token) (old new : State) (c : Closed) (x : Tree) → AddedNode all old.0 new.0 x → IsClosed v c x → new.1.deep ≡ max old.1.deep c.deep → new.1.edge ≡ c.edge → Added v all old new (node x.0 x.1 none)
+pub node_added : (v : Version) (all : List Token) (old new : State) (c : Closed) (x : Tree)
+    → AddedNode all old.0 new.0 x → IsClosed v c x → new.1.deep ≡ max old.1.deep c.deep → new.1.edge ≡ c.edge
+    → Added v all old new (node x.0 x.1 none)
 node_added v all old new c x a i d e =
     let h = i.deep in
     record {
@@ -62,7 +65,9 @@ next_behind all n t ts e = sym (drop-drop 1 n all) ∙ ap (drop 1) e
 some_behind : (all : List Token) (n : ℕ) (t : Token) (ts : List Token) → drop n all ≡ t ∷ ts → n + 1 ≤ length all
 some_behind all n t ts e = let l = ap length e in let m = length-drop n all in omega arith
 
-pub leaf_added : (v : Version) (all : List Token) (old new : State) (t : Token) (ts : List Token) → behind all old.0 ≡ t ∷ ts → Grew old.0 new.0 (leaf t none) → new.0.at ≡ old.0.at + 1 → new.1.deep ≡ old.1.deep → new.1.edge ≡ 0 → Added v all old new (leaf t none) × (behind all new.0 ≡ ts)
+pub leaf_added : (v : Version) (all : List Token) (old new : State) (t : Token) (ts : List Token)
+    → behind all old.0 ≡ t ∷ ts → Grew old.0 new.0 (leaf t none) → new.0.at ≡ old.0.at + 1 → new.1.deep ≡ old.1.deep
+    → new.1.edge ≡ 0 → Added v all old new (leaf t none) × (behind all new.0 ≡ ts)
 leaf_added v all old new t ts e g at d z =
     let rest : behind all new.0 ≡ ts = ap (λ (n : ℕ). drop n all) at ∙ next_behind all old.0.at t ts e in
     let w = some_behind all old.0.at t ts e in (
@@ -103,7 +108,9 @@ pub taken : (n : ℕ) (ts : List Token) → n ≤ length ts → length (take n t
 taken = take_length
 
 -- so many tokens
-pub leaves_added : (v : Version) (all : List Token) (old new : State) (n : ℕ) → n ≤ length (behind all old.0) → old.0.at ≤ length all → Grew old.0 new.0 (leafed (take n (behind all old.0)) none) → new.0.at ≡ old.0.at + n → new.1.deep ≡ old.1.deep → (0 < n → new.1.edge ≡ 0) → (n ≡ 0 → new.1.edge ≡ old.1.edge)
+pub leaves_added : (v : Version) (all : List Token) (old new : State) (n : ℕ) → n ≤ length (behind all old.0)
+    → old.0.at ≤ length all → Grew old.0 new.0 (leafed (take n (behind all old.0)) none) → new.0.at ≡ old.0.at + n
+    → new.1.deep ≡ old.1.deep → (0 < n → new.1.edge ≡ 0) → (n ≡ 0 → new.1.edge ≡ old.1.edge)
     → Added v all old new (leafed (take n (behind all old.0)) none) × (behind all new.0 ≡ drop n (behind all old.0))
 leaves_added v all old new n le w g at d many empty =
     let us = take n (behind all old.0) in
@@ -127,19 +134,24 @@ leaves_added v all old new n le w g at d many empty =
 -- ---- a node and its parts
 
 -- what was opened, and parts behind it
-pub ready : (v : Version) (all : List Token) (before : Row) (old new : State) (from : ℕ) (c f : Forest) → IsOpen before old.0 from c → behind all before ≡ leaves c ++ behind all old.0 → old.1.deep ≡ depth c → old.1.edge ≡ edge_from v 0 c → Added v all old new f → IsReady v all before new.0 from new.1 (c +++ f)
+pub ready : (v : Version) (all : List Token) (before : Row) (old new : State) (from : ℕ) (c f : Forest)
+    → IsOpen before old.0 from c → behind all before ≡ leaves c ++ behind all old.0 → old.1.deep ≡ depth c
+    → old.1.edge ≡ edge_from v 0 c → Added v all old new f → IsReady v all before new.0 from new.1 (c +++ f)
 ready v all before old new from c f o t d e a =
     let d1 = a.deep in
     record {
       opened = open_grew before old.0 new.0 from c f o a.grew;
-      text = join_text (behind all before) (behind all old.0) (behind all new.0) (leaves c) (leaves f) t a.text ∙ ap (λ (us : List Token). us ++ behind all new.0) (sym (leaves_append c f));
+      text = join_text (behind all before) (behind all old.0) (behind all new.0) (leaves c) (leaves f) t a.text
+          ∙ ap (λ (us : List Token). us ++ behind all new.0) (sym (leaves_append c f));
       within = a.within;
       deep = omega (arith, depth_append c f);
       edge = a.edge ∙ ap (λ (n : ℕ). edge_from v n f) e ∙ sym (edge_append v 0 c f);
     }
 
 -- the node of these parts
-pub closed_node : (v : Version) (all : List Token) (before now new : Row) (from : ℕ) (reach : Reach) (k : NodeKind) (f : Forest) → IsReady v all before now from reach f → new.at ≡ now.at → Grew before new (node k f none) → AddedNode all before new (k, f)
+pub closed_node : (v : Version) (all : List Token) (before now new : Row) (from : ℕ) (reach : Reach) (k : NodeKind)
+    (f : Forest) → IsReady v all before now from reach f → new.at ≡ now.at → Grew before new (node k f none)
+    → AddedNode all before new (k, f)
 closed_node v all before now new from reach k f r at g =
     let w = r.within in
     record {
@@ -166,7 +178,9 @@ pub marks_many : (ts : Tokens) → length (tokens_in ts) ≡ length ts.marks.now
 marks_many ts = length-map ts.marks.now (token_at ts.bytes.now)
 
 -- the parts of the node
-pub inner_of : (v : Version) (all : Tokens) (before now new : Row) (from : ℕ) (reach : Reach) (k : NodeKind) (f : Forest) → IsReady v (tokens_in all) before now from reach f → new.at ≡ now.at → Grew before new (node k f none) → IsInner before from new all k f (behind (tokens_in all) now)
+pub inner_of : (v : Version) (all : Tokens) (before now new : Row) (from : ℕ) (reach : Reach) (k : NodeKind)
+    (f : Forest) → IsReady v (tokens_in all) before now from reach f → new.at ≡ now.at
+    → Grew before new (node k f none) → IsInner before from new all k f (behind (tokens_in all) now)
 inner_of v all before now new from reach k f r at g =
     let w = r.within in
     let m = marks_many all in

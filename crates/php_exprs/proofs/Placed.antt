@@ -1,5 +1,36 @@
 -- What is read doesn't depend on where tokens stand.
-use Rattle.std.proofs.Common.{◌≡◌, ℕ, zero, suc, ◌+◌, ◌-◌, ◌<◌, ◌≤◌, max, Bool, true, false, List, [], ◌∷◌, ◌++◌, length, take, drop, map, Option, Some, None, nat_lt, refl, sym, ap, ◌∙◌, subst, arith}
+use Rattle.std.proofs.Common.{
+  ◌≡◌,
+  ℕ,
+  zero,
+  suc,
+  ◌+◌,
+  ◌-◌,
+  ◌<◌,
+  ◌≤◌,
+  max,
+  Bool,
+  true,
+  false,
+  List,
+  [],
+  ◌∷◌,
+  ◌++◌,
+  length,
+  take,
+  drop,
+  map,
+  Option,
+  Some,
+  None,
+  nat_lt,
+  refl,
+  sym,
+  ap,
+  ◌∙◌,
+  subst,
+  arith,
+}
 use Rattle.std.proofs.lemmas.List.{length-map}
 use Rattle.php_tree.specs.declared.kind.NodeKind.{NodeKind}
 use Rattle.php_tree.specs.declared.token.Token.{Token}
@@ -69,25 +100,45 @@ abbrev BlindMore : (List Token → Read Forest) → Type 0
 BlindMore more = (ts : List Token) → more (all_placeless ts) ≡ forest_read (more ts)
 
 module _ (v : Version) where
-  turn_then : (more : List Token → Read Forest) → BlindMore more → (ts : List Token) (r : Read Forest) → (forest_read r >>= λ h. given (nat_lt (length h.1) (length (all_placeless ts))) (more h.1) >>= λ f. Some (h.0 +++ f.0, f.1)) ≡ forest_read (r >>= λ h. given (nat_lt (length h.1) (length ts)) (more h.1) >>= λ f. Some (h.0 +++ f.0, f.1))
+  turn_then : (more : List Token → Read Forest) → BlindMore more → (ts : List Token) (r : Read Forest)
+      → (forest_read r >>= λ h. given (nat_lt (length h.1) (length (all_placeless ts))) (more h.1) >>= λ f. Some
+      (h.0 +++ f.0, f.1)) ≡ forest_read (r >>= λ h. given (nat_lt (length h.1) (length ts)) (more h.1) >>= λ f. Some
+      (h.0 +++ f.0, f.1))
   turn_then more blind ts None = refl
   turn_then more blind ts (Some h) =
-      rw (length-map h.1 placeless, length-map ts placeless, blind h.1, gives (nat_lt (length h.1) (length ts)) (more h.1)) (joins h.0 (given (nat_lt (length h.1) (length ts)) (more h.1)))
+      rw (
+        length-map h.1 placeless,
+        length-map ts placeless,
+        blind h.1,
+        gives (nat_lt (length h.1) (length ts)) (more h.1),
+      )
+      (joins h.0 (given (nat_lt (length h.1) (length ts)) (more h.1)))
 
-  turn_p : (steps : Steps) (more : List Token → Read Forest) → Blind steps → BlindMore more → (is : List Item) (ts : List Token) → turn_at steps more is (all_placeless ts) ≡ forest_read (turn_at steps more is ts)
+  turn_p : (steps : Steps) (more : List Token → Read Forest) → Blind steps → BlindMore more
+      → (is : List Item) (ts : List Token) → turn_at steps more is (all_placeless ts) ≡ forest_read
+      (turn_at steps more is ts)
   turn_p steps more bs bm [] ts = refl
   turn_p steps more bs bm (i ∷ is) ts = rw (bs (i ∷ is) ts) (turn_then more bm ts (steps (i ∷ is) ts))
 
   turns_p : (steps : Steps) → Blind steps → (n : ℕ) (g : Group) (ts : List Token) → turns_at (php v) steps n g (all_placeless ts) ≡ forest_read (turns_at (php v) steps n g ts)
-  turns_p steps bs zero g ts = ap (λ (is : List Item). turn_at steps (λ _. None) is (all_placeless ts)) (parts_p v g ts) ∙ turn_p steps (λ _. None) bs (λ us. refl) ((php v).parts g ts) ts
-  turns_p steps bs (suc n) g ts = ap (λ (is : List Item). turn_at steps (turns_at (php v) steps n g) is (all_placeless ts)) (parts_p v g ts) ∙ turn_p steps (turns_at (php v) steps n g) bs (turns_p steps bs n g) ((php v).parts g ts) ts
+  turns_p steps bs zero g ts = ap (λ (is : List Item). turn_at steps (λ _. None) is (all_placeless ts))
+      (parts_p v g ts) ∙ turn_p steps (λ _. None) bs (λ us. refl) ((php v).parts g ts) ts
+  turns_p steps bs (suc n) g ts = ap (λ (is : List Item). turn_at steps (turns_at (php v) steps n g) is
+      (all_placeless ts)) (parts_p v g ts) ∙ turn_p steps (turns_at (php v) steps n g) bs (turns_p steps bs n g)
+      ((php v).parts g ts) ts
 
   -- a step, and the items behind it
-  behind_step : (more : Steps) (is : List Item) → ((us : List Token) → more is (all_placeless us) ≡ forest_read (more is us)) → (r : Read Forest) → (forest_read r >>= λ h. more is h.1 >>= λ f. Some (h.0 +++ f.0, f.1)) ≡ forest_read (r >>= λ h. more is h.1 >>= λ f. Some (h.0 +++ f.0, f.1))
+  behind_step : (more : Steps) (is : List Item)
+      → ((us : List Token) → more is (all_placeless us) ≡ forest_read (more is us)) → (r : Read Forest)
+      → (forest_read r >>= λ h. more is h.1 >>= λ f. Some (h.0 +++ f.0, f.1)) ≡ forest_read
+      (r >>= λ h. more is h.1 >>= λ f. Some (h.0 +++ f.0, f.1))
   behind_step more is bm None = refl
   behind_step more is bm (Some h) = rw (bm h.1) (joins h.0 (more is h.1))
 
-  behind_child : (more : Steps) (is : List Item) → ((us : List Token) → more is (all_placeless us) ≡ forest_read (more is us)) → (r : Read Tree) → (tree_read r >>= λ n. more is n.1 >>= λ f. Some (node n.0.0 n.0.1 f.0, f.1)) ≡ forest_read (r >>= λ n. more is n.1 >>= λ f. Some (node n.0.0 n.0.1 f.0, f.1))
+  behind_child : (more : Steps) (is : List Item)
+      → ((us : List Token) → more is (all_placeless us) ≡ forest_read (more is us)) → (r : Read Tree)
+      → (tree_read r >>= λ n. more is n.1 >>= λ f. Some (node n.0.0 n.0.1 f.0, f.1)) ≡ forest_read
+      (r >>= λ n. more is n.1 >>= λ f. Some (node n.0.0 n.0.1 f.0, f.1))
   behind_child more is bm None = refl
   behind_child more is bm (Some n) = rw (bm n.1) (nodes n.0 (more is n.1))
 
@@ -95,13 +146,16 @@ module _ (v : Version) where
   items_p child steps bc bs [] ts = refl
   items_p child steps bc bs (Word c ∷ is) [] = refl
   items_p child steps bc bs (Word c ∷ is) (t ∷ ts) =
-      rw (accepts_p v c t, items_p child steps bc bs is ts, leads t (items_at (php v) child steps is ts)) (gives ((php v).accepts c t) (items_at (php v) child steps is ts >>= λ f. Some (leaf t f.0, f.1)))
+      rw (accepts_p v c t, items_p child steps bc bs is ts, leads t (items_at (php v) child steps is ts))
+      (gives ((php v).accepts c t) (items_at (php v) child steps is ts >>= λ f. Some (leaf t f.0, f.1)))
   items_p child steps bc bs (Node s ∷ is) ts = rw (bc s ts) (behind_child (items_at (php v) child steps) is (λ us. items_p child steps bc bs is us) (child s ts))
   items_p child steps bc bs (Part g ∷ is) ts =
       ap (λ (js : List Item). steps js (all_placeless ts) >>= λ h. items_at (php v) child steps is h.1 >>= λ f. Some (h.0 +++ f.0, f.1)) (parts_p v g ts)
       ∙ rw (bs ((php v).parts g ts) ts) (behind_step (items_at (php v) child steps) is (λ us. items_p child steps bc bs is us) (steps ((php v).parts g ts) ts))
   items_p child steps bc bs (Turns g ∷ is) ts =
-      rw (length-map ts placeless, turns_p steps bs (length ts) g ts) (behind_step (items_at (php v) child steps) is (λ us. items_p child steps bc bs is us) (turns_at (php v) steps (length ts) g ts))
+      rw (length-map ts placeless, turns_p steps bs (length ts) g ts)
+      (behind_step (items_at (php v) child steps) is (λ us. items_p child steps bc bs is us)
+      (turns_at (php v) steps (length ts) g ts))
   items_p child steps bc bs (Span ∷ is) ts =
       rw (spanned_p 0 ts, run_p ((php v).span ts) ts) (behind_step (items_at (php v) child steps) is (λ us. items_p child steps bc bs is us) (run_at ((php v).span ts) ts))
 
@@ -116,18 +170,27 @@ module _ (v : Version) where
   gives_tree true r = refl
   gives_tree false r = refl
 
-  behind_parts : (more : Tree → List Token → Read Tree) → BlindGrow more → (k : NodeKind) (x : Tree) (r : Read Forest) → (forest_read r >>= λ f. more (k, node x.0 (forest_placeless x.1) f.0) f.1) ≡ tree_read (r >>= λ f. more (k, node x.0 x.1 f.0) f.1)
+  behind_parts : (more : Tree → List Token → Read Tree) → BlindGrow more → (k : NodeKind) (x : Tree) (r : Read Forest)
+      → (forest_read r >>= λ f. more (k, node x.0 (forest_placeless x.1) f.0) f.1) ≡ tree_read
+      (r >>= λ f. more (k, node x.0 x.1 f.0) f.1)
   behind_parts more bm k x None = refl
   behind_parts more bm k x (Some f) = bm (k, node x.0 x.1 f.0) f.1
 
-  grown_p : (steps : Steps) (more : Tree → List Token → Read Tree) → Blind steps → BlindGrow more → (d : ℕ) (x : Tree) (o : Option Form) (ts : List Token) → grown steps more d (tree_placeless x) o (all_placeless ts) ≡ tree_read (grown steps more d x o ts)
+  grown_p : (steps : Steps) (more : Tree → List Token → Read Tree) → Blind steps → BlindGrow more
+      → (d : ℕ) (x : Tree) (o : Option Form) (ts : List Token)
+      → grown steps more d (tree_placeless x) o (all_placeless ts) ≡ tree_read (grown steps more d x o ts)
   grown_p steps more bs bm d x None ts = refl
   grown_p steps more bs bm d x (Some form) ts =
-      rw (depth_p x.1, bs form.1 ts, behind_parts more bm form.0 x (steps form.1 ts)) (gives_tree (nat_lt (depth x.1 + 1) d) (steps form.1 ts >>= λ f. more (form.0, node x.0 x.1 f.0) f.1))
+      rw (depth_p x.1, bs form.1 ts, behind_parts more bm form.0 x (steps form.1 ts))
+      (gives_tree (nat_lt (depth x.1 + 1) d) (steps form.1 ts >>= λ f. more (form.0, node x.0 x.1 f.0) f.1))
 
   grow_p : (steps : Steps) → Blind steps → (d n : ℕ) (s : Sort) → BlindGrow (grow (php v) steps d n s)
-  grow_p steps bs d zero s x ts = ap (λ (o : Option Form). grown steps (λ _ _. None) d (tree_placeless x) o (all_placeless ts)) (tail_p v s x ts) ∙ grown_p steps (λ _ _. None) bs (λ y us. refl) d x ((php v).tail s x ts) ts
-  grow_p steps bs d (suc n) s x ts = ap (λ (o : Option Form). grown steps (grow (php v) steps d n s) d (tree_placeless x) o (all_placeless ts)) (tail_p v s x ts) ∙ grown_p steps (grow (php v) steps d n s) bs (grow_p steps bs d n s) d x ((php v).tail s x ts) ts
+  grow_p steps bs d zero s x ts = ap (λ (o : Option Form). grown steps (λ _ _. None) d (tree_placeless x) o
+      (all_placeless ts)) (tail_p v s x ts) ∙ grown_p steps (λ _ _. None) bs (λ y us. refl) d x ((php v).tail s x ts)
+      ts
+  grow_p steps bs d (suc n) s x ts = ap (λ (o : Option Form). grown steps (grow (php v) steps d n s) d
+      (tree_placeless x) o (all_placeless ts)) (tail_p v s x ts)
+      ∙ grown_p steps (grow (php v) steps d n s) bs (grow_p steps bs d n s) d x ((php v).tail s x ts) ts
 
   begin_p : (steps : Steps) → Blind steps → (o : Option Form) (ts : List Token) → begin steps o (all_placeless ts) ≡ tree_read (begin steps o ts)
   begin_p steps bs None ts = refl

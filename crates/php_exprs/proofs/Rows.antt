@@ -107,7 +107,8 @@ unfolding keywords operators labels is_misindented edge
 shift_dot_83 = refl
 
 -- `1 ** 2 ** 3` groups to the right
-pub powers : statement_of V83 (one ∷ op (codes "**") ∷ one ∷ op (codes "**") ∷ one ∷ semi ∷ []) ≡ Some (statement (binary number (op (codes "**")) (binary number (op (codes "**")) number)))
+pub powers : statement_of V83 (one ∷ op (codes "**") ∷ one ∷ op (codes "**") ∷ one ∷ semi ∷ []) ≡ Some
+    (statement (binary number (op (codes "**")) (binary number (op (codes "**")) number)))
 unfolding keywords operators labels is_misindented edge
 powers = refl
 
@@ -117,27 +118,33 @@ unfolding keywords operators labels is_misindented edge
 orders = refl
 
 -- `1 ?? 2 ?? 3` groups to the right
-pub coalesces : statement_of V83 (one ∷ op (codes "??") ∷ one ∷ op (codes "??") ∷ one ∷ semi ∷ []) ≡ Some (statement (binary number (op (codes "??")) (binary number (op (codes "??")) number)))
+pub coalesces : statement_of V83 (one ∷ op (codes "??") ∷ one ∷ op (codes "??") ∷ one ∷ semi ∷ []) ≡ Some
+    (statement (binary number (op (codes "??")) (binary number (op (codes "??")) number)))
 unfolding keywords operators labels is_misindented edge
 coalesces = refl
 
 -- `1 and 2 || 3`
-pub words : statement_of V83 (one ∷ key (codes "and") ∷ one ∷ op (codes "||") ∷ one ∷ semi ∷ []) ≡ Some (statement (binary number (key (codes "and")) (binary number (op (codes "||")) number)))
+pub words : statement_of V83 (one ∷ key (codes "and") ∷ one ∷ op (codes "||") ∷ one ∷ semi ∷ []) ≡ Some
+    (statement (binary number (key (codes "and")) (binary number (op (codes "||")) number)))
 unfolding keywords operators labels is_misindented edge
 words = refl
 
 -- `!$a instanceof B`
-pub not_instance : statement_of V83 (op (codes "!") ∷ a ∷ key (codes "instanceof") ∷ name ∷ semi ∷ []) ≡ Some (statement (prefix k.Prefix (op (codes "!")) (k.InstanceOf, before variable (leaf (key (codes "instanceof")) (leaf name none)))))
+pub not_instance : statement_of V83 (op (codes "!") ∷ a ∷ key (codes "instanceof") ∷ name ∷ semi ∷ []) ≡ Some
+    (statement (prefix k.Prefix (op (codes "!"))
+    (k.InstanceOf, before variable (leaf (key (codes "instanceof")) (leaf name none)))))
 unfolding keywords operators labels is_misindented edge
 not_instance = refl
 
 -- `-$a ** 2`
-pub minus_power : statement_of V83 (op (codes "-") ∷ a ∷ op (codes "**") ∷ one ∷ semi ∷ []) ≡ Some (statement (prefix k.Prefix (op (codes "-")) (binary variable (op (codes "**")) number)))
+pub minus_power : statement_of V83 (op (codes "-") ∷ a ∷ op (codes "**") ∷ one ∷ semi ∷ []) ≡ Some
+    (statement (prefix k.Prefix (op (codes "-")) (binary variable (op (codes "**")) number)))
 unfolding keywords operators labels is_misindented edge
 minus_power = refl
 
 -- `-1 * 2`
-pub minus_times : statement_of V83 (op (codes "-") ∷ one ∷ op (codes "*") ∷ one ∷ semi ∷ []) ≡ Some (statement (binary (prefix k.Prefix (op (codes "-")) number) (op (codes "*")) number))
+pub minus_times : statement_of V83 (op (codes "-") ∷ one ∷ op (codes "*") ∷ one ∷ semi ∷ []) ≡ Some
+    (statement (binary (prefix k.Prefix (op (codes "-")) number) (op (codes "*")) number))
 unfolding keywords operators labels is_misindented edge
 minus_times = refl
 
@@ -157,29 +164,36 @@ unfolding keywords operators labels is_misindented edge
 ternaries_83 = refl
 
 -- `1 ?: 2 ?: 3`
-pub short_ternaries : statement_of V83 (one ∷ op (codes "?") ∷ op (codes ":") ∷ one ∷ op (codes "?") ∷ op (codes ":") ∷ one ∷ semi ∷ []) ≡ Some (statement (short_ternary (short_ternary number number) number))
+pub short_ternaries : statement_of V83 (one ∷ op (codes "?") ∷ op (codes ":") ∷ one ∷ op (codes "?") ∷ op (codes ":")
+    ∷ one ∷ semi ∷ []) ≡ Some (statement (short_ternary (short_ternary number number) number))
 unfolding keywords operators labels is_misindented edge
 short_ternaries = refl
 
 -- ---- what reaches far right
 
 -- `-$a = 1 + 2`: the assignment takes the variable behind a tighter operator
-pub assigned : statement_of V83 (op (codes "-") ∷ a ∷ op (codes "=") ∷ one ∷ op (codes "+") ∷ one ∷ semi ∷ []) ≡ Some (statement (prefix k.Prefix (op (codes "-")) (between k.Assign variable (op (codes "=")) (binary number (op (codes "+")) number))))
+pub assigned : statement_of V83 (op (codes "-") ∷ a ∷ op (codes "=") ∷ one ∷ op (codes "+") ∷ one ∷ semi ∷ []) ≡ Some
+    (statement (prefix k.Prefix (op (codes "-"))
+    (between k.Assign variable (op (codes "=")) (binary number (op (codes "+")) number))))
 unfolding keywords operators labels is_misindented edge
 assigned = refl
 
 -- `1 + $a = 2`
-pub assigned_behind : statement_of V83 (one ∷ op (codes "+") ∷ a ∷ op (codes "=") ∷ one ∷ semi ∷ []) ≡ Some (statement (binary number (op (codes "+")) (between k.Assign variable (op (codes "=")) number)))
+pub assigned_behind : statement_of V83 (one ∷ op (codes "+") ∷ a ∷ op (codes "=") ∷ one ∷ semi ∷ []) ≡ Some
+    (statement (binary number (op (codes "+")) (between k.Assign variable (op (codes "=")) number)))
 unfolding keywords operators labels is_misindented edge
 assigned_behind = refl
 
 -- `1 * print 2 + 3`
-pub prints : statement_of V83 (one ∷ op (codes "*") ∷ key (codes "print") ∷ one ∷ op (codes "+") ∷ one ∷ semi ∷ []) ≡ Some (statement (binary number (op (codes "*")) (prefix k.Print (key (codes "print")) (binary number (op (codes "+")) number))))
+pub prints : statement_of V83 (one ∷ op (codes "*") ∷ key (codes "print") ∷ one ∷ op (codes "+") ∷ one ∷ semi ∷ []) ≡
+    Some (statement (binary number (op (codes "*"))
+    (prefix k.Print (key (codes "print")) (binary number (op (codes "+")) number))))
 unfolding keywords operators labels is_misindented edge
 prints = refl
 
 -- `++$a ** 2`
-pub steps : statement_of V83 (op (codes "++") ∷ a ∷ op (codes "**") ∷ one ∷ semi ∷ []) ≡ Some (statement (binary (prefix k.Prefix (op (codes "++")) variable) (op (codes "**")) number))
+pub steps : statement_of V83 (op (codes "++") ∷ a ∷ op (codes "**") ∷ one ∷ semi ∷ []) ≡ Some
+    (statement (binary (prefix k.Prefix (op (codes "++")) variable) (op (codes "**")) number))
 unfolding keywords operators labels is_misindented edge
 steps = refl
 
@@ -206,7 +220,14 @@ abbrev if_parts : Forest → Forest
 if_parts f = leaf (key (codes "if")) (leaf (op (codes "(")) (before number (leaf (op (codes ")")) f)))
 
 -- `if (1) if (1) 1; else 1;`
-pub nearest : statement_of V83 (condition (condition (one ∷ semi ∷ key (codes "else") ∷ one ∷ semi ∷ []))) ≡ Some (k.If, if_parts (before (k.If, if_parts (before (statement number) (leaf (key (codes "else")) (before (statement number) none)))) none))
+pub nearest : statement_of V83 (condition (condition (one ∷ semi ∷ key (codes "else") ∷ one ∷ semi ∷ []))) ≡ Some (
+  k.If,
+  if_parts (before (
+    k.If,
+    if_parts (before (statement number)
+        (leaf (key (codes "else")) (before (statement number) none))),
+  ) none),
+)
 unfolding keywords operators labels is_misindented edge
 nearest = refl
 
@@ -218,12 +239,16 @@ unfolding keywords operators labels is_misindented edge
 edges = refl
 
 -- `1 + print 2 and 3`
-pub print_before_and : statement_of V83 (one ∷ op (codes "+") ∷ key (codes "print") ∷ one ∷ key (codes "and") ∷ one ∷ semi ∷ []) ≡ Some (statement (binary (binary number (op (codes "+")) (prefix k.Print (key (codes "print")) number)) (key (codes "and")) number))
+pub print_before_and : statement_of V83 (one ∷ op (codes "+") ∷ key (codes "print") ∷ one ∷ key (codes "and") ∷ one
+    ∷ semi ∷ []) ≡ Some (statement (binary (binary number (op (codes "+"))
+    (prefix k.Print (key (codes "print")) number)) (key (codes "and")) number))
 unfolding keywords operators labels is_misindented edge
 print_before_and = refl
 
 -- `2 ** -1 * 3`
-pub minus_behind_power : statement_of V83 (one ∷ op (codes "**") ∷ op (codes "-") ∷ one ∷ op (codes "*") ∷ one ∷ semi ∷ []) ≡ Some (statement (binary (binary number (op (codes "**")) (prefix k.Prefix (op (codes "-")) number)) (op (codes "*")) number))
+pub minus_behind_power : statement_of V83 (one ∷ op (codes "**") ∷ op (codes "-") ∷ one ∷ op (codes "*") ∷ one ∷ semi
+    ∷ []) ≡ Some (statement (binary (binary number (op (codes "**")) (prefix k.Prefix (op (codes "-")) number))
+    (op (codes "*")) number))
 unfolding keywords operators labels is_misindented edge
 minus_behind_power = refl
 

@@ -1,5 +1,30 @@
 -- What the parser reads is spelled so.
-use Rattle.std.proofs.Common.{◌≡◌, ℕ, zero, suc, ◌+◌, ◌<◌, ◌≤◌, List, [], ◌∷◌, ◌++◌, length, Option, Some, None, nat_lt, refl, sym, ap, ◌∙◌, subst, append_assoc, arith, length-append}
+use Rattle.std.proofs.Common.{
+  ◌≡◌,
+  ℕ,
+  zero,
+  suc,
+  ◌+◌,
+  ◌<◌,
+  ◌≤◌,
+  List,
+  [],
+  ◌∷◌,
+  ◌++◌,
+  length,
+  Option,
+  Some,
+  None,
+  nat_lt,
+  refl,
+  sym,
+  ap,
+  ◌∙◌,
+  subst,
+  append_assoc,
+  arith,
+  length-append,
+}
 use Rattle.std.proofs.lemmas.Bool.{ltb-true}
 use Rattle.php_tree.specs.declared.token.Token.{Token}
 use Rattle.php_tree.specs.Tree.{depth, Forest, Tree, none, leaf, node, ◌+++◌, leaves}
@@ -29,7 +54,8 @@ abbrev ChildSound : Tables → ℕ → (Sort → List Token → Read Tree) → T
 ChildSound T d child_at = (s : Sort) (ts : List Token) (y : Tree × List Token) → child_at s ts ≡ Some y → TookNode T d s ts y
 
 two_texts : (f g : Forest) (ts mid rest : List Token) → ts ≡ leaves f ++ mid → mid ≡ leaves g ++ rest → ts ≡ leaves (f +++ g) ++ rest
-two_texts f g ts mid rest p q = p ∙ ap (λ (m : List Token). leaves f ++ m) q ∙ sym (append_assoc (leaves f) (leaves g) rest) ∙ ap (λ (m : List Token). m ++ rest) (sym (leaves_append f g))
+two_texts f g ts mid rest p q = p ∙ ap (λ (m : List Token). leaves f ++ m) q
+    ∙ sym (append_assoc (leaves f) (leaves g) rest) ∙ ap (λ (m : List Token). m ++ rest) (sym (leaves_append f g))
 
 low_both : (f g : Forest) (d : ℕ) → depth f ≤ d → depth g ≤ d → depth (f +++ g) ≤ d
 low_both f g d p q = omega (arith, depth_append f g)
@@ -52,7 +78,8 @@ run_sound (suc n) (t ∷ ts) y e =
 
 module _ (T : Tables) (d : ℕ) where
   -- a group and what follows it
-  after_part : (g : Group) (is : List Item) (ts : List Token) (h f : Forest × List Token) → Took T d (T.parts g ts) ts h → Took T d is h.1 f → Took T d (Part g ∷ is) ts (h.0 +++ f.0, f.1)
+  after_part : (g : Group) (is : List Item) (ts : List Token) (h f : Forest × List Token)
+      → Took T d (T.parts g ts) ts h → Took T d is h.1 f → Took T d (Part g ∷ is) ts (h.0 +++ f.0, f.1)
   after_part g is ts h f p q =
       let w = subst (λ (m : List Token). Walks T (T.parts g ts) h.0 m) q.text p.walks in
       let e = p.text ∙ ap (λ (m : List Token). leaves h.0 ++ m) q.text in
@@ -68,7 +95,10 @@ module _ (T : Tables) (d : ℕ) where
     text : ts ≡ leaves y.0 ++ y.1
     low : depth y.0 ≤ d
 
-  one_turn : (steps : Steps) (more : List Token → Read Forest) → StepsSound T d steps → (g : Group) → ((ts : List Token) (y : Forest × List Token) → more ts ≡ Some y → Turned g ts y) → (is : List Item) (ts : List Token) (y : Forest × List Token) → T.parts g ts ≡ is → turn_at steps more is ts ≡ Some y → Turned g ts y
+  one_turn : (steps : Steps) (more : List Token → Read Forest) → StepsSound T d steps → (g : Group)
+      → ((ts : List Token) (y : Forest × List Token) → more ts ≡ Some y → Turned g ts y)
+      → (is : List Item) (ts : List Token) (y : Forest × List Token) → T.parts g ts ≡ is
+      → turn_at steps more is ts ≡ Some y → Turned g ts y
   one_turn steps more sound g ih [] ts y p e =
       subst (λ (z : Forest × List Token). Turned g ts z) (some_is (none, ts) y e) (record {
         before = λ is f rest q w. stop (ap (T.parts g) (sym q) ∙ p) w;
@@ -146,7 +176,12 @@ module _ (T : Tables) (d : ℕ) where
       let whole : ts ≡ leaves h.0 ++ (leaves b.0.0 ++ b.0.1) = p.text ∙ ap (λ (m : List Token). leaves h.0 ++ m) r.text in
       let low1 = p.low in
       subst (λ (z : Forest × List Token). Took T d (Span ∷ is) ts z) (some_is (h.0 +++ b.0.0, b.0.1) y b.2)
-      (record { walks = span h.0 p.flat (ap T.span (sym whole) ∙ p.many) r.walks; text = two_texts h.0 b.0.0 ts h.1 b.0.1 p.text r.text; low = low_both h.0 b.0.0 d (omega arith) r.low })
+      (record {
+        walks = span h.0 p.flat (ap T.span (sym whole) ∙ p.many) r.walks;
+        text =
+            two_texts h.0 b.0.0 ts h.1 b.0.1 p.text r.text;
+        low = low_both h.0 b.0.0 d (omega arith) r.low;
+      })
 
   pub walk_sound : (child_at : Sort → List Token → Read Tree) → ChildSound T d child_at → (k : ℕ) → StepsSound T d (walk T child_at k)
   walk_sound child_at cs zero = items_sound child_at (λ _ _. None) cs (λ is ts y e. absurd cc)
@@ -159,7 +194,11 @@ record Growing (T : Tables) (d : ℕ) (s : Sort) (ts : List Token) (t : Tree) (r
   low : depth t.1 < d
 
 module _ (T : Tables) (d : ℕ) (steps : Steps) (sound : StepsSound T d steps) (s : Sort) (ts : List Token) where
-  grown_sound : (more : Tree → List Token → Read Tree) → ((t : Tree) (rest : List Token) (y : Tree × List Token) → Growing T (suc d) s ts t rest → more t rest ≡ Some y → TookNode T (suc d) s ts y) → (t : Tree) (o : Option Form) (rest : List Token) (y : Tree × List Token) → Growing T (suc d) s ts t rest → T.tail s t rest ≡ o → grown steps more (suc d) t o rest ≡ Some y → TookNode T (suc d) s ts y
+  grown_sound : (more : Tree → List Token → Read Tree)
+      → ((t : Tree) (rest : List Token) (y : Tree × List Token) → Growing T (suc d) s ts t rest → more t rest ≡ Some y
+      → TookNode T (suc d) s ts y) → (t : Tree) (o : Option Form) (rest : List Token) (y : Tree × List Token)
+      → Growing T (suc d) s ts t rest → T.tail s t rest ≡ o → grown steps more (suc d) t o rest ≡ Some y
+      → TookNode T (suc d) s ts y
   grown_sound more ih t None rest y g p e =
       subst (λ (z : Tree × List Token). TookNode T (suc d) s ts z) (some_is (t, rest) y e) (record { spells = (g.grows, p); text = g.text; low = g.low })
   grown_sound more ih t (Some form) rest y g p e =

@@ -62,12 +62,15 @@ one_node T d n o ts = go (node_at T d o ts)
     go None = refl
     go (Some x) = refl
 
-pub one_statement : (v : Version) (d : ℕ) (ts : List Token) → 0 < length (parts v Statements ts) → inner_at (php v) d 7 (parts v Statements ts) ts ≡ (node_at (php v) d s.Statement ts >>= to_part)
+pub one_statement : (v : Version) (d : ℕ) (ts : List Token) → 0 < length (parts v Statements ts)
+    → inner_at (php v) d 7 (parts v Statements ts) ts ≡ (node_at (php v) d s.Statement ts >>= to_part)
 one_statement v d ts has =
-    ap (λ is. inner_at (php v) d 7 is ts) (statement_items (first_of ts) has) ∙ inner_is (php v) d 7 6 (Node s.Statement ∷ []) ts (omega arith) ∙ one_node (php v) d 6 s.Statement ts
+    ap (λ is. inner_at (php v) d 7 is ts) (statement_items (first_of ts) has)
+    ∙ inner_is (php v) d 7 6 (Node s.Statement ∷ []) ts (omega arith) ∙ one_node (php v) d 6 s.Statement ts
 
 -- the statements of the parser on lists, as items
-as_items : (v : Version) (d : ℕ) (ts : List Token) → walk (php v) (parse (php v) 7 d) 7 (Turns Statements ∷ []) ts ≡ (turned_at (php v) d 7 (length ts) Statements ts >>= λ h. Some (h.0 +++ none, h.1))
+as_items : (v : Version) (d : ℕ) (ts : List Token) → walk (php v) (parse (php v) 7 d) 7 (Turns Statements ∷ []) ts ≡
+    (turned_at (php v) d 7 (length ts) Statements ts >>= λ h. Some (h.0 +++ none, h.1))
 unfolding turned_at inner_at node_at
 as_items v d ts = ap (λ (st : Steps). st (Turns Statements ∷ []) ts) (walk_is (php v) (parse (php v) 7 d) 7)
 
@@ -85,7 +88,9 @@ drop_none (Some x) y e = ap (λ (f : Forest). read f x.1) (sym (append_none x.0)
     read f ts = Some (f, ts)
 
 -- the row of a file's statements
-listed : (v : Version) (all : List Token) (old new : State) (f : Forest) (rest : List Token) → old.0.nodes.items ≡ [] → old.0.at ≡ 0 → old.1.deep ≡ 0 → Added v all old new f → behind all new.0 ≡ rest → IsListed all new.0 new.1.deep f rest
+listed : (v : Version) (all : List Token) (old new : State) (f : Forest) (rest : List Token) → old.0.nodes.items ≡ []
+    → old.0.at ≡ 0 → old.1.deep ≡ 0 → Added v all old new f → behind all new.0 ≡ rest
+    → IsListed all new.0 new.1.deep f rest
 listed v all old new f rest n at d a e =
     let deep = a.deep in
     record {
@@ -103,7 +108,9 @@ pub record IsFirst (old : State) : Type 0 where
 abbrev Listed : Version → ℕ → List Token → State → Type 0
 Listed v d all new = (f : Forest) × ((rest : List Token) × ReadsStatements v d all f rest × IsListed all new.0 new.1.deep f rest)
 
-pub statements_found : (v : Version) (d : ℕ) (all : List Token) (old new : State) → IsFirst old → Extends (Ok tt) v all old new d (turned_at (php v) d 7 (length (behind all old.0)) Statements (behind all old.0)) → Listed v d all new
+pub statements_found : (v : Version) (d : ℕ) (all : List Token) (old new : State) → IsFirst old
+    → Extends (Ok tt) v all old new d (turned_at (php v) d 7 (length (behind all old.0)) Statements
+    (behind all old.0)) → Listed v d all new
 statements_found v d all old new o g = go (turned_at (php v) d 7 (length (behind all old.0)) Statements (behind all old.0)) refl g
   where
     whole : behind all old.0 ≡ all
@@ -113,16 +120,21 @@ statements_found v d all old new o g = go (turned_at (php v) d 7 (length (behind
     go None e g = absurd g
     go (Some y) e g =
         let same : turned_at (php v) d 7 (length all) Statements all ≡ Some y = ap (λ (ts : List Token). turned_at (php v) d 7 (length ts) Statements ts) (sym whole) ∙ e in
-        let w = walk_sound (php v) d (parse (php v) 7 d) (parse_sound (php v) 7 d) 7 (Turns Statements ∷ []) all y (as_items v d all ∙ take_none (turned_at (php v) d 7 (length all) Statements all) y same) in
+        let w = walk_sound (php v) d (parse (php v) 7 d) (parse_sound (php v) 7 d) 7 (Turns Statements ∷ []) all y
+        (as_items v d all ∙ take_none (turned_at (php v) d 7 (length all) Statements all) y same) in
         (y.0, (y.1, record { walks = w.walks; text = w.text; low = w.low }, listed v all old new y.0 y.1 o.nodes o.at o.deep g.0 g.1))
 
-pub turned_is : (v : Version) (d : ℕ) (ts : List Token) (f : Forest) (rest : List Token) → ReadsStatements v d ts f rest → turned_at (php v) d 7 (length ts) Statements ts ≡ Some (f, rest)
+pub turned_is : (v : Version) (d : ℕ) (ts : List Token) (f : Forest) (rest : List Token)
+    → ReadsStatements v d ts f rest → turned_at (php v) d 7 (length ts) Statements ts ≡ Some (f, rest)
 turned_is v d ts f rest p =
     let w = walk_reads (php v) 7 rank (php_ranked v) d (parse (php v) 7 d) (parse_complete (php v) 7 rank (php_ranked v) d) 7 p.walks (omega arith, tt) p.low in
     drop_none (turned_at (php v) d 7 (length ts) Statements ts) (f, rest)
     (sym (as_items v d ts) ∙ ap (walk (php v) (parse (php v) 7 d) 7 (Turns Statements ∷ [])) p.text ∙ w)
 
-pub statements_only : (v : Version) (d : ℕ) (all : List Token) (old new : State) → IsFirst old → Extends (Ok tt) v all old new d (turned_at (php v) d 7 (length (behind all old.0)) Statements (behind all old.0)) → (f : Forest) (rest : List Token) → ReadsStatements v d all f rest → IsListed all new.0 new.1.deep f rest
+pub statements_only : (v : Version) (d : ℕ) (all : List Token) (old new : State) → IsFirst old
+    → Extends (Ok tt) v all old new d (turned_at (php v) d 7 (length (behind all old.0)) Statements
+    (behind all old.0)) → (f : Forest) (rest : List Token) → ReadsStatements v d all f rest
+    → IsListed all new.0 new.1.deep f rest
 statements_only v d all old new o g f rest p =
     let l = statements_found v d all old new o g in
     let one = turned_is v d all l.0 l.1.0 l.1.1 in
@@ -131,7 +143,10 @@ statements_only v d all old new o g f rest p =
     let P : Forest × List Token → Type 0 = λ y. IsListed all new.0 new.1.deep y.0 y.1 in
     subst P same l.1.2
 
-pub statements_none : (v : Version) (d : ℕ) (all : List Token) (old new : State) → IsFirst old → (e : ParseFault) → Extends (Err e) v all old new d (turned_at (php v) d 7 (length (behind all old.0)) Statements (behind all old.0)) → (f : Forest) (rest : List Token) → ReadsStatements v d all f rest → AnswersStatements (Err e) all f rest
+pub statements_none : (v : Version) (d : ℕ) (all : List Token) (old new : State) → IsFirst old → (e : ParseFault)
+    → Extends (Err e) v all old new d (turned_at (php v) d 7 (length (behind all old.0)) Statements
+    (behind all old.0)) → (f : Forest) (rest : List Token) → ReadsStatements v d all f rest
+    → AnswersStatements (Err e) all f rest
 statements_none v d all old new o Memory g f rest p = tt
 statements_none v d all old new o NotInGrammar g f rest p =
     let whole : behind all old.0 ≡ all = ap (λ (n : ℕ). drop n all) o.at in

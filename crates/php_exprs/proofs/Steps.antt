@@ -1,5 +1,42 @@
 -- The steps of the parser's functions, beside the parser on lists.
-use Rattle.std.proofs.Common.{◌≡◌, ℕ, zero, suc, ◌+◌, ◌-◌, ◌<◌, ◌≤◌, max, Bool, true, false, List, [], ◌∷◌, ◌++◌, length, get_or, take, drop, Option, Some, None, Result, Ok, Err, nat_lt, refl, sym, ap, ◌∙◌, subst, append_assoc, arith, add-one, drop-cons}
+use Rattle.std.proofs.Common.{
+  ◌≡◌,
+  ℕ,
+  zero,
+  suc,
+  ◌+◌,
+  ◌-◌,
+  ◌<◌,
+  ◌≤◌,
+  max,
+  Bool,
+  true,
+  false,
+  List,
+  [],
+  ◌∷◌,
+  ◌++◌,
+  length,
+  get_or,
+  take,
+  drop,
+  Option,
+  Some,
+  None,
+  Result,
+  Ok,
+  Err,
+  nat_lt,
+  refl,
+  sym,
+  ap,
+  ◌∙◌,
+  subst,
+  append_assoc,
+  arith,
+  add-one,
+  drop-cons,
+}
 use Rattle.std.proofs.lemmas.Bool.{lt-ltb, le-ltb}
 use Rattle.std.proofs.lemmas.List.{append-nil, length-drop}
 use Rattle.php_tree.specs.declared.token.Token.{Token}
@@ -45,13 +82,16 @@ front_front f g (Some y) = ap (λ (h : Forest). read h y.1) (sym (forest_assoc f
 abbrev pub to_part : Tree × List Token → Read Forest
 to_part x = Some (as_part x)
 
-pub child_extends : (v : Version) (all : List Token) (c : Closed) (old new : State) (d : ℕ) (r : Read Tree) → GivesTree (Ok c) v all old.0 new.0 d r → new.1.deep ≡ max old.1.deep c.deep → new.1.edge ≡ c.edge → Extends (Ok tt) v all old new d (r >>= to_part)
+pub child_extends : (v : Version) (all : List Token) (c : Closed) (old new : State) (d : ℕ) (r : Read Tree)
+    → GivesTree (Ok c) v all old.0 new.0 d r → new.1.deep ≡ max old.1.deep c.deep → new.1.edge ≡ c.edge
+    → Extends (Ok tt) v all old new d (r >>= to_part)
 child_extends v all c old new d None g p q = g
 child_extends v all c old new d (Some y) g p q =
     let low = g.3 in
     (node_added v all old new c y.0 g.0 g.1 p q, g.2, omega arith)
 
-pub child_fails : (v : Version) (all : List Token) (e : ParseFault) (old new : State) (d : ℕ) (r : Read Tree) → GivesTree (Err e) v all old.0 new.0 d r → Extends (Err e) v all old new d (r >>= to_part)
+pub child_fails : (v : Version) (all : List Token) (e : ParseFault) (old new : State) (d : ℕ) (r : Read Tree)
+    → GivesTree (Err e) v all old.0 new.0 d r → Extends (Err e) v all old new d (r >>= to_part)
 child_fails v all NotInGrammar old new d r g = ap (λ (o : Read Tree). o >>= to_part) g
 child_fails v all Memory old new d r g = tt
 
@@ -61,7 +101,10 @@ word_none T c ts e = ap (word_at T c) e
 pub word_other : (T : Tables) (c : Terminal) (ts us : List Token) (t : Token) → ts ≡ t ∷ us → T.accepts c t ≡ false → word_at T c ts ≡ None
 word_other T c ts us t e p = ap (word_at T c) e ∙ rw p refl
 
-pub word_extends : (v : Version) (all : List Token) (c : Terminal) (old new : State) (d : ℕ) (t : Token) (us : List Token) → behind all old.0 ≡ t ∷ us → (php v).accepts c t ≡ true → Grew old.0 new.0 (leaf t none) → new.0.at ≡ old.0.at + 1 → new.1.deep ≡ old.1.deep → new.1.edge ≡ 0 → Extends (Ok tt) v all old new d (word_at (php v) c (behind all old.0))
+pub word_extends : (v : Version) (all : List Token) (c : Terminal) (old new : State) (d : ℕ) (t : Token)
+    (us : List Token) → behind all old.0 ≡ t ∷ us → (php v).accepts c t ≡ true → Grew old.0 new.0 (leaf t none)
+    → new.0.at ≡ old.0.at + 1 → new.1.deep ≡ old.1.deep → new.1.edge ≡ 0
+    → Extends (Ok tt) v all old new d (word_at (php v) c (behind all old.0))
 word_extends v all c old new d t us e p g at deep z =
     let a = leaf_added v all old new t us e g at deep z in
     let is : word_at (php v) c (behind all old.0) ≡ Some (leaf t none, us) = ap (word_at (php v) c) e ∙ rw p refl in
@@ -98,7 +141,9 @@ first_item T d n Span is ts = refl
 pub walked_first : (v : Version) (all : List Token) (d n : ℕ) (form : List Item) (old : State) → old.0.at ≤ length all → Walked v all d n form form old old
 walked_first v all d n form old w = record { parts = none; added = added_none v all old w; low = omega arith; same = front_none (parts_at (php v) d n form (behind all old.0)) }
 
-pub walked_more : (v : Version) (all : List Token) (d n : ℕ) (form is : List Item) (i : Item) (old mid new : State) (r : Read Forest) → item_at (php v) d n i (behind all mid.0) ≡ r → Extends (Ok tt) v all mid new d r → Walked v all d n form (i ∷ is) old mid → Walked v all d n form is old new
+pub walked_more : (v : Version) (all : List Token) (d n : ℕ) (form is : List Item) (i : Item) (old mid new : State)
+    (r : Read Forest) → item_at (php v) d n i (behind all mid.0) ≡ r → Extends (Ok tt) v all mid new d r
+    → Walked v all d n form (i ∷ is) old mid → Walked v all d n form is old new
 walked_more v all d n form is i old mid new None e x w = absurd x
 walked_more v all d n form is i old mid new (Some y) e x w =
     let T = php v in
@@ -110,10 +155,14 @@ walked_more v all d n form is i old mid new (Some y) e x w =
       parts = w.parts +++ y.0;
       added = added_join v all old mid new w.parts y.0 w.added x.0;
       low = omega (arith, depth_append w.parts y.0);
-      same = w.same ∙ ap (with_front w.parts) step ∙ front_front w.parts y.0 (parts_at T d n is y.1) ∙ ap (λ (ts : List Token). with_front (w.parts +++ y.0) (parts_at T d n is ts)) (sym x.1);
+      same = w.same ∙ ap (with_front w.parts) step ∙ front_front w.parts y.0 (parts_at T d n is y.1)
+          ∙ ap (λ (ts : List Token). with_front (w.parts +++ y.0) (parts_at T d n is ts)) (sym x.1);
     }
 
-pub walked_fails : (v : Version) (all : List Token) (d n : ℕ) (form is : List Item) (i : Item) (old mid new : State) (e : ParseFault) → Extends (Err e) v all mid new d (item_at (php v) d n i (behind all mid.0)) → Walked v all d n form (i ∷ is) old mid → Extends (Err e) v all old new d (parts_at (php v) d n form (behind all old.0))
+pub walked_fails : (v : Version) (all : List Token) (d n : ℕ) (form is : List Item) (i : Item) (old mid new : State)
+    (e : ParseFault) → Extends (Err e) v all mid new d (item_at (php v) d n i (behind all mid.0))
+    → Walked v all d n form (i ∷ is) old mid → Extends (Err e) v all old new d
+    (parts_at (php v) d n form (behind all old.0))
 walked_fails v all d n form is i old mid new NotInGrammar x w = w.same ∙ ap (with_front w.parts) (first_item (php v) d n i is (behind all mid.0) ∙ ap (then_parts (php v) d n is) x)
 walked_fails v all d n form is i old mid new Memory x w = tt
 
@@ -123,7 +172,9 @@ low_none f d h = subst (λ (g : Forest). depth g ≤ d) (sym (append_none f)) h
 added_as : (v : Version) (all : List Token) (old new : State) (f : Forest) → Added v all old new f → Added v all old new (f +++ none)
 added_as v all old new f a = subst (λ (g : Forest). Added v all old new g) (sym (append_none f)) a
 
-pub walked_ends : (v : Version) (all : List Token) (d n : ℕ) (form : List Item) (old new : State) → Walked v all d n form [] old new → Extends (Ok tt) v all old new d (parts_at (php v) d n form (behind all old.0))
+pub walked_ends : (v : Version) (all : List Token) (d n : ℕ) (form : List Item) (old new : State)
+    → Walked v all d n form [] old new → Extends (Ok tt) v all old new d
+    (parts_at (php v) d n form (behind all old.0))
 unfolding parts_at
 walked_ends v all d n form old new w =
     let e : parts_at (php v) d n form (behind all old.0) ≡ Some (w.parts +++ none, behind all new.0) = w.same in
@@ -132,7 +183,16 @@ walked_ends v all d n form old new w =
 -- ---- the turns of a group
 
 pub turned_first : (v : Version) (all : List Token) (d n : ℕ) (g : Group) (old : State) → old.0.at ≤ length all → Turned v all d n g old old
-turned_first v all d n g old w = record { parts = none; fuel = length (behind all old.0); added = added_none v all old w; low = omega arith; enough = omega arith; same = front_none (turned_at (php v) d n (length (behind all old.0)) g (behind all old.0)) }
+turned_first v all d n g old w = record {
+  parts = none;
+  fuel = length (behind all old.0);
+  added =
+      added_none v all old w;
+  low = omega arith;
+  enough = omega arith;
+  same =
+      front_none (turned_at (php v) d n (length (behind all old.0)) g (behind all old.0));
+}
 
 no_turn : (T : Tables) (d n m : ℕ) (g : Group) (rest : List Token) → T.parts g rest ≡ [] → turned_at T d n m g rest ≡ Some (none, rest)
 unfolding turned_at
@@ -142,11 +202,14 @@ no_turn T d n (suc m) g rest e = rw e refl
 turn_then : (List Token → Read Forest) → List Token → Read Forest → Read Forest
 turn_then more ts r = r >>= λ h. given (nat_lt (length h.1) (length ts)) (more h.1) >>= λ f. Some (h.0 +++ f.0, f.1)
 
-one_turn : (T : Tables) (d n m : ℕ) (g : Group) (i : Item) (is : List Item) (rest : List Token) → T.parts g rest ≡ i ∷ is → turned_at T d n (suc m) g rest ≡ turn_then (turned_at T d n m g) rest (inner_at T d n (T.parts g rest) rest)
+one_turn : (T : Tables) (d n m : ℕ) (g : Group) (i : Item) (is : List Item) (rest : List Token) → T.parts g rest ≡ i
+    ∷ is → turned_at T d n (suc m) g rest ≡ turn_then (turned_at T d n m g) rest
+    (inner_at T d n (T.parts g rest) rest)
 unfolding turned_at turn_then
 one_turn T d n m g i is rest e = rw e refl
 
-last_turn : (T : Tables) (d n : ℕ) (g : Group) (i : Item) (is : List Item) (rest : List Token) → T.parts g rest ≡ i ∷ is → turned_at T d n zero g rest ≡ turn_then (λ _. None) rest (inner_at T d n (T.parts g rest) rest)
+last_turn : (T : Tables) (d n : ℕ) (g : Group) (i : Item) (is : List Item) (rest : List Token) → T.parts g rest ≡ i
+    ∷ is → turned_at T d n zero g rest ≡ turn_then (λ _. None) rest (inner_at T d n (T.parts g rest) rest)
 unfolding turned_at turn_then
 last_turn T d n g i is rest e = rw e refl
 
@@ -162,30 +225,49 @@ turn_fails : (more : List Token → Read Forest) (ts : List Token) → turn_then
 unfolding turn_then
 turn_fails more ts = refl
 
-pub turned_ends : (v : Version) (all : List Token) (d n : ℕ) (g : Group) (old new : State) → (php v).parts g (behind all new.0) ≡ [] → Turned v all d n g old new → Extends (Ok tt) v all old new d (turned_at (php v) d n (length (behind all old.0)) g (behind all old.0))
+pub turned_ends : (v : Version) (all : List Token) (d n : ℕ) (g : Group) (old new : State)
+    → (php v).parts g (behind all new.0) ≡ [] → Turned v all d n g old new
+    → Extends (Ok tt) v all old new d (turned_at (php v) d n (length (behind all old.0)) g (behind all old.0))
 turned_ends v all d n g old new e w =
     let same = w.same ∙ ap (with_front w.parts) (no_turn (php v) d n w.fuel g (behind all new.0) e) in
     subst (λ (r : Read Forest). Extends (Ok tt) v all old new d r) (sym same) (added_as v all old new w.parts w.added, refl, low_none w.parts d w.low)
 
-turned_fails : (v : Version) (all : List Token) (d n : ℕ) (g : Group) (i : Item) (is : List Item) (old mid : State) → (php v).parts g (behind all mid.0) ≡ i ∷ is → inner_at (php v) d n ((php v).parts g (behind all mid.0)) (behind all mid.0) ≡ None → Turned v all d n g old mid → turned_at (php v) d n (length (behind all old.0)) g (behind all old.0) ≡ None
+turned_fails : (v : Version) (all : List Token) (d n : ℕ) (g : Group) (i : Item) (is : List Item) (old mid : State)
+    → (php v).parts g (behind all mid.0) ≡ i ∷ is → inner_at (php v) d n ((php v).parts g (behind all mid.0))
+    (behind all mid.0) ≡ None → Turned v all d n g old mid → turned_at (php v) d n (length (behind all old.0)) g
+    (behind all old.0) ≡ None
 turned_fails v all d n g i is old mid e x w = w.same ∙ ap (with_front w.parts) (go w.fuel)
   where
     go : (m : ℕ) → turned_at (php v) d n m g (behind all mid.0) ≡ None
     go zero = last_turn (php v) d n g i is (behind all mid.0) e ∙ ap (turn_then (λ _. None) (behind all mid.0)) x ∙ turn_fails (λ _. None) (behind all mid.0)
-    go (suc m) = one_turn (php v) d n m g i is (behind all mid.0) e ∙ ap (turn_then (turned_at (php v) d n m g) (behind all mid.0)) x ∙ turn_fails (turned_at (php v) d n m g) (behind all mid.0)
+    go (suc m) = one_turn (php v) d n m g i is (behind all mid.0) e
+        ∙ ap (turn_then (turned_at (php v) d n m g) (behind all mid.0)) x
+        ∙ turn_fails (turned_at (php v) d n m g) (behind all mid.0)
 
-turned_stays : (v : Version) (all : List Token) (d n : ℕ) (g : Group) (i : Item) (is : List Item) (old mid : State) (y : Forest × List Token) → (php v).parts g (behind all mid.0) ≡ i ∷ is → inner_at (php v) d n ((php v).parts g (behind all mid.0)) (behind all mid.0) ≡ Some y → length (behind all mid.0) ≤ length y.1 → Turned v all d n g old mid → turned_at (php v) d n (length (behind all old.0)) g (behind all old.0) ≡ None
+turned_stays : (v : Version) (all : List Token) (d n : ℕ) (g : Group) (i : Item) (is : List Item) (old mid : State)
+    (y : Forest × List Token) → (php v).parts g (behind all mid.0) ≡ i ∷ is
+    → inner_at (php v) d n ((php v).parts g (behind all mid.0)) (behind all mid.0) ≡ Some y
+    → length (behind all mid.0) ≤ length y.1 → Turned v all d n g old mid
+    → turned_at (php v) d n (length (behind all old.0)) g (behind all old.0) ≡ None
 turned_stays v all d n g i is old mid y e x le w = w.same ∙ ap (with_front w.parts) (go w.fuel)
   where
     go : (m : ℕ) → turned_at (php v) d n m g (behind all mid.0) ≡ None
     go zero = last_turn (php v) d n g i is (behind all mid.0) e ∙ ap (turn_then (λ _. None) (behind all mid.0)) x ∙ turn_stays (λ _. None) (behind all mid.0) y le
-    go (suc m) = one_turn (php v) d n m g i is (behind all mid.0) e ∙ ap (turn_then (turned_at (php v) d n m g) (behind all mid.0)) x ∙ turn_stays (turned_at (php v) d n m g) (behind all mid.0) y le
+    go (suc m) = one_turn (php v) d n m g i is (behind all mid.0) e
+        ∙ ap (turn_then (turned_at (php v) d n m g) (behind all mid.0)) x
+        ∙ turn_stays (turned_at (php v) d n m g) (behind all mid.0) y le
 
-turned_more : (v : Version) (all : List Token) (d n : ℕ) (g : Group) (i : Item) (is : List Item) (old mid new : State) (r : Read Forest) → (php v).parts g (behind all mid.0) ≡ i ∷ is → inner_at (php v) d n ((php v).parts g (behind all mid.0)) (behind all mid.0) ≡ r → Extends (Ok tt) v all mid new d r → length (behind all new.0) < length (behind all mid.0) → Turned v all d n g old mid → Turned v all d n g old new
+turned_more : (v : Version) (all : List Token) (d n : ℕ) (g : Group) (i : Item) (is : List Item) (old mid new : State)
+    (r : Read Forest) → (php v).parts g (behind all mid.0) ≡ i ∷ is
+    → inner_at (php v) d n ((php v).parts g (behind all mid.0)) (behind all mid.0) ≡ r
+    → Extends (Ok tt) v all mid new d r → length (behind all new.0) < length (behind all mid.0)
+    → Turned v all d n g old mid → Turned v all d n g old new
 turned_more v all d n g i is old mid new None e p x lt w = absurd x
 turned_more v all d n g i is old mid new (Some y) e p x lt w = go w.fuel w.enough w.same
   where
-    go : (m : ℕ) → length (behind all mid.0) ≤ m → turned_at (php v) d n (length (behind all old.0)) g (behind all old.0) ≡ with_front w.parts (turned_at (php v) d n m g (behind all mid.0)) → Turned v all d n g old new
+    go : (m : ℕ) → length (behind all mid.0) ≤ m → turned_at (php v) d n (length (behind all old.0)) g
+        (behind all old.0) ≡ with_front w.parts (turned_at (php v) d n m g (behind all mid.0))
+        → Turned v all d n g old new
     go zero le same = absurd (omega arith)
     go (suc m) le same =
         let T = php v in
@@ -193,14 +275,17 @@ turned_more v all d n g i is old mid new (Some y) e p x lt w = go w.fuel w.enoug
         let low1 = w.low in
         let low2 = x.2 in
         let len : length (behind all new.0) ≡ length y.1 = ap length x.1 in
-        let step : turned_at T d n (suc m) g rest ≡ with_front y.0 (turned_at T d n m g y.1) = one_turn T d n m g i is rest e ∙ ap (turn_then (turned_at T d n m g) rest) p ∙ turn_goes (turned_at T d n m g) rest y (omega arith) in
+        let step : turned_at T d n (suc m) g rest ≡ with_front y.0 (turned_at T d n m g y.1) =
+        one_turn T d n m g i is rest e ∙ ap (turn_then (turned_at T d n m g) rest) p
+        ∙ turn_goes (turned_at T d n m g) rest y (omega arith) in
         record {
           parts = w.parts +++ y.0;
           fuel = m;
           added = added_join v all old mid new w.parts y.0 w.added x.0;
           low = omega (arith, depth_append w.parts y.0);
           enough = omega arith;
-          same = same ∙ ap (with_front w.parts) step ∙ front_front w.parts y.0 (turned_at T d n m g y.1) ∙ ap (λ (ts : List Token). with_front (w.parts +++ y.0) (turned_at T d n m g ts)) (sym x.1);
+          same = same ∙ ap (with_front w.parts) step ∙ front_front w.parts y.0 (turned_at T d n m g y.1)
+              ∙ ap (λ (ts : List Token). with_front (w.parts +++ y.0) (turned_at T d n m g ts)) (sym x.1);
         }
 
 -- ---- groups in groups
@@ -236,7 +321,11 @@ node_none T (suc d) s ts e = absurd (omega arith)
 pub node_no_form : (T : Tables) (d e : ℕ) (s : Sort) (ts : List Token) → d ≡ e + 1 → T.form s ts ≡ None → node_at T d s ts ≡ None
 node_no_form T d e s ts p q = node_starts T d e s ts p ∙ ap (λ (o : Option Form). start T e o s ts) q
 
-pub node_fails : (v : Version) (all : List Token) (d e : ℕ) (s : Sort) (first now new : Row) (k : NodeKind) (is : List Item) (old later : State) (f : ParseFault) → d ≡ e + 1 → (php v).form s (behind all first) ≡ Some (k, is) → old.0.at ≡ first.at → Extends (Err f) v all old later e (parts_at (php v) e 7 is (behind all old.0)) → GivesTree (Err f) v all first new d (node_at (php v) d s (behind all first))
+pub node_fails : (v : Version) (all : List Token) (d e : ℕ) (s : Sort) (first now new : Row) (k : NodeKind)
+    (is : List Item) (old later : State) (f : ParseFault) → d ≡ e + 1
+    → (php v).form s (behind all first) ≡ Some (k, is) → old.0.at ≡ first.at
+    → Extends (Err f) v all old later e (parts_at (php v) e 7 is (behind all old.0))
+    → GivesTree (Err f) v all first new d (node_at (php v) d s (behind all first))
 node_fails v all d e s first now new k is old later NotInGrammar p q at x =
     let T = php v in
     let ts = behind all first in
@@ -248,13 +337,22 @@ node_fails v all d e s first now new k is old later NotInGrammar p q at x =
 node_fails v all d e s first now new k is old later Memory p q at x = tt
 
 -- what an opened node has, behind whose opening parts were read
-pub opened_ready : (v : Version) (all : List Token) (first : Row) (old new : State) (from e : ℕ) (r : Read Forest) → IsOpen first old.0 from none → old.0.at ≡ first.at → old.1.deep ≡ 0 → old.1.edge ≡ 0 → Extends (Ok tt) v all old new e r → (f : Forest) × IsReady v all first new.0 from new.1 f
+pub opened_ready : (v : Version) (all : List Token) (first : Row) (old new : State) (from e : ℕ) (r : Read Forest)
+    → IsOpen first old.0 from none → old.0.at ≡ first.at → old.1.deep ≡ 0 → old.1.edge ≡ 0
+    → Extends (Ok tt) v all old new e r → (f : Forest) × IsReady v all first new.0 from new.1 f
 opened_ready v all first old new from e None o at d z x = absurd x
 opened_ready v all first old new from e (Some y) o at d z x = (y.0, ready v all first old new from none y.0 o (ap (λ (n : ℕ). drop n all) (sym at)) d z x.0)
 
-pub node_grows : (v : Version) (all : List Token) (d e : ℕ) (s : Sort) (first : Row) (k : NodeKind) (is : List Item) (old new : State) (whole last : Row) (from : ℕ) (c : Closed) (result : Result Closed ParseFault) (r : Read Forest) → d ≡ e + 1 → (php v).form s (behind all first) ≡ Some (k, is) → IsOpen first old.0 from none → old.0.at ≡ first.at → old.1.deep ≡ 0 → old.1.edge ≡ 0 → parts_at (php v) e 7 is (behind all old.0) ≡ r → Extends (Ok tt) v all old new e r
-    → ((f : Forest) → IsReady v all first new.0 from new.1 f → Grew first whole (node k f none)) → ((f : Forest) → IsReady v all first new.0 from new.1 f → IsClosed v c (k, f)) → whole.at ≡ new.0.at
-    → ((x : Tree) (m : ℕ) → length first.nodes.items ≡ from → AddedNode all first whole x → IsClosed v c x → e + 1 ≤ m + depth x.1 → GivesTree result v all first last (e + 1) (grown_at (php v) e m s x (behind all whole)))
+pub node_grows : (v : Version) (all : List Token) (d e : ℕ) (s : Sort) (first : Row) (k : NodeKind) (is : List Item)
+    (old new : State) (whole last : Row) (from : ℕ) (c : Closed) (result : Result Closed ParseFault) (r : Read Forest)
+    → d ≡ e + 1 → (php v).form s (behind all first) ≡ Some (k, is) → IsOpen first old.0 from none
+    → old.0.at ≡ first.at → old.1.deep ≡ 0 → old.1.edge ≡ 0 → parts_at (php v) e 7 is (behind all old.0) ≡ r
+    → Extends (Ok tt) v all old new e r
+    → ((f : Forest) → IsReady v all first new.0 from new.1 f → Grew first whole (node k f none))
+    → ((f : Forest) → IsReady v all first new.0 from new.1 f → IsClosed v c (k, f)) → whole.at ≡ new.0.at
+    → ((x : Tree) (m : ℕ) → length first.nodes.items ≡ from → AddedNode all first whole x → IsClosed v c x
+    → e + 1 ≤ m + depth x.1 → GivesTree result v all first last (e + 1)
+    (grown_at (php v) e m s x (behind all whole)))
     → GivesTree result v all first last d (node_at (php v) d s (behind all first))
 node_grows v all d e s first k is old new whole last from c result None p q o at d0 z w x gr cl wat g = absurd x
 node_grows v all d e s first k is old new whole last from c result (Some y) p q o at d0 z w x gr cl wat g =
@@ -275,7 +373,8 @@ grown_steps : (T : Tables) (d : ℕ) (fuel : ℕ) (s : Sort) (t : Tree) (ts : Li
 grown_steps T d zero s t ts = (λ _ _. None, tt)
 grown_steps T d (suc m) s t ts = (grown_at T d m s, tt)
 
-grow_is : (T : Tables) (d fuel : ℕ) (s : Sort) (t : Tree) (ts : List Token) → grown_at T d fuel s t ts ≡ grown (parts_at T d 7) (grown_steps T d fuel s t ts).0 (suc d) t (T.tail s t ts) ts
+grow_is : (T : Tables) (d fuel : ℕ) (s : Sort) (t : Tree) (ts : List Token)
+    → grown_at T d fuel s t ts ≡ grown (parts_at T d 7) (grown_steps T d fuel s t ts).0 (suc d) t (T.tail s t ts) ts
 unfolding grown_at grown_steps
 grow_is T d zero s t ts = refl
 grow_is T d (suc m) s t ts = refl
@@ -285,21 +384,31 @@ abbrev pub tail_with : Version → Sort → Closed → List Token → Option For
 tail_with v s c ts = tail_by v s c.kind c.edge c.misindented ts
 
 closed_tail : (v : Version) (s : Sort) (c : Closed) (x : Tree) (ts : List Token) → IsClosed v c x → tail_with v s c ts ≡ tail v s x ts
-closed_tail v s c x ts i = ap (λ (k : NodeKind). tail_by v s k c.edge c.misindented ts) i.kind ∙ ap (λ (n : ℕ). tail_by v s x.0 n c.misindented ts) i.edge ∙ ap (λ (b : Bool). tail_by v s x.0 (edge v x) b ts) i.misindented
+closed_tail v s c x ts i = ap (λ (k : NodeKind). tail_by v s k c.edge c.misindented ts) i.kind
+    ∙ ap (λ (n : ℕ). tail_by v s x.0 n c.misindented ts) i.edge
+    ∙ ap (λ (b : Bool). tail_by v s x.0 (edge v x) b ts) i.misindented
 
-pub grow_ends : (v : Version) (all : List Token) (d fuel : ℕ) (s : Sort) (before now : Row) (c : Closed) (x : Tree) → AddedNode all before now x → IsClosed v c x → tail_with v s c (behind all now) ≡ None → c.deep ≤ d + 1 → GivesTree (Ok c) v all before now (d + 1) (grown_at (php v) d fuel s x (behind all now))
+pub grow_ends : (v : Version) (all : List Token) (d fuel : ℕ) (s : Sort) (before now : Row) (c : Closed) (x : Tree)
+    → AddedNode all before now x → IsClosed v c x → tail_with v s c (behind all now) ≡ None → c.deep ≤ d + 1
+    → GivesTree (Ok c) v all before now (d + 1) (grown_at (php v) d fuel s x (behind all now))
 grow_ends v all d fuel s before now c x a i e low =
     let deep = i.deep in
-    let ends : grown_at (php v) d fuel s x (behind all now) ≡ Some (x, behind all now) = grow_is (php v) d fuel s x (behind all now) ∙ rw (sym (closed_tail v s c x (behind all now) i) ∙ e) refl in
+    let ends : grown_at (php v) d fuel s x (behind all now) ≡ Some (x, behind all now) =
+    grow_is (php v) d fuel s x (behind all now) ∙ rw (sym (closed_tail v s c x (behind all now) i) ∙ e) refl in
     subst (λ (r : Read Tree). GivesTree (Ok c) v all before now (d + 1) r) (sym ends) (a, i, refl, omega arith)
 
-pub grow_deep : (v : Version) (d fuel : ℕ) (s : Sort) (c : Closed) (x : Tree) (ts : List Token) (f : Form) → IsClosed v c x → tail_with v s c ts ≡ Some f → d < c.deep → grown_at (php v) d fuel s x ts ≡ None
+pub grow_deep : (v : Version) (d fuel : ℕ) (s : Sort) (c : Closed) (x : Tree) (ts : List Token) (f : Form)
+    → IsClosed v c x → tail_with v s c ts ≡ Some f → d < c.deep → grown_at (php v) d fuel s x ts ≡ None
 grow_deep v d fuel s c x ts f i e lt =
     let deep = i.deep in
     let t : (php v).tail s x ts ≡ Some f = sym (closed_tail v s c x ts i) ∙ e in
     rw (grow_is (php v) d fuel s x ts, t, le-ltb (depth x.1 + 1) (suc d) (omega arith)) refl
 
-pub grow_fails : (v : Version) (all : List Token) (d fuel : ℕ) (s : Sort) (before now last : Row) (c : Closed) (x : Tree) (k : NodeKind) (is : List Item) (old later : State) (f : ParseFault) → IsClosed v c x → tail_with v s c (behind all now) ≡ Some (k, is) → c.deep ≤ d → old.0.at ≡ now.at → Extends (Err f) v all old later d (parts_at (php v) d 7 is (behind all old.0)) → GivesTree (Err f) v all before last (d + 1) (grown_at (php v) d fuel s x (behind all now))
+pub grow_fails : (v : Version) (all : List Token) (d fuel : ℕ) (s : Sort) (before now last : Row) (c : Closed)
+    (x : Tree) (k : NodeKind) (is : List Item) (old later : State) (f : ParseFault) → IsClosed v c x
+    → tail_with v s c (behind all now) ≡ Some (k, is) → c.deep ≤ d → old.0.at ≡ now.at
+    → Extends (Err f) v all old later d (parts_at (php v) d 7 is (behind all old.0))
+    → GivesTree (Err f) v all before last (d + 1) (grown_at (php v) d fuel s x (behind all now))
 grow_fails v all d fuel s before now last c x k is old later NotInGrammar i e low at g =
     let deep = i.deep in
     let ts = behind all now in
@@ -309,20 +418,33 @@ grow_fails v all d fuel s before now last c x k is old later NotInGrammar i e lo
 grow_fails v all d fuel s before now last c x k is old later Memory i e low at g = tt
 
 -- a node that was wrapped, behind which parts were read
-wrapped_ready : (v : Version) (all : List Token) (before now : Row) (old new : State) (from : ℕ) (c : Closed) (x : Tree) (f : Forest) → AddedNode all before now x → IsClosed v c x → IsOpen before old.0 from (node x.0 x.1 none) → old.0.at ≡ now.at → old.1.deep ≡ c.deep → old.1.edge ≡ c.edge → Added v all old new f → IsReady v all before new.0 from new.1 (node x.0 x.1 f)
+wrapped_ready : (v : Version) (all : List Token) (before now : Row) (old new : State) (from : ℕ) (c : Closed)
+    (x : Tree) (f : Forest) → AddedNode all before now x → IsClosed v c x
+    → IsOpen before old.0 from (node x.0 x.1 none) → old.0.at ≡ now.at → old.1.deep ≡ c.deep → old.1.edge ≡ c.edge
+    → Added v all old new f → IsReady v all before new.0 from new.1 (node x.0 x.1 f)
 wrapped_ready v all before now old new from c x f a i o at d z g =
     let deep = i.deep in
     let text : behind all before ≡ leaves (node x.0 x.1 none) ++ behind all old.0 = a.text ∙ rw (at, append-nil (leaves x.1)) refl in
     ready v all before old new from (node x.0 x.1 none) f o text (omega arith) (z ∙ i.edge ∙ sym (edge_alone v x 0)) g
 
-pub extends_ready : (v : Version) (all : List Token) (before now : Row) (old new : State) (from d : ℕ) (c : Closed) (x : Tree) (r : Read Forest) → AddedNode all before now x → IsClosed v c x → IsOpen before old.0 from (node x.0 x.1 none) → old.0.at ≡ now.at → old.1.deep ≡ c.deep → old.1.edge ≡ c.edge → Extends (Ok tt) v all old new d r → (f : Forest) × IsReady v all before new.0 from new.1 f
+pub extends_ready : (v : Version) (all : List Token) (before now : Row) (old new : State) (from d : ℕ) (c : Closed)
+    (x : Tree) (r : Read Forest) → AddedNode all before now x → IsClosed v c x
+    → IsOpen before old.0 from (node x.0 x.1 none) → old.0.at ≡ now.at → old.1.deep ≡ c.deep → old.1.edge ≡ c.edge
+    → Extends (Ok tt) v all old new d r → (f : Forest) × IsReady v all before new.0 from new.1 f
 extends_ready v all before now old new from d c x None a i o at e z g = absurd g
 extends_ready v all before now old new from d c x (Some y) a i o at e z g = (node x.0 x.1 y.0, wrapped_ready v all before now old new from c x y.0 a i o at e z g.0)
 
-pub grow_goes : (v : Version) (all : List Token) (d fuel : ℕ) (s : Sort) (before now : Row) (c : Closed) (x : Tree) (k : NodeKind) (is : List Item) (old new : State) (whole last : Row) (from : ℕ) (b : Closed) (result : Result Closed ParseFault) (r : Read Forest) → length before.nodes.items ≡ from → AddedNode all before now x → IsClosed v c x → tail_with v s c (behind all now) ≡ Some (k, is) → c.deep ≤ d
-    → IsOpen before old.0 from (node x.0 x.1 none) → old.0.at ≡ now.at → old.1.deep ≡ c.deep → old.1.edge ≡ c.edge → parts_at (php v) d 7 is (behind all old.0) ≡ r → Extends (Ok tt) v all old new d r
-    → ((f : Forest) → IsReady v all before new.0 from new.1 f → Grew before whole (node k f none)) → ((f : Forest) → IsReady v all before new.0 from new.1 f → IsClosed v b (k, f)) → whole.at ≡ new.0.at
-    → ((u : Tree) (m : ℕ) → length before.nodes.items ≡ from → AddedNode all before whole u → IsClosed v b u → d + 1 ≤ m + depth u.1 → GivesTree result v all before last (d + 1) (grown_at (php v) d m s u (behind all whole)))
+pub grow_goes : (v : Version) (all : List Token) (d fuel : ℕ) (s : Sort) (before now : Row) (c : Closed) (x : Tree)
+    (k : NodeKind) (is : List Item) (old new : State) (whole last : Row) (from : ℕ) (b : Closed)
+    (result : Result Closed ParseFault) (r : Read Forest) → length before.nodes.items ≡ from
+    → AddedNode all before now x → IsClosed v c x → tail_with v s c (behind all now) ≡ Some (k, is) → c.deep ≤ d
+    → IsOpen before old.0 from (node x.0 x.1 none) → old.0.at ≡ now.at → old.1.deep ≡ c.deep → old.1.edge ≡ c.edge
+    → parts_at (php v) d 7 is (behind all old.0) ≡ r → Extends (Ok tt) v all old new d r
+    → ((f : Forest) → IsReady v all before new.0 from new.1 f → Grew before whole (node k f none))
+    → ((f : Forest) → IsReady v all before new.0 from new.1 f → IsClosed v b (k, f)) → whole.at ≡ new.0.at
+    → ((u : Tree) (m : ℕ) → length before.nodes.items ≡ from → AddedNode all before whole u → IsClosed v b u
+    → d + 1 ≤ m + depth u.1 → GivesTree result v all before last (d + 1)
+    (grown_at (php v) d m s u (behind all whole)))
     → d + 1 ≤ fuel + depth x.1 → GivesTree result v all before last (d + 1) (grown_at (php v) d fuel s x (behind all now))
 grow_goes v all d fuel s before now c x k is old new whole last from b result None pl a i e low o at de z w g gr cl wat go enough = absurd g
 grow_goes v all d zero s before now c x k is old new whole last from b result (Some y) pl a i e low o at de z w g gr cl wat go enough = let deep = i.deep in absurd (omega arith)
@@ -334,7 +456,8 @@ grow_goes v all d (suc m) s before now c x k is old new whole last from b result
     let here : behind all old.0 ≡ ts = ap (λ (n : ℕ). drop n all) at in
     let parts : parts_at T d 7 is ts ≡ Some y = ap (parts_at T d 7 is) (sym here) ∙ w in
     let u : Tree = (k, node x.0 x.1 y.0) in
-    let goes : grown_at T d (suc m) s x ts ≡ grown_at T d m s u y.1 = grow_is T d (suc m) s x ts ∙ rw (t, lt-ltb (depth x.1 + 1) (suc d) (omega arith), parts) (unfold grown_steps in refl) in
+    let goes : grown_at T d (suc m) s x ts ≡ grown_at T d m s u y.1 = grow_is T d (suc m) s x ts
+    ∙ rw (t, lt-ltb (depth x.1 + 1) (suc d) (omega arith), parts) (unfold grown_steps in refl) in
     let is_ready = wrapped_ready v all before now old new from c x y.0 a i o at de z g.0 in
     let added = closed_node v all before new.0 whole from new.1 k (node x.0 x.1 y.0) is_ready wat (gr (node x.0 x.1 y.0) is_ready) in
     let got = go u m pl added (cl (node x.0 x.1 y.0) is_ready) (omega arith) in
@@ -377,7 +500,10 @@ drop_past [] (suc n) le = refl
 drop_past (i ∷ is) zero le = absurd (omega arith)
 drop_past (i ∷ is) (suc n) le = drop_past is n (omega arith)
 
-pub stays_none : (v : Version) (all : List Token) (d n : ℕ) (g : Group) (old mid new : State) (r : Read Forest) → 0 < length ((php v).parts g (behind all mid.0)) → inner_at (php v) d n ((php v).parts g (behind all mid.0)) (behind all mid.0) ≡ r → Extends (Ok tt) v all mid new d r → new.0.at ≤ mid.0.at → Turned v all d n g old mid → turned_at (php v) d n (length (behind all old.0)) g (behind all old.0) ≡ None
+pub stays_none : (v : Version) (all : List Token) (d n : ℕ) (g : Group) (old mid new : State) (r : Read Forest)
+    → 0 < length ((php v).parts g (behind all mid.0)) → inner_at (php v) d n ((php v).parts g (behind all mid.0))
+    (behind all mid.0) ≡ r → Extends (Ok tt) v all mid new d r → new.0.at ≤ mid.0.at → Turned v all d n g old mid
+    → turned_at (php v) d n (length (behind all old.0)) g (behind all old.0) ≡ None
 stays_none v all d n g old mid new None has e x le w = absurd x
 stays_none v all d n g old mid new (Some y) has e x le w =
     let c = cons_of ((php v).parts g (behind all mid.0)) has in
@@ -385,11 +511,17 @@ stays_none v all d n g old mid new (Some y) has e x le w =
     let more = no_fewer all mid.0 new.0 le in
     turned_stays v all d n g c.0 c.1 old mid y c.2 e (omega arith) w
 
-pub turned_breaks : (v : Version) (all : List Token) (d n : ℕ) (g : Group) (old mid new : State) (e : ParseFault) → 0 < length ((php v).parts g (behind all mid.0)) → Extends (Err e) v all mid new d (inner_at (php v) d n ((php v).parts g (behind all mid.0)) (behind all mid.0)) → Turned v all d n g old mid → Extends (Err e) v all old new d (turned_at (php v) d n (length (behind all old.0)) g (behind all old.0))
+pub turned_breaks : (v : Version) (all : List Token) (d n : ℕ) (g : Group) (old mid new : State) (e : ParseFault)
+    → 0 < length ((php v).parts g (behind all mid.0)) → Extends (Err e) v all mid new d
+    (inner_at (php v) d n ((php v).parts g (behind all mid.0)) (behind all mid.0)) → Turned v all d n g old mid
+    → Extends (Err e) v all old new d (turned_at (php v) d n (length (behind all old.0)) g (behind all old.0))
 turned_breaks v all d n g old mid new NotInGrammar has x w = let c = cons_of ((php v).parts g (behind all mid.0)) has in turned_fails v all d n g c.0 c.1 old mid c.2 x w
 turned_breaks v all d n g old mid new Memory has x w = tt
 
-pub turned_on : (v : Version) (all : List Token) (d n : ℕ) (g : Group) (old mid new : State) → 0 < length ((php v).parts g (behind all mid.0)) → Extends (Ok tt) v all mid new d (inner_at (php v) d n ((php v).parts g (behind all mid.0)) (behind all mid.0)) → mid.0.at < new.0.at → Turned v all d n g old mid → Turned v all d n g old new
+pub turned_on : (v : Version) (all : List Token) (d n : ℕ) (g : Group) (old mid new : State)
+    → 0 < length ((php v).parts g (behind all mid.0)) → Extends (Ok tt) v all mid new d
+    (inner_at (php v) d n ((php v).parts g (behind all mid.0)) (behind all mid.0)) → mid.0.at < new.0.at
+    → Turned v all d n g old mid → Turned v all d n g old new
 turned_on v all d n g old mid new has x lt w =
     let c = cons_of ((php v).parts g (behind all mid.0)) has in
     let less = fewer all mid.0 new.0 (extends_within v all mid new d _ x) lt in
@@ -413,7 +545,10 @@ leafed_low : (ts : List Token) → depth (leafed ts none) ≡ 0
 leafed_low [] = refl
 leafed_low (t ∷ ts) = leafed_low ts
 
-pub run_done : (v : Version) (all : List Token) (old new : State) (n d : ℕ) → n ≤ length (behind all old.0) → old.0.at ≤ length all → Grew old.0 new.0 (leafed (take n (behind all old.0)) none) → new.0.at ≡ old.0.at + n → new.1.deep ≡ old.1.deep → (0 < n → new.1.edge ≡ 0) → (n ≡ 0 → new.1.edge ≡ old.1.edge) → Extends (Ok tt) v all old new d (run_read n (behind all old.0))
+pub run_done : (v : Version) (all : List Token) (old new : State) (n d : ℕ) → n ≤ length (behind all old.0)
+    → old.0.at ≤ length all → Grew old.0 new.0 (leafed (take n (behind all old.0)) none) → new.0.at ≡ old.0.at + n
+    → new.1.deep ≡ old.1.deep → (0 < n → new.1.edge ≡ 0) → (n ≡ 0 → new.1.edge ≡ old.1.edge)
+    → Extends (Ok tt) v all old new d (run_read n (behind all old.0))
 run_done v all old new n d le w g at deep many empty =
     let a = leaves_added v all old new n le w g at deep many empty in
     subst (λ (r : Read Forest). Extends (Ok tt) v all old new d r) (sym (run_takes n (behind all old.0) le)) (a.0, a.1, omega (arith, leafed_low (take n (behind all old.0))))

@@ -81,6 +81,10 @@ atom_form t.Isset = Some (k.Isset, Word t.Isset ∷ Word t.OpenParen ∷ any ∷
 atom_form t.Empty = Some (k.EmptyTest, Word t.Empty ∷ Word t.OpenParen ∷ any ∷ Word t.CloseParen ∷ [])
 atom_form t.Exit = Some (k.Exit, Word t.Exit ∷ Part g.ExitValue ∷ [])
 atom_form t.Eval = Some (k.EvalTest, Word t.Eval ∷ Word t.OpenParen ∷ any ∷ Word t.CloseParen ∷ [])
-atom_form t.Function = Some (k.Closure, Word t.Function ∷ Part g.ByRef ∷ Word t.OpenParen ∷ Part g.Params ∷ Word t.CloseParen ∷ Part g.ClosureUse ∷ Part g.ReturnType ∷ Node s.Block ∷ [])
+atom_form t.Function = Some (
+  k.Closure,
+  Word t.Function ∷ Part g.ByRef ∷ Word t.OpenParen ∷ Part g.Params
+      ∷ Word t.CloseParen ∷ Part g.ClosureUse ∷ Part g.ReturnType ∷ Node s.Block ∷ [],
+)
 atom_form t.Fn = Some (k.Arrow, Word t.Fn ∷ Part g.ByRef ∷ Word t.OpenParen ∷ Part g.Params ∷ Word t.CloseParen ∷ Part g.ReturnType ∷ Word t.DoubleArrow ∷ any ∷ [])
 atom_form _ = None

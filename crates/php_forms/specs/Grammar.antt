@@ -42,21 +42,31 @@ mutual
     -- a token of the class
     word : {c : Terminal} {is : List Item} {t : Token} {f : Forest} {rest : List Token} → T.accepts c t ≡ true → Walks T is f rest → Walks T (Word c ∷ is) (leaf t f) rest
     -- a node that is of the sort, and goes no further
-    child : {s : Sort} {is : List Item} {k : NodeKind} {c f : Forest} {rest : List Token} → Grows T s k c (leaves f ++ rest) → T.tail s (k, c) (leaves f ++ rest) ≡ None → Walks T is f rest → Walks T (Node s ∷ is) (node k c f) rest
+    child : {s : Sort} {is : List Item} {k : NodeKind} {c f : Forest} {rest : List Token}
+        → Grows T s k c (leaves f ++ rest) → T.tail s (k, c) (leaves f ++ rest) ≡ None → Walks T is f rest
+        → Walks T (Node s ∷ is) (node k c f) rest
     -- the items of a group
-    part : {g : Group} {is : List Item} {h f : Forest} {rest : List Token} → Walks T (T.parts g (leaves h ++ (leaves f ++ rest))) h (leaves f ++ rest) → Walks T is f rest → Walks T (Part g ∷ is) (h +++ f) rest
+    part : {g : Group} {is : List Item} {h f : Forest} {rest : List Token}
+        → Walks T (T.parts g (leaves h ++ (leaves f ++ rest))) h (leaves f ++ rest) → Walks T is f rest
+        → Walks T (Part g ∷ is) (h +++ f) rest
     -- no turn of a group: the next tokens choose none
     stop : {g : Group} {is : List Item} {f : Forest} {rest : List Token} → T.parts g (leaves f ++ rest) ≡ [] → Walks T is f rest → Walks T (Turns g ∷ is) f rest
     -- a turn of a group, with at least one token, and then the other turns
-    turn : {g : Group} {i : Item} {js is : List Item} {h f : Forest} {rest : List Token} → T.parts g (leaves h ++ (leaves f ++ rest)) ≡ i ∷ js → Walks T (i ∷ js) h (leaves f ++ rest) → 0 < length (leaves h) → Walks T (Turns g ∷ is) f rest → Walks T (Turns g ∷ is) (h +++ f) rest
+    turn : {g : Group} {i : Item} {js is : List Item} {h f : Forest} {rest : List Token}
+        → T.parts g (leaves h ++ (leaves f ++ rest)) ≡ i ∷ js → Walks T (i ∷ js) h (leaves f ++ rest)
+        → 0 < length (leaves h) → Walks T (Turns g ∷ is) f rest → Walks T (Turns g ∷ is) (h +++ f) rest
     -- as many tokens as the span takes
-    span : {is : List Item} {f : Forest} {rest : List Token} (h : Forest) → IsFlat h → T.span (leaves h ++ (leaves f ++ rest)) ≡ length (leaves h) → Walks T is f rest → Walks T (Span ∷ is) (h +++ f) rest
+    span : {is : List Item} {f : Forest} {rest : List Token} (h : Forest) → IsFlat h
+        → T.span (leaves h ++ (leaves f ++ rest)) ≡ length (leaves h) → Walks T is f rest
+        → Walks T (Span ∷ is) (h +++ f) rest
 
   pub data Grows (T : Tables) : Sort → NodeKind → Forest → List Token → Type 0 where
     -- the form with which the node begins
     head : {s : Sort} {k : NodeKind} {is : List Item} {c : Forest} {rest : List Token} → T.form s (leaves c ++ rest) ≡ Some (k, is) → Walks T is c rest → Grows T s k c rest
     -- a form that goes on behind a node
-    onward : {s : Sort} {j k : NodeKind} {is : List Item} {b f : Forest} {rest : List Token} → Grows T s j b (leaves f ++ rest) → T.tail s (j, b) (leaves f ++ rest) ≡ Some (k, is) → Walks T is f rest → Grows T s k (node j b f) rest
+    onward : {s : Sort} {j k : NodeKind} {is : List Item} {b f : Forest} {rest : List Token}
+        → Grows T s j b (leaves f ++ rest) → T.tail s (j, b) (leaves f ++ rest) ≡ Some (k, is) → Walks T is f rest
+        → Grows T s k (node j b f) rest
 
 -- A node of the sort, where the tokens `rest` follow.
 abbrev pub Spells : Tables → Sort → Tree → List Token → Type 0

@@ -22,7 +22,11 @@ expression_form = (k.ExprStmt, any ∷ Word t.Semi ∷ [])
 
 -- an `if`, by what stands behind its condition
 abbrev pub if_form : Terminal → Form
-if_form t.Colon = (k.IfAlt, Word t.If ∷ Word t.OpenParen ∷ any ∷ Word t.CloseParen ∷ Word t.Colon ∷ Turns g.Statements ∷ Turns g.AltElseIfs ∷ Part g.AltElse ∷ Word t.EndIf ∷ Word t.Semi ∷ [])
+if_form t.Colon = (
+  k.IfAlt,
+  Word t.If ∷ Word t.OpenParen ∷ any ∷ Word t.CloseParen ∷ Word t.Colon ∷ Turns g.Statements
+      ∷ Turns g.AltElseIfs ∷ Part g.AltElse ∷ Word t.EndIf ∷ Word t.Semi ∷ [],
+)
 if_form _ = (k.If, Word t.If ∷ Word t.OpenParen ∷ any ∷ Word t.CloseParen ∷ Node s.Statement ∷ Turns g.ElseIfs ∷ Part g.ElsePart ∷ [])
 
 -- what begins with `static`
@@ -37,7 +41,11 @@ name_of_function second third = second
 
 -- what begins with `function`: a function where a name follows, else a closure
 abbrev pub function_form : Terminal → Terminal → Form
-function_form second third = cond (is_any_label (name_of_function second third)) (k.Function, Word t.Function ∷ Part g.ByRef ∷ Word t.FunctionLabel ∷ Word t.OpenParen ∷ Part g.Params ∷ Word t.CloseParen ∷ Part g.ReturnType ∷ Node s.Block ∷ []) expression_form
+function_form second third = cond (is_any_label (name_of_function second third)) (
+  k.Function,
+  Word t.Function ∷ Part g.ByRef ∷ Word t.FunctionLabel ∷ Word t.OpenParen ∷ Part g.Params
+      ∷ Word t.CloseParen ∷ Part g.ReturnType ∷ Node s.Block ∷ [],
+) expression_form
 
 -- what begins with `namespace`
 abbrev pub namespace_form : Terminal → Form
@@ -88,7 +96,11 @@ behind_modifiers ts = first_of (drop (modifiers_len ts) ts)
 
 -- a member with modifiers
 abbrev pub modified_form : Terminal → Form
-modified_form t.Function = (k.Method, Turns g.Modifiers ∷ Word t.Function ∷ Part g.ByRef ∷ Word t.AnyWord ∷ Word t.OpenParen ∷ Part g.Params ∷ Word t.CloseParen ∷ Part g.ReturnType ∷ Part g.MethodBody ∷ [])
+modified_form t.Function = (
+  k.Method,
+  Turns g.Modifiers ∷ Word t.Function ∷ Part g.ByRef ∷ Word t.AnyWord
+      ∷ Word t.OpenParen ∷ Part g.Params ∷ Word t.CloseParen ∷ Part g.ReturnType ∷ Part g.MethodBody ∷ [],
+)
 modified_form t.Const = (k.ClassConst, Turns g.Modifiers ∷ Word t.Const ∷ Word t.ConstantWord ∷ Word t.Assign ∷ any ∷ Turns g.MoreClassConsts ∷ Word t.Semi ∷ [])
 modified_form _ = (k.Property, Word t.Modifier ∷ Turns g.Modifiers ∷ Part g.PropertyType ∷ Word t.Variable ∷ Part g.FirstValue ∷ Turns g.MoreVariables ∷ Word t.Semi ∷ [])
 

@@ -176,11 +176,27 @@ simple_form t.Global = (k.Global, Word t.Global ∷ Node s.SimpleVariable ∷ Tu
 simple_form t.Unset = (k.Unset, Word t.Unset ∷ Word t.OpenParen ∷ any ∷ Turns g.MoreUnset ∷ Word t.CloseParen ∷ Word t.Semi ∷ [])
 simple_form t.Throw = (k.Throw, Word t.Throw ∷ any ∷ Word t.Semi ∷ [])
 simple_form t.Try = (k.Try, Word t.Try ∷ Node s.Block ∷ Part g.Handlers ∷ [])
-simple_form t.Declare = (k.Declare, Word t.Declare ∷ Word t.OpenParen ∷ Word t.FreeLabel ∷ Word t.Assign ∷ any ∷ Turns g.MoreDirectives ∷ Word t.CloseParen ∷ Part g.DeclareBody ∷ [])
+simple_form t.Declare = (
+  k.Declare,
+  Word t.Declare ∷ Word t.OpenParen ∷ Word t.FreeLabel ∷ Word t.Assign ∷ any
+      ∷ Turns g.MoreDirectives ∷ Word t.CloseParen ∷ Part g.DeclareBody ∷ [],
+)
 simple_form t.Goto = (k.Goto, Word t.Goto ∷ Word t.FreeLabel ∷ Word t.Semi ∷ [])
-simple_form t.Class = (k.Class, Part g.Attribute ∷ Turns g.ClassModifiers ∷ Word t.Class ∷ Word t.ClassLabel ∷ Part g.Extends ∷ Part g.Implements ∷ Word t.OpenBrace ∷ Turns g.Members ∷ Word t.CloseBrace ∷ [])
-simple_form t.ClassModifier = (k.Class, Part g.Attribute ∷ Turns g.ClassModifiers ∷ Word t.Class ∷ Word t.ClassLabel ∷ Part g.Extends ∷ Part g.Implements ∷ Word t.OpenBrace ∷ Turns g.Members ∷ Word t.CloseBrace ∷ [])
-simple_form t.AttributeOpen = (k.Class, Part g.Attribute ∷ Turns g.ClassModifiers ∷ Word t.Class ∷ Word t.ClassLabel ∷ Part g.Extends ∷ Part g.Implements ∷ Word t.OpenBrace ∷ Turns g.Members ∷ Word t.CloseBrace ∷ [])
+simple_form t.Class = (
+  k.Class,
+  Part g.Attribute ∷ Turns g.ClassModifiers ∷ Word t.Class ∷ Word t.ClassLabel
+      ∷ Part g.Extends ∷ Part g.Implements ∷ Word t.OpenBrace ∷ Turns g.Members ∷ Word t.CloseBrace ∷ [],
+)
+simple_form t.ClassModifier = (
+  k.Class,
+  Part g.Attribute ∷ Turns g.ClassModifiers ∷ Word t.Class ∷ Word t.ClassLabel
+      ∷ Part g.Extends ∷ Part g.Implements ∷ Word t.OpenBrace ∷ Turns g.Members ∷ Word t.CloseBrace ∷ [],
+)
+simple_form t.AttributeOpen = (
+  k.Class,
+  Part g.Attribute ∷ Turns g.ClassModifiers ∷ Word t.Class ∷ Word t.ClassLabel
+      ∷ Part g.Extends ∷ Part g.Implements ∷ Word t.OpenBrace ∷ Turns g.Members ∷ Word t.CloseBrace ∷ [],
+)
 simple_form t.Interface = (k.Interface, Word t.Interface ∷ Word t.ClassLabel ∷ Part g.Parents ∷ Word t.OpenBrace ∷ Turns g.Members ∷ Word t.CloseBrace ∷ [])
 simple_form t.Trait = (k.Trait, Word t.Trait ∷ Word t.ClassLabel ∷ Word t.OpenBrace ∷ Turns g.Members ∷ Word t.CloseBrace ∷ [])
 simple_form t.Use = (k.Use, Word t.Use ∷ Part g.UseBody ∷ Word t.Semi ∷ [])

@@ -7,7 +7,20 @@ use Rattle.php_terminals.specs.declared.mark.Mark.{Mark}
 use Rattle.php_terminals.specs.declared.terminal.Terminal.{Terminal}
 use Rattle.php_terminals.specs.declared.terminal.Terminal.TheVariants as t
 use Rattle.php_terminals.specs.Classify.{terminal}
-use Rattle.php_terminals.specs.Indents.{fresh_behind, fresh_by, is_heredoc_kind, heredoc_fits, last_text, leaf_fits, leaf_fits_by, literal_fits, node_fits, parts_fit, quoted_fits, text_fits}
+use Rattle.php_terminals.specs.Indents.{
+  fresh_behind,
+  fresh_by,
+  is_heredoc_kind,
+  heredoc_fits,
+  last_text,
+  leaf_fits,
+  leaf_fits_by,
+  literal_fits,
+  node_fits,
+  parts_fit,
+  quoted_fits,
+  text_fits,
+}
 use Rattle.php_terminals.specs.Marked.{IsMark, token_at}
 use Rattle.php_rows.specs.declared.parts.Parts.{Parts}
 use Rattle.php_rows.specs.Reading.{IsLeaf, IsChild, bytes_of, forest_in, weight}
@@ -83,7 +96,9 @@ is_mark m old new bytes e l = rw (e ∙ bytes_same m old new l) l.mark
 pub fits_none : (indent : List ℕ) (fresh : Bool) (f : Forest) → f ≡ none → parts_fit indent fresh f ≡ true
 fits_none indent fresh f e = rw e refl
 
-leaf_is : (indent : List ℕ) (fresh : Bool) (m : Mark) (bytes text : List ℕ) → IsMark bytes m → text ≡ (token_at bytes m).text → leaf_fits indent fresh (token_at bytes m) ≡ leaf_fits_by m.class indent fresh text
+leaf_is : (indent : List ℕ) (fresh : Bool) (m : Mark) (bytes text : List ℕ) → IsMark bytes m
+    → text ≡ (token_at bytes m).text → leaf_fits indent fresh (token_at bytes m) ≡ leaf_fits_by m.class indent fresh
+    text
 unfolding leaf_fits
 leaf_is indent fresh m bytes text i e = rw (i.class, e) refl
 
@@ -91,16 +106,22 @@ fresh_is : (fresh : Bool) (m : Mark) (bytes text : List ℕ) → IsMark bytes m 
 unfolding fresh_behind
 fresh_is fresh m bytes text i e = rw (i.class, e) refl
 
-pub fits_token : (indent : List ℕ) (fresh : Bool) (m : Mark) (old new : Parts) (text : List ℕ) → IsLeaf m old new → text ≡ (token_at (bytes_of old) m).text → leaf_fits_by m.class indent fresh text ≡ true → parts_fit indent fresh (forest_in old) ≡ parts_fit indent (fresh_by m.class fresh text) (forest_in new)
+pub fits_token : (indent : List ℕ) (fresh : Bool) (m : Mark) (old new : Parts) (text : List ℕ) → IsLeaf m old new
+    → text ≡ (token_at (bytes_of old) m).text → leaf_fits_by m.class indent fresh text ≡ true
+    → parts_fit indent fresh (forest_in old) ≡ parts_fit indent (fresh_by m.class fresh text) (forest_in new)
 fits_token indent fresh m old new text l e h = rw (l.parts, leaf_is indent fresh m (bytes_of old) text l.mark e, fresh_is fresh m (bytes_of old) text l.mark e, h) refl
 
-pub unfit_token : (indent : List ℕ) (fresh : Bool) (m : Mark) (old new : Parts) (text : List ℕ) → IsLeaf m old new → text ≡ (token_at (bytes_of old) m).text → leaf_fits_by m.class indent fresh text ≡ false → parts_fit indent fresh (forest_in old) ≡ false
+pub unfit_token : (indent : List ℕ) (fresh : Bool) (m : Mark) (old new : Parts) (text : List ℕ) → IsLeaf m old new
+    → text ≡ (token_at (bytes_of old) m).text → leaf_fits_by m.class indent fresh text ≡ false
+    → parts_fit indent fresh (forest_in old) ≡ false
 unfit_token indent fresh m old new text l e h = rw (l.parts, leaf_is indent fresh m (bytes_of old) text l.mark e, h) refl
 
-pub fits_node : (indent : List ℕ) (fresh : Bool) (j : NodeKind) (n : ℕ) (c old new : Parts) → IsChild j n c old new → node_fits indent fresh ≡ true → parts_fit indent fresh (forest_in old) ≡ parts_fit indent false (forest_in new)
+pub fits_node : (indent : List ℕ) (fresh : Bool) (j : NodeKind) (n : ℕ) (c old new : Parts) → IsChild j n c old new
+    → node_fits indent fresh ≡ true → parts_fit indent fresh (forest_in old) ≡ parts_fit indent false (forest_in new)
 fits_node indent fresh j n c old new l h = rw (l.parts, h) refl
 
-pub unfit_node : (indent : List ℕ) (fresh : Bool) (j : NodeKind) (n : ℕ) (c old new : Parts) → IsChild j n c old new → node_fits indent fresh ≡ false → parts_fit indent fresh (forest_in old) ≡ false
+pub unfit_node : (indent : List ℕ) (fresh : Bool) (j : NodeKind) (n : ℕ) (c old new : Parts) → IsChild j n c old new
+    → node_fits indent fresh ≡ false → parts_fit indent fresh (forest_in old) ≡ false
 unfit_node indent fresh j n c old new l h = rw (l.parts, h) refl
 
 pub quoted_none : (f : Forest) → f ≡ none → quoted_fits f ≡ true

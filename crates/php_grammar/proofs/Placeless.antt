@@ -1,5 +1,38 @@
 -- The tables don't look at where tokens stand.
-use Rattle.std.proofs.Common.{◌≡◌, ℕ, zero, suc, ◌+◌, ◌-◌, max, Bool, true, false, not, cond, ◌&&◌, ◌||◌, List, [], ◌∷◌, length, take, drop, map, Option, Some, None, nat_le, nat_eq, nat_lt, refl, sym, ap, ◌∙◌, arith}
+use Rattle.std.proofs.Common.{
+  ◌≡◌,
+  ℕ,
+  zero,
+  suc,
+  ◌+◌,
+  ◌-◌,
+  max,
+  Bool,
+  true,
+  false,
+  not,
+  cond,
+  ◌&&◌,
+  ◌||◌,
+  List,
+  [],
+  ◌∷◌,
+  length,
+  take,
+  drop,
+  map,
+  Option,
+  Some,
+  None,
+  nat_le,
+  nat_eq,
+  nat_lt,
+  refl,
+  sym,
+  ap,
+  ◌∙◌,
+  arith,
+}
 use Rattle.std.specs.List.{prefix_len, drop-map}
 use Rattle.std.proofs.lemmas.List.{take-map, length-map}
 use Rattle.php_tree.specs.declared.kind.NodeKind.{NodeKind}
@@ -15,9 +48,36 @@ use Rattle.php_forms.specs.declared.item.Sort.TheVariants as s
 use Rattle.php_forms.specs.declared.item.Group.{Group}
 use Rattle.php_forms.specs.declared.item.Group.TheVariants as g
 use Rattle.php_forms.specs.declared.item.Item.{Item}
-use Rattle.php_terminals.specs.Ahead.{behind_member, behind_name, behind_rest, behind_variable, dollars, first_of, is_called, is_in_name, is_some_dollar, name_len, past_group, second_of, spanned, third_of}
+use Rattle.php_terminals.specs.Ahead.{
+  behind_member,
+  behind_name,
+  behind_rest,
+  behind_variable,
+  dollars,
+  first_of,
+  is_called,
+  is_in_name,
+  is_some_dollar,
+  name_len,
+  past_group,
+  second_of,
+  spanned,
+  third_of,
+}
 use Rattle.php_terminals.specs.Classify.{terminal}
-use Rattle.php_terminals.specs.Indents.{fresh_behind, heredoc_fits, is_heredoc, is_misindented, last_text, leaf_fits, literal_fits, misindented_by, node_fits, parts_fit, quoted_fits}
+use Rattle.php_terminals.specs.Indents.{
+  fresh_behind,
+  heredoc_fits,
+  is_heredoc,
+  is_misindented,
+  last_text,
+  leaf_fits,
+  literal_fits,
+  misindented_by,
+  node_fits,
+  parts_fit,
+  quoted_fits,
+}
 use Rattle.php_terminals.specs.Indents as indents
 use Rattle.php_terminals.specs.Marked.{placeless, all_placeless}
 use Rattle.php_forms.specs.Atoms.{atom_form}
@@ -31,10 +91,48 @@ use Rattle.php_terminals.specs.Classify.{is_modifier}
 use Rattle.php_grammar.specs.Accepts.{accepts, in_set, same_class}
 use Rattle.php_grammar.specs.Edges.{edge, edge_from}
 use Rattle.php_grammar.specs.Levels.{first_leaf, is_alone, level, level_by, middle_leaf}
-use Rattle.php_grammar.specs.Operands.{chosen_operand, class_ref_form, created, created_by, entry_by, entry_form, entry_list_form, instance_by, instance_ref, name_form, named_form, operand_by, operand_form, place_form, simple_variable_by, simple_variable_form, static_member_form, static_name_form, static_operand, target_by, target_form, target_list_form, yield_by, yield_value}
+use Rattle.php_grammar.specs.Operands.{
+  chosen_operand,
+  class_ref_form,
+  created,
+  created_by,
+  entry_by,
+  entry_form,
+  entry_list_form,
+  instance_by,
+  instance_ref,
+  name_form,
+  named_form,
+  operand_by,
+  operand_form,
+  place_form,
+  simple_variable_by,
+  simple_variable_form,
+  static_member_form,
+  static_name_form,
+  static_operand,
+  target_by,
+  target_form,
+  target_list_form,
+  yield_by,
+  yield_value,
+}
 use Rattle.php_grammar.specs.Operands as operands
 use Rattle.php_grammar.specs.Tables.{form, parts, php, span, tail, tail_by}
-use Rattle.php_grammar.specs.Tails.{class_ref_by, class_ref_tail, interpolated_by, interpolated_tail, member_tail, operand_by as operand_tail_by, operator_by, operator_tail, postfix_by, postfix_tail, read_by, static_tail}
+use Rattle.php_grammar.specs.Tails.{
+  class_ref_by,
+  class_ref_tail,
+  interpolated_by,
+  interpolated_tail,
+  member_tail,
+  operand_by as operand_tail_by,
+  operator_by,
+  operator_tail,
+  postfix_by,
+  postfix_tail,
+  read_by,
+  static_tail,
+}
 use Rattle.php_grammar.specs.Tails as tails
 
 abbrev pub forest_placeless : Forest → Forest
@@ -54,7 +152,9 @@ second_p ts = ap first_of (drop-map placeless 1 ts) ∙ first_p (drop 1 ts)
 third_p : (ts : List Token) → third_of (all_placeless ts) ≡ third_of ts
 third_p ts = ap first_of (drop-map placeless 2 ts) ∙ first_p (drop 2 ts)
 
-choose : (a b c : Bool) (u v w z : List Token) → cond a (all_placeless u) (cond b (cond c (all_placeless v) (all_placeless w)) (all_placeless z)) ≡ all_placeless (cond a u (cond b (cond c v w) z))
+choose : (a b c : Bool) (u v w z : List Token) → cond a (all_placeless u)
+    (cond b (cond c (all_placeless v) (all_placeless w)) (all_placeless z)) ≡ all_placeless
+    (cond a u (cond b (cond c v w) z))
 choose true b c u v w z = refl
 choose false true true u v w z = refl
 choose false true false u v w z = refl
@@ -63,7 +163,9 @@ choose false false c u v w z = refl
 past_p : (n : ℕ) (ts : List Token) → past_group n (all_placeless ts) ≡ all_placeless (past_group n ts)
 past_p n [] = refl
 past_p n (x ∷ xs) =
-    rw (past_p (n + 1) xs, past_p (n - 1) xs, past_p n xs) (choose (opens (terminal x)) (closes (terminal x)) (nat_le n 1) (past_group (n + 1) xs) xs (past_group (n - 1) xs) (past_group n xs))
+    rw (past_p (n + 1) xs, past_p (n - 1) xs, past_p n xs)
+    (choose (opens (terminal x)) (closes (terminal x)) (nat_le n 1) (past_group (n + 1) xs) xs
+    (past_group (n - 1) xs) (past_group n xs))
 
 past_first : (n : ℕ) (ts : List Token) → first_of (past_group n (all_placeless ts)) ≡ first_of (past_group n ts)
 past_first n ts = ap first_of (past_p n ts) ∙ first_p (past_group n ts)
@@ -77,7 +179,9 @@ prefix_p : (q : Terminal → Bool) (ts : List Token) → prefix_len (λ (x : Tok
 prefix_p q [] = refl
 prefix_p q (x ∷ xs) = ap (λ (n : ℕ). cond (q (terminal x)) (1 + n) 0) (prefix_p q xs)
 
-run_p : (q : Terminal → Bool) (ts : List Token) → length (take (prefix_len (λ (x : Token). q (terminal x)) (all_placeless ts)) (all_placeless ts)) ≡ length (take (prefix_len (λ (x : Token). q (terminal x)) ts) ts)
+run_p : (q : Terminal → Bool) (ts : List Token)
+    → length (take (prefix_len (λ (x : Token). q (terminal x)) (all_placeless ts)) (all_placeless ts)) ≡ length
+    (take (prefix_len (λ (x : Token). q (terminal x)) ts) ts)
 run_p q ts =
     let n = prefix_len (λ (x : Token). q (terminal x)) ts in
     ap (λ (m : ℕ). length (take m (all_placeless ts))) (prefix_p q ts) ∙ ap length (take-map placeless n ts) ∙ length-map (take n ts) placeless
@@ -95,7 +199,8 @@ modifiers_p : (ts : List Token) → modifiers_len (all_placeless ts) ≡ modifie
 modifiers_p ts = run_p is_modifier ts
 
 behind_modifiers_p : (ts : List Token) → behind_modifiers (all_placeless ts) ≡ behind_modifiers ts
-behind_modifiers_p ts = ap (λ (n : ℕ). first_of (drop n (all_placeless ts))) (modifiers_p ts) ∙ ap first_of (drop-map placeless (modifiers_len ts) ts) ∙ first_p (drop (modifiers_len ts) ts)
+behind_modifiers_p ts = ap (λ (n : ℕ). first_of (drop n (all_placeless ts))) (modifiers_p ts)
+    ∙ ap first_of (drop-map placeless (modifiers_len ts) ts) ∙ first_p (drop (modifiers_len ts) ts)
 
 rest_p : (ts : List Token) → behind_rest (all_placeless ts) ≡ behind_rest ts
 rest_p ts = rw (first_p ts, past_first 0 ts, second_p ts) refl
@@ -129,7 +234,8 @@ chosen_p t.MixedOrNever ts = rw (second_p ts) refl
 chosen_p _ ts = refl
 
 statement_p : (ts : List Token) → statement_form (all_placeless ts) ≡ statement_form ts
-statement_p ts = ap (λ (x : Terminal). or_else (chosen_by x (all_placeless ts)) (simple x)) (first_p ts) ∙ ap (λ (o : Option Form). or_else o (simple (first_of ts))) (chosen_p (first_of ts) ts)
+statement_p ts = ap (λ (x : Terminal). or_else (chosen_by x (all_placeless ts)) (simple x)) (first_p ts)
+    ∙ ap (λ (o : Option Form). or_else o (simple (first_of ts))) (chosen_p (first_of ts) ts)
   where
     simple : Terminal → Option Form
     simple x = Some (simple_form x)
@@ -198,14 +304,16 @@ target_by_p t.List ts = refl
 target_by_p _ ts = refl
 
 target_p : (v : Version) (ts : List Token) → target_form v (all_placeless ts) ≡ target_form v ts
-target_p v ts = ap (λ (x : Terminal). or_else (target_by x (all_placeless ts)) (place_form v (all_placeless ts))) (first_p ts) ∙ rw (target_by_p (first_of ts) ts, place_p v ts) refl
+target_p v ts = ap (λ (x : Terminal). or_else (target_by x (all_placeless ts)) (place_form v (all_placeless ts)))
+    (first_p ts) ∙ rw (target_by_p (first_of ts) ts, place_p v ts) refl
 
 entry_by_p : (x : Terminal) (ts : List Token) → entry_by x (all_placeless ts) ≡ entry_by x ts
 entry_by_p t.OpenBracket ts = rw (past_first 0 ts) refl
 entry_by_p _ ts = refl
 
 entry_p : (v : Version) (ts : List Token) → entry_form v (all_placeless ts) ≡ entry_form v ts
-entry_p v ts = ap (λ (x : Terminal). or_else (entry_by x (all_placeless ts)) (operand_form v (all_placeless ts))) (first_p ts) ∙ rw (entry_by_p (first_of ts) ts, operand_p v ts) refl
+entry_p v ts = ap (λ (x : Terminal). or_else (entry_by x (all_placeless ts)) (operand_form v (all_placeless ts)))
+    (first_p ts) ∙ rw (entry_by_p (first_of ts) ts, operand_p v ts) refl
 
 simple_by_p : (x : Terminal) (ts : List Token) → simple_variable_by x (all_placeless ts) ≡ simple_variable_by x ts
 simple_by_p t.Variable ts = refl
@@ -489,7 +597,8 @@ postfix_by_p v kind _ ts = refl
 postfix_p : (v : Version) (kind : NodeKind) (ts : List Token) → postfix_tail v kind (all_placeless ts) ≡ postfix_tail v kind ts
 postfix_p v kind ts = ap (λ (x : Terminal). postfix_by v kind x (all_placeless ts)) (first_p ts) ∙ postfix_by_p v kind (first_of ts) ts
 
-operator_by_p : (v : Version) (limit left : ℕ) (kind : NodeKind) (x : Terminal) (ts : List Token) → operator_by v limit left kind x (all_placeless ts) ≡ operator_by v limit left kind x ts
+operator_by_p : (v : Version) (limit left : ℕ) (kind : NodeKind) (x : Terminal) (ts : List Token)
+    → operator_by v limit left kind x (all_placeless ts) ≡ operator_by v limit left kind x ts
 operator_by_p v limit left kind t.Assign ts = rw (second_p ts) refl
 operator_by_p v limit left kind t.CompoundAssign ts = refl
 operator_by_p v limit left kind t.Step ts = refl
@@ -498,7 +607,10 @@ operator_by_p v limit left kind t.Question ts = rw (second_p ts) refl
 operator_by_p v limit left kind _ ts = refl
 
 operator_p : (v : Version) (limit left : ℕ) (kind : NodeKind) (ts : List Token) → operator_tail v limit left kind (all_placeless ts) ≡ operator_tail v limit left kind ts
-operator_p v limit left kind ts = ap (λ (x : Terminal). or_else (operator_by v limit left kind x (all_placeless ts)) (tails.binary_tail v limit left x)) (first_p ts) ∙ ap (λ (o : Option Form). or_else o (tails.binary_tail v limit left (first_of ts))) (operator_by_p v limit left kind (first_of ts) ts)
+operator_p v limit left kind ts = ap (λ (x : Terminal). or_else (operator_by v limit left kind x (all_placeless ts))
+    (tails.binary_tail v limit left x)) (first_p ts)
+    ∙ ap (λ (o : Option Form). or_else o (tails.binary_tail v limit left (first_of ts)))
+    (operator_by_p v limit left kind (first_of ts) ts)
 
 operand_tail_p : (v : Version) (limit : ℕ) (kind : NodeKind) (own : ℕ) (ts : List Token) → operand_tail_by v limit kind own (all_placeless ts) ≡ operand_tail_by v limit kind own ts
 operand_tail_p v limit kind own ts = rw (postfix_p v kind ts, operator_p v limit (tails.left_by kind own) kind ts) refl

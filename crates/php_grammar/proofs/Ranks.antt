@@ -18,19 +18,181 @@ use Rattle.php_grammar.specs.Bases.{is_callee, is_class_base, is_list, is_member
 use Rattle.php_terminals.specs.Classify.{is_any_label}
 use Rattle.php_forms.specs.Forms.{or_else, refused, when}
 use Rattle.php_forms.specs.Grammar.{Form, IsNested, Ranked}
-use Rattle.php_forms.specs.Heads.{attribute, attribute_83, behind_modifiers, case_form, chosen_by, chosen_form, function_form, if_form, label_form, modified_form, name_of_function, namespace_form, static_form, trait_use_form}
+use Rattle.php_forms.specs.Heads.{
+  attribute,
+  attribute_83,
+  behind_modifiers,
+  case_form,
+  chosen_by,
+  chosen_form,
+  function_form,
+  if_form,
+  label_form,
+  modified_form,
+  name_of_function,
+  namespace_form,
+  static_form,
+  trait_use_form,
+}
 use Rattle.php_terminals.specs.Indents.{is_misindented}
 use Rattle.php_grammar.specs.Levels.{binary_items, binary_level, dot_items, left_limit}
 use Rattle.php_terminals.specs.Marks.{begins_place, ends_item, goes_on, is_assign, is_double_arrow, is_double_colon, is_name_part, is_variable_start}
-use Rattle.php_grammar.specs.Operands.{array_word_form, bracket_form, chosen_operand, class_ref_form, created, created_by, dollar_form, entry_by, entry_list_form, instance_by, instance_ref, name_by, name_form, named_form, named_prop_form, old_cast_form, operand_by, operand_form, place_form, simple_variable_by, simple_variable_form, static_by, static_member_form, static_name_form, static_prop_form, target_by, target_list_form, yield_by}
+use Rattle.php_grammar.specs.Operands.{
+  array_word_form,
+  bracket_form,
+  chosen_operand,
+  class_ref_form,
+  created,
+  created_by,
+  dollar_form,
+  entry_by,
+  entry_list_form,
+  instance_by,
+  instance_ref,
+  name_by,
+  name_form,
+  named_form,
+  named_prop_form,
+  old_cast_form,
+  operand_by,
+  operand_form,
+  place_form,
+  simple_variable_by,
+  simple_variable_form,
+  static_by,
+  static_member_form,
+  static_name_form,
+  static_prop_form,
+  target_by,
+  target_list_form,
+  yield_by,
+}
 use Rattle.php_grammar.specs.Tables.{form, parts, php, plain_variable_form, tail}
-use Rattle.php_grammar.specs.Tails.{assign_tail, binary_tail, brace_tail, chosen_tail, class_ref_by, entry_end, entry_tail, interpolated_by, left_edge, left_fits, member_tail, operand_tail, operator_by, operator_tail, place_tail, postfix_by, postfix_tail, read_tail, refused_unless, short_left_fits, static_tail, target_tail, ternary_tail}
+use Rattle.php_grammar.specs.Tails.{
+  assign_tail,
+  binary_tail,
+  brace_tail,
+  chosen_tail,
+  class_ref_by,
+  entry_end,
+  entry_tail,
+  interpolated_by,
+  left_edge,
+  left_fits,
+  member_tail,
+  operand_tail,
+  operator_by,
+  operator_tail,
+  place_tail,
+  postfix_by,
+  postfix_tail,
+  read_tail,
+  refused_unless,
+  short_left_fits,
+  static_tail,
+  target_tail,
+  ternary_tail,
+}
 use Rattle.php_forms.specs.Atoms.{atom_form, closure_use, ctor_args, exit_code, exit_value, member, more_used, offset_key, static_member, yield_to}
-use Rattle.php_forms.specs.Declarations.{alias, by_ref, class_alias, class_grouped, class_modifiers, class_use_rest, extends, first_value, grouped, implements, members, method_body, modifiers, more_class_consts, more_class_grouped, more_class_grouped_last, more_class_uses, more_consts, more_grouped, more_grouped_last, more_params, more_uses, more_variables, namespace_body, namespace_rest, nullable, param_type, params, parents, property_type, return_type, trait_rules, type_word, use_body, use_rest, used_class, used_grouped, variadic}
-use Rattle.php_forms.specs.Lists.{arg_list, array_items, entry_value, item_form, item_value, list_head, list_item_form, list_more, more_args, more_args_last, more_items, more_items_last}
-use Rattle.php_forms.specs.Names.{called_name, grouped_class, grouped_name, imported_class, imported_name, more_names, name, name_lead, name_more, name_more_label, namespace_name, root_lead}
+use Rattle.php_forms.specs.Declarations.{
+  alias,
+  by_ref,
+  class_alias,
+  class_grouped,
+  class_modifiers,
+  class_use_rest,
+  extends,
+  first_value,
+  grouped,
+  implements,
+  members,
+  method_body,
+  modifiers,
+  more_class_consts,
+  more_class_grouped,
+  more_class_grouped_last,
+  more_class_uses,
+  more_consts,
+  more_grouped,
+  more_grouped_last,
+  more_params,
+  more_uses,
+  more_variables,
+  namespace_body,
+  namespace_rest,
+  nullable,
+  param_type,
+  params,
+  parents,
+  property_type,
+  return_type,
+  trait_rules,
+  type_word,
+  use_body,
+  use_rest,
+  used_class,
+  used_grouped,
+  variadic,
+}
+use Rattle.php_forms.specs.Lists.{
+  arg_list,
+  array_items,
+  entry_value,
+  item_form,
+  item_value,
+  list_head,
+  list_item_form,
+  list_more,
+  more_args,
+  more_args_last,
+  more_items,
+  more_items_last,
+}
+use Rattle.php_forms.specs.Names.{
+  called_name,
+  grouped_class,
+  grouped_name,
+  imported_class,
+  imported_name,
+  more_names,
+  name,
+  name_lead,
+  name_more,
+  name_more_label,
+  namespace_name,
+  root_lead,
+}
 use Rattle.php_forms.specs.Quoted.{named_key, quoted_parts, quoted_parts_name, simple_key}
-use Rattle.php_forms.specs.Statements.{alt_else, alt_else_ifs, case_mark, cases, catches, caught_names, declare_body, else_ifs, else_part, exprs, finally_part, first_semi, for_body, foreach_body, foreach_target, foreach_value, handlers, loop_count, more_directives, more_exprs, more_globals, more_unset, more_unset_last, return_value, simple_form, statements, switch_body, while_body}
+use Rattle.php_forms.specs.Statements.{
+  alt_else,
+  alt_else_ifs,
+  case_mark,
+  cases,
+  catches,
+  caught_names,
+  declare_body,
+  else_ifs,
+  else_part,
+  exprs,
+  finally_part,
+  first_semi,
+  for_body,
+  foreach_body,
+  foreach_target,
+  foreach_value,
+  handlers,
+  loop_count,
+  more_directives,
+  more_exprs,
+  more_globals,
+  more_unset,
+  more_unset_last,
+  return_value,
+  simple_form,
+  statements,
+  switch_body,
+  while_body,
+}
 
 -- how deep groups stand in a group
 abbrev pub rank : Group → ℕ
@@ -682,7 +844,8 @@ dollar_form_nested t.OpenBrace = tt
 dollar_form_nested _ = tt
 
 static_name_nested : (ts : List Token) → Nested (static_name_form ts)
-static_name_nested ts = cond_form (is_called ts) _ _ (omega arith, (omega arith, tt)) (cond_form (is_variable_start (first_of ts)) _ _ (omega arith, (omega arith, tt)) (omega arith, tt))
+static_name_nested ts = cond_form (is_called ts) _ _ (omega arith, (omega arith, tt))
+    (cond_form (is_variable_start (first_of ts)) _ _ (omega arith, (omega arith, tt)) (omega arith, tt))
 
 name_nested_by : (x : Terminal) (ts : List Token) → Nested (name_by x ts)
 name_nested_by t.OpenParen ts = (omega arith, tt)
@@ -828,11 +991,14 @@ binary_tail_nested : (v : Version) (limit left : ℕ) (x : Terminal) → IfSome 
 binary_tail_nested v limit left x = when_nested (nat_lt 0 (binary_level v x) && nat_le (binary_level v x) limit && nat_le left (left_limit v x)) _ (binary_items_nested v x)
 
 operator_tail_nested : (v : Version) (limit left : ℕ) (k : NodeKind) (ts : List Token) → IfSome (operator_tail v limit left k ts) Nested
-operator_tail_nested v limit left k ts = or_else_nested (chosen_tail v limit left k ts) (binary_tail v limit left (first_of ts)) (operator_nested v limit left k (first_of ts) ts) (binary_tail_nested v limit left (first_of ts))
+operator_tail_nested v limit left k ts = or_else_nested (chosen_tail v limit left k ts)
+    (binary_tail v limit left (first_of ts)) (operator_nested v limit left k (first_of ts) ts)
+    (binary_tail_nested v limit left (first_of ts))
 
 operand_tail_nested : (v : Version) (limit : ℕ) (x : Tree) (ts : List Token) → IfSome (operand_tail v limit x ts) Nested
 operand_tail_nested v limit x ts =
-    or_else_nested (postfix_tail v x.0 ts) (operator_tail v limit (left_edge v x) x.0 ts) (postfix_nested v x.0 (first_of ts) ts) (operator_tail_nested v limit (left_edge v x) x.0 ts)
+    or_else_nested (postfix_tail v x.0 ts) (operator_tail v limit (left_edge v x) x.0 ts)
+    (postfix_nested v x.0 (first_of ts) ts) (operator_tail_nested v limit (left_edge v x) x.0 ts)
 
 refused_nested : (b : Bool) → IfSome (refused_unless b) Nested
 refused_nested true = tt
@@ -840,17 +1006,23 @@ refused_nested false = tt
 
 read_tail_nested : (v : Version) (limit : ℕ) (x : Tree) (ts : List Token) → IfSome (read_tail v limit x ts) Nested
 read_tail_nested v limit x ts =
-    cond_option (is_misindented x) refused (or_else (operand_tail v limit x ts) (refused_unless (not (is_list x.0)))) tt (or_else_nested (operand_tail v limit x ts) (refused_unless (not (is_list x.0))) (operand_tail_nested v limit x ts) (refused_nested (not (is_list x.0))))
+    cond_option (is_misindented x) refused (or_else (operand_tail v limit x ts) (refused_unless (not (is_list x.0))))
+    tt (or_else_nested (operand_tail v limit x ts) (refused_unless (not (is_list x.0)))
+    (operand_tail_nested v limit x ts) (refused_nested (not (is_list x.0))))
 
 entry_tail_nested : (v : Version) (x : Tree) (ts : List Token) → IfSome (entry_tail v x ts) Nested
 entry_tail_nested v x ts =
     cond_option (is_misindented x) refused (or_else (operand_tail v 24 x ts) (entry_end x.0 (first_of ts))) tt
     (or_else_nested (operand_tail v 24 x ts) (entry_end x.0 (first_of ts)) (operand_tail_nested v 24 x ts)
-    (cond_option (is_double_arrow (first_of ts)) (refused_unless (not (is_list x.0))) (refused_unless (is_target x.0 || is_list x.0)) (refused_nested (not (is_list x.0))) (refused_nested (is_target x.0 || is_list x.0))))
+    (cond_option (is_double_arrow (first_of ts)) (refused_unless (not (is_list x.0)))
+    (refused_unless (is_target x.0 || is_list x.0)) (refused_nested (not (is_list x.0)))
+    (refused_nested (is_target x.0 || is_list x.0))))
 
 place_tail_nested : (v : Version) (x : Tree) (ts : List Token) → IfSome (place_tail v x ts) Nested
 place_tail_nested v x ts =
-    cond_option (is_misindented x) refused (or_else (postfix_tail v x.0 ts) (refused_unless (is_target x.0))) tt (or_else_nested (postfix_tail v x.0 ts) (refused_unless (is_target x.0)) (postfix_nested v x.0 (first_of ts) ts) (refused_nested (is_target x.0)))
+    cond_option (is_misindented x) refused (or_else (postfix_tail v x.0 ts) (refused_unless (is_target x.0))) tt
+    (or_else_nested (postfix_tail v x.0 ts) (refused_unless (is_target x.0))
+    (postfix_nested v x.0 (first_of ts) ts) (refused_nested (is_target x.0)))
 
 target_tail_nested : (v : Version) (x : Tree) (ts : List Token) → IfSome (target_tail v x ts) Nested
 target_tail_nested v x ts = cond_option (is_list x.0) None (place_tail v x ts) tt (place_tail_nested v x ts)
@@ -877,7 +1049,8 @@ form_nested : (v : Version) (o : Sort) (ts : List Token) → IfSome (form v o ts
 form_nested v s.Statement ts = or_else_nested (chosen_form ts) (Some (simple_form (first_of ts))) (statement_nested (first_of ts) ts) (simple_form_nested (first_of ts))
 form_nested v s.Block ts = (omega arith, tt)
 form_nested v s.Case ts = case_form_nested (first_of ts)
-form_nested v s.Member ts = or_else_nested (trait_use_form (first_of ts)) (Some (modified_form (behind_modifiers ts))) (trait_use_nested (first_of ts)) (modified_nested (behind_modifiers ts))
+form_nested v s.Member ts = or_else_nested (trait_use_form (first_of ts)) (Some (modified_form (behind_modifiers ts)))
+    (trait_use_nested (first_of ts)) (modified_nested (behind_modifiers ts))
 form_nested v s.Param ts = (omega arith, (omega arith, (omega arith, (omega arith, tt))))
 form_nested v s.TypeName ts = (omega arith, (omega arith, tt))
 form_nested v s.Args ts = (omega arith, tt)

@@ -7,7 +7,22 @@ use Rattle.php_tree.specs.declared.version.Version.TheVariants.{V74, V83}
 use Rattle.php_terminals.specs.declared.terminal.Terminal.{Terminal}
 use Rattle.php_terminals.specs.declared.terminal.Terminal.TheVariants as t
 use Rattle.php_terminals.specs.Terminals.{code}
-use Rattle.php_terminals.specs.Classify.{is_any_label, is_attribute, is_called_label, is_class, is_constant_label, is_full, is_modifier, is_plain_label, is_qualified, is_relative, is_sign_or_tight, is_word_token, names_refused, terminal}
+use Rattle.php_terminals.specs.Classify.{
+  is_any_label,
+  is_attribute,
+  is_called_label,
+  is_class,
+  is_constant_label,
+  is_full,
+  is_modifier,
+  is_plain_label,
+  is_qualified,
+  is_relative,
+  is_sign_or_tight,
+  is_word_token,
+  names_refused,
+  terminal,
+}
 use Rattle.php_grammar.specs.Levels.{binary_level}
 
 -- a label that a constant, an alias, a goto or a directive may have, and a name alone: 8.3 refuses `match` and `readonly`

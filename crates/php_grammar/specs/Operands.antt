@@ -45,8 +45,16 @@ static_member_form member =
     (k.ClassConstant, Word t.Static ∷ Word t.DoubleColon ∷ Word t.AnyWord ∷ []))
 
 abbrev pub static_by : Terminal → List Token → Option Form
-static_by t.Function ts = Some (k.Closure, Word t.Static ∷ Word t.Function ∷ Part g.ByRef ∷ Word t.OpenParen ∷ Part g.Params ∷ Word t.CloseParen ∷ Part g.ClosureUse ∷ Part g.ReturnType ∷ Node s.Block ∷ [])
-static_by t.Fn ts = Some (k.Arrow, Word t.Static ∷ Word t.Fn ∷ Part g.ByRef ∷ Word t.OpenParen ∷ Part g.Params ∷ Word t.CloseParen ∷ Part g.ReturnType ∷ Word t.DoubleArrow ∷ any ∷ [])
+static_by t.Function ts = Some (
+  k.Closure,
+  Word t.Static ∷ Word t.Function ∷ Part g.ByRef ∷ Word t.OpenParen
+      ∷ Part g.Params ∷ Word t.CloseParen ∷ Part g.ClosureUse ∷ Part g.ReturnType ∷ Node s.Block ∷ [],
+)
+static_by t.Fn ts = Some (
+  k.Arrow,
+  Word t.Static ∷ Word t.Fn ∷ Part g.ByRef ∷ Word t.OpenParen ∷ Part g.Params
+      ∷ Word t.CloseParen ∷ Part g.ReturnType ∷ Word t.DoubleArrow ∷ any ∷ [],
+)
 static_by t.DoubleColon ts = Some (static_member_form (drop 2 ts))
 static_by _ ts = None
 

@@ -1,5 +1,36 @@
 -- What is counted is the longest: rows, runs, and texts with a closing byte.
-use Rattle.std.proofs.Common.{◌≡◌, ℕ, zero, suc, ◌+◌, ◌<◌, ◌≤◌, Bool, true, false, not, cond, ◌&&◌, nat_eq, nat_lt, List, [], ◌∷◌, length, take, drop, Option, Some, None, refl, sym, ap, ◌∙◌, subst, arith}
+use Rattle.std.proofs.Common.{
+  ◌≡◌,
+  ℕ,
+  zero,
+  suc,
+  ◌+◌,
+  ◌<◌,
+  ◌≤◌,
+  Bool,
+  true,
+  false,
+  not,
+  cond,
+  ◌&&◌,
+  nat_eq,
+  nat_lt,
+  List,
+  [],
+  ◌∷◌,
+  length,
+  take,
+  drop,
+  Option,
+  Some,
+  None,
+  refl,
+  sym,
+  ap,
+  ◌∙◌,
+  subst,
+  arith,
+}
 use Rattle.std.proofs.lemmas.List.{take-append-drop}
 use Rattle.std.proofs.lemmas.Bool.{ltb-true, ltb-false, eqb-true}
 use Rattle.php_spellings.specs.declared.table.Kind.{Kind}
@@ -21,7 +52,9 @@ Sorts of bs (Some x) = (x.1 ≤ length bs) × (of (take x.1 bs) (drop x.1 bs) �
 
 -- ---- rows
 
-both : (kind : Kind) (is : List ℕ → List ℕ → Bool) (of : List ℕ → List ℕ → Option Kind) (bs : List ℕ) (n : ℕ) (x : Kind × ℕ) → Describes is bs (Some n) → Sorts of bs (Some x) → (b : Bool) → nat_lt n x.1 ≡ b → Sorts (λ t r. cond (is t r) (Some kind) (of t r)) bs (cond b (Some x) (Some (kind, n)))
+both : (kind : Kind) (is : List ℕ → List ℕ → Bool) (of : List ℕ → List ℕ → Option Kind) (bs : List ℕ) (n : ℕ)
+    (x : Kind × ℕ) → Describes is bs (Some n) → Sorts of bs (Some x) → (b : Bool) → nat_lt n x.1 ≡ b
+    → Sorts (λ t r. cond (is t r) (Some kind) (of t r)) bs (cond b (Some x) (Some (kind, n)))
 both kind is of bs n x d s true e =
     let lt : n < x.1 = ltb-true n x.1 e in
     (s.0, rw (d.2 x.1 lt s.0) s.1, λ m lt2 le. let up : n < m = omega arith in rw (d.2 m up le) (s.2 m lt2 le))
@@ -29,7 +62,9 @@ both kind is of bs n x d s false e =
     let ge : x.1 ≤ n = ltb-false n x.1 e in
     (d.0, rw d.1 refl, λ m lt2 le. let up : x.1 < m = omega arith in rw (d.2 m lt2 le) (s.2 m up le))
 
-pub sorts_row : (kind : Kind) (is : List ℕ → List ℕ → Bool) (of : List ℕ → List ℕ → Option Kind) (bs : List ℕ) (o : Option ℕ) (x : Option (Kind × ℕ)) → Describes is bs o → Sorts of bs x → Sorts (λ t r. cond (is t r) (Some kind) (of t r)) bs (longer kind o x)
+pub sorts_row : (kind : Kind) (is : List ℕ → List ℕ → Bool) (of : List ℕ → List ℕ → Option Kind) (bs : List ℕ)
+    (o : Option ℕ) (x : Option (Kind × ℕ)) → Describes is bs o → Sorts of bs x
+    → Sorts (λ t r. cond (is t r) (Some kind) (of t r)) bs (longer kind o x)
 sorts_row kind is of bs None None d s = λ m le. rw (d m le) (s m le)
 sorts_row kind is of bs None (Some x) d s = (s.0, rw (d x.1 s.0) s.1, λ m lt le. rw (d m le) (s.2 m lt le))
 sorts_row kind is of bs (Some n) None d s = (d.0, rw d.1 refl, λ m lt le. rw (d.2 m lt le) (s m le))
@@ -54,7 +89,9 @@ run_all r label s [] zero le = refl
 run_all r label s [] (suc m) le = refl
 run_all r label s (b ∷ bs) zero le = refl
 run_all r label s (b ∷ bs) (suc m) le =
-    rw (take-append-drop m bs) (all_step (goes r label s b bs) (goes r label s b bs) refl (run_len r label (moved r s b) bs) m (is_run r label (moved r s b) (take m bs) (drop m bs)) le (run_all r label (moved r s b) bs m))
+    rw (take-append-drop m bs) (all_step (goes r label s b bs) (goes r label s b bs) refl
+    (run_len r label (moved r s b) bs) m (is_run r label (moved r s b) (take m bs) (drop m bs)) le
+    (run_all r label (moved r s b) bs m))
 
 more_step : (x go : Bool) → go ≡ x → (n m : ℕ) (rest : Bool) → cond go (1 + n) 0 < suc m → (n < m → rest ≡ false) → (go && rest) ≡ false
 more_step true go e n m rest lt ih = let lt2 : 1 + n < suc m = subst (λ (x : Bool). cond x (1 + n) 0 < suc m) e lt in rw (e, ih (omega arith)) refl
@@ -64,7 +101,9 @@ pub run_more : (r : Run) (label : List ℕ) (s : State) (bs : List ℕ) (m : ℕ
 run_more r label s [] m lt le = absurd (omega arith)
 run_more r label s (b ∷ bs) zero lt le = absurd (omega arith)
 run_more r label s (b ∷ bs) (suc m) lt le =
-    rw (take-append-drop m bs) (more_step (goes r label s b bs) (goes r label s b bs) refl (run_len r label (moved r s b) bs) m (is_run r label (moved r s b) (take m bs) (drop m bs)) lt (λ h. run_more r label (moved r s b) bs m h (omega arith)))
+    rw (take-append-drop m bs) (more_step (goes r label s b bs) (goes r label s b bs) refl
+    (run_len r label (moved r s b) bs) m (is_run r label (moved r s b) (take m bs) (drop m bs)) lt
+    (λ h. run_more r label (moved r s b) bs m h (omega arith)))
 
 pub describes_run : (r : Run) (label : List ℕ) (s : State) (bs : List ℕ) → Describes (is_run r label s) bs (Some (run_len r label s bs))
 describes_run r label s bs = (run_within r label s bs, run_all r label s bs (run_len r label s bs) (omega arith), run_more r label s bs)
@@ -109,7 +148,9 @@ empty_zero bs zero le e = refl
 empty_zero [] (suc m) le e = absurd (omega arith)
 empty_zero (b ∷ bs) (suc m) le e = absurd cc
 
-only_step : (bar close : Bool) (u : List ℕ) (in_rest : Bool) (len : Option ℕ) (m : ℕ) → (is_empty u ≡ true → m ≡ 0) → (in_rest ≡ true → len ≡ Some m) → (not bar && cond close (is_empty u) in_rest) ≡ true → cond bar None (cond close (Some 1) (add_to 1 len)) ≡ Some (suc m)
+only_step : (bar close : Bool) (u : List ℕ) (in_rest : Bool) (len : Option ℕ) (m : ℕ) → (is_empty u ≡ true → m ≡ 0)
+    → (in_rest ≡ true → len ≡ Some m) → (not bar && cond close (is_empty u) in_rest) ≡ true
+    → cond bar None (cond close (Some 1) (add_to 1 len)) ≡ Some (suc m)
 only_step true close u in_rest len m zero_if ih h = absurd cc
 only_step false true u in_rest len m zero_if ih h = let z = zero_if h in ap Some (omega arith)
 only_step false false u in_rest len m zero_if ih h = rw (ih h) (ap Some (omega arith))
@@ -119,10 +160,16 @@ until_only u s [] zero le e = absurd cc
 until_only u s [] (suc m) le e = absurd (omega arith)
 until_only u s (b ∷ bs) zero le e = absurd cc
 until_only u s (b ∷ bs) (suc m) le e =
-    let e2 = subst (λ (v : List ℕ). (not (bars u s b v) && cond (closes u s b) (is_empty (take m bs)) (is_until u (turned u s b) (take m bs) (drop m bs))) ≡ true) (take-append-drop m bs) e in
-    only_step (bars u s b bs) (closes u s b) (take m bs) (is_until u (turned u s b) (take m bs) (drop m bs)) (until_len u (turned u s b) bs) m (empty_zero bs m (omega arith)) (until_only u (turned u s b) bs m (omega arith)) e2
+    let e2 = subst (λ (v : List ℕ). (not (bars u s b v) && cond (closes u s b) (is_empty (take m bs))
+    (is_until u (turned u s b) (take m bs) (drop m bs))) ≡ true) (take-append-drop m bs) e in
+    only_step (bars u s b bs) (closes u s b) (take m bs) (is_until u (turned u s b) (take m bs) (drop m bs))
+    (until_len u (turned u s b) bs) m (empty_zero bs m (omega arith))
+    (until_only u (turned u s b) bs m (omega arith)) e2
 
-is_step : (bar close : Bool) (bs : List ℕ) (in_rest : ℕ → Bool) (len : Option ℕ) (n : ℕ) → ((k : ℕ) → len ≡ Some k → (k ≤ length bs) × (in_rest k ≡ true)) → cond bar None (cond close (Some 1) (add_to 1 len)) ≡ Some n → (m : ℕ) × (n ≡ suc m) × (m ≤ length bs) × ((not bar && cond close (is_empty (take m bs)) (in_rest m)) ≡ true)
+is_step : (bar close : Bool) (bs : List ℕ) (in_rest : ℕ → Bool) (len : Option ℕ) (n : ℕ)
+    → ((k : ℕ) → len ≡ Some k → (k ≤ length bs) × (in_rest k ≡ true))
+    → cond bar None (cond close (Some 1) (add_to 1 len)) ≡ Some n → (m : ℕ) × (n ≡ suc m) × (m ≤ length bs)
+    × ((not bar && cond close (is_empty (take m bs)) (in_rest m)) ≡ true)
 is_step true close bs in_rest len n ih h = absurd cc
 is_step false true bs in_rest len n ih h = let one = some_eq 1 n h in (0, omega arith, omega arith, refl)
 is_step false false bs in_rest None n ih h = absurd cc

@@ -76,7 +76,10 @@ kept_by : (p : ℕ → Bool) (b : ℕ) → p (lower b) ≡ true → (a : ℕ) (t
 kept_by p b h a true e other = let same : a ≡ lower b = eqb-true a (lower b) e in let clash : true ≡ false = sym h ∙ sym (ap p same) ∙ other in absurd cc
 kept_by p b h a false e other = refl
 
-kept_row : (p : ℕ → Bool) (b : ℕ) → p (lower b) ≡ true → (kind : Kind) (a : ℕ) (w : List ℕ) (tail : Tail) (rows : List Row) (bs : List ℕ) → scan_by [] rows (b ∷ bs) ≡ scan_by [] (kept p rows) (b ∷ bs) → (t : Bool) → p a ≡ t → scan_by [] (rule kind (a ∷ w) tail ∷ rows) (b ∷ bs) ≡ scan_by [] (cond t (rule kind (a ∷ w) tail ∷ kept p rows) (kept p rows)) (b ∷ bs)
+kept_row : (p : ℕ → Bool) (b : ℕ) → p (lower b) ≡ true → (kind : Kind) (a : ℕ) (w : List ℕ) (tail : Tail)
+    (rows : List Row) (bs : List ℕ) → scan_by [] rows (b ∷ bs) ≡ scan_by [] (kept p rows) (b ∷ bs) → (t : Bool)
+    → p a ≡ t → scan_by [] (rule kind (a ∷ w) tail ∷ rows) (b ∷ bs) ≡ scan_by []
+    (cond t (rule kind (a ∷ w) tail ∷ kept p rows) (kept p rows)) (b ∷ bs)
 kept_row p b h kind a w tail rows bs ih true e = rw ih refl
 kept_row p b h kind a w tail rows bs ih false e = let other = kept_by p b h a (nat_eq a (lower b)) refl e in rw (other, ih) refl
 
@@ -90,7 +93,9 @@ scan_kept p b h (rule kind (a ∷ w) tail ∷ rows) bs = kept_row p b h kind a w
 pub letter_scan : (b : ℕ) (bs : List ℕ) → is_letter b ≡ true → scan_by [] common_rows (b ∷ bs) ≡ scan_by [] letter_rows (b ∷ bs)
 letter_scan b bs h = scan_kept is_letter b (letter_lower b h) common_rows bs ∙ rw (letter_space b h, letter_digit b h, letter_point b h) refl
 
-pub plain_scan : (b : ℕ) (bs : List ℕ) → is_letter b ≡ true → nat_eq (lower b) 98 ≡ false → nat_eq (lower b) 121 ≡ false → scan_by [] common_rows (b ∷ bs) ≡ longer Word (behind lower [] (tail_len [] AnyWord) (b ∷ bs)) None
+pub plain_scan : (b : ℕ) (bs : List ℕ) → is_letter b ≡ true → nat_eq (lower b) 98 ≡ false
+    → nat_eq (lower b) 121 ≡ false → scan_by [] common_rows (b ∷ bs) ≡ longer Word
+    (behind lower [] (tail_len [] AnyWord) (b ∷ bs)) None
 plain_scan b bs h p q =
     let b_not : nat_eq 98 (lower b) ≡ false = turn_round (lower b) 98 p in
     let y_not : nat_eq 121 (lower b) ≡ false = turn_round (lower b) 121 q in
@@ -110,7 +115,9 @@ space_scan b bs h = scan_kept is_space b (space_lower b h) common_rows bs ∙ rw
 pub older_scan : (b : ℕ) (bs : List ℕ) → nat_eq b 35 ≡ false → scan_by [] (code_rows V74) (b ∷ bs) ≡ scan_by [] common_rows (b ∷ bs)
 older_scan b bs e = let head = other_head 35 b refl e in rw head refl
 
-pub newer_scan : (b : ℕ) (bs : List ℕ) → nat_eq b 35 ≡ false → scan_by [] (code_rows V83) (b ∷ bs) ≡ longer Name (behind lower [] (tail_len [] (Shaped shape.Name Begin)) (b ∷ bs)) (scan_by [] common_rows (b ∷ bs))
+pub newer_scan : (b : ℕ) (bs : List ℕ) → nat_eq b 35 ≡ false
+    → scan_by [] (code_rows V83) (b ∷ bs) ≡ longer Name
+    (behind lower [] (tail_len [] (Shaped shape.Name Begin)) (b ∷ bs)) (scan_by [] common_rows (b ∷ bs))
 newer_scan b bs e = let head = other_head 35 b refl e in rw head refl
 
 pub nameless_scan : (b : ℕ) (bs : List ℕ) → nat_eq b 35 ≡ false → is_letter b ≡ false → nat_eq b 92 ≡ false → scan_by [] (code_rows V83) (b ∷ bs) ≡ scan_by [] common_rows (b ∷ bs)

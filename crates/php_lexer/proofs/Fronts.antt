@@ -1,5 +1,42 @@
 -- How the tokens of a file are put together from its front on.
-use Rattle.std.proofs.Common.{◌≡◌, ℕ, zero, suc, ◌+◌, ◌-◌, ◌<◌, ◌≤◌, Bool, true, false, cond, ◌||◌, codes, List, [], ◌∷◌, ◌++◌, length, take, drop, map, reverse, slice_range, Option, Some, None, Err, refl, sym, ap, ◌∙◌, subst, append_assoc, arith, length-drop}
+use Rattle.std.proofs.Common.{
+  ◌≡◌,
+  ℕ,
+  zero,
+  suc,
+  ◌+◌,
+  ◌-◌,
+  ◌<◌,
+  ◌≤◌,
+  Bool,
+  true,
+  false,
+  cond,
+  ◌||◌,
+  codes,
+  List,
+  [],
+  ◌∷◌,
+  ◌++◌,
+  length,
+  take,
+  drop,
+  map,
+  reverse,
+  slice_range,
+  Option,
+  Some,
+  None,
+  Err,
+  refl,
+  sym,
+  ap,
+  ◌∙◌,
+  subst,
+  append_assoc,
+  arith,
+  length-drop,
+}
 use Rattle.std.proofs.lemmas.List.{reverse-append, map-append, length-take-le}
 use Rattle.php_tree.specs.declared.version.Version.{Version}
 use Rattle.php_tree.specs.declared.token.Token.{Token}
@@ -17,7 +54,37 @@ use Rattle.php_lexer.specs.declared.modes.Turn.{Turn as CodeTurn}
 use Rattle.php_spellings.specs.Bytes.{starts_word}
 use Rattle.php_spellings.specs.Words.{token_of}
 use Rattle.php_lexer.specs.Modes.{Mode, html, code, named, quoted, offset, property, Turn, stay, enter, leave, turn_of, IsLongest, HasNone}
-use Rattle.php_lexer.specs.Lexed.{Lexeme, Stack, Lexed, ends, trivia, token, Stops, here, unended, later, turned_by, turn_at, after, Effect, opens, closes, keeps, effect, deeper, faults_by, opened_by, less, less_one, fault_at, code_fault, open_fault, start, lexeme, TokensOf}
+use Rattle.php_lexer.specs.Lexed.{
+  Lexeme,
+  Stack,
+  Lexed,
+  ends,
+  trivia,
+  token,
+  Stops,
+  here,
+  unended,
+  later,
+  turned_by,
+  turn_at,
+  after,
+  Effect,
+  opens,
+  closes,
+  keeps,
+  effect,
+  deeper,
+  faults_by,
+  opened_by,
+  less,
+  less_one,
+  fault_at,
+  code_fault,
+  open_fault,
+  start,
+  lexeme,
+  TokensOf,
+}
 use Rattle.php_lexer.specs.Views.{mode_of, turn_seen, below_of, stack_of, top_after, below_after, IsAfter, IsNoted, first_fault, token_cut, lexemes, Front, Meets}
 use Rattle.php_lexer.proofs.Labels.{drop_drop}
 use Rattle.php_spellings.proofs.StartLemmas.{drop_end}
@@ -65,7 +132,8 @@ code_by false false true at = tt
 code_by false false false at = tt
 
 code_placed : (at : ℕ) (bytes : List ℕ) → IsPlaced (code_fault at bytes)
-code_placed at bytes = code_by (starts_word (codes "'") bytes || starts_word (codes "b'") bytes) (starts_word (codes "/*") bytes) (starts_word (codes "<<<") bytes || starts_word (codes "b<<<") bytes) at
+code_placed at bytes = code_by (starts_word (codes "'") bytes || starts_word (codes "b'") bytes)
+    (starts_word (codes "/*") bytes) (starts_word (codes "<<<") bytes || starts_word (codes "b<<<") bytes) at
 
 pub fault_placed : (m : Mode) (at : ℕ) (bytes : List ℕ) → IsPlaced (fault_at m at bytes)
 fault_placed html at bytes = tt
@@ -76,7 +144,9 @@ fault_placed offset at bytes = tt
 fault_placed property at bytes = tt
 
 -- the stack behind a turn, by its parts
-stack_by : (t : Turn) (top : Mode) (below : List Mode) (n : ℕ) (top' : Mode) (below' : List Mode) (n' : ℕ) → top' ≡ top_after t below → below' ≡ below_after t below → n' ≡ deeper (effect top t) n → stack_parts top' below' n' ≡ turned_by t (stack_parts top below n)
+stack_by : (t : Turn) (top : Mode) (below : List Mode) (n : ℕ) (top' : Mode) (below' : List Mode) (n' : ℕ)
+    → top' ≡ top_after t below → below' ≡ below_after t below → n' ≡ deeper (effect top t) n
+    → stack_parts top' below' n' ≡ turned_by t (stack_parts top below n)
 stack_by t top below n top' below' n' p q r = rw (p, q, r) (by_turn t top)
   where
     by_turn : (t : Turn) (top : Mode) → stack_parts (top_after t below) (below_after t below) (deeper (effect top t) n) ≡ turned_by t (stack_parts top below n)
@@ -93,7 +163,9 @@ range_is : (bytes : List ℕ) (lead at n : ℕ) → lead ≤ at → slice_range 
 range_is bytes lead at n le =
     let whole : at + n - lead ≡ (at - lead) + n = omega arith in
     let place : lead + (at - lead) ≡ at = omega arith in
-    rw whole (take_add (at - lead) n (drop lead bytes)) ∙ ap (λ (u : List ℕ). take (at - lead) (drop lead bytes) ++ take n u) (drop_drop lead (at - lead) bytes ∙ ap (λ (i : ℕ). drop i bytes) place)
+    rw whole (take_add (at - lead) n (drop lead bytes)) ∙ ap
+    (λ (u : List ℕ). take (at - lead) (drop lead bytes) ++ take n u)
+    (drop_drop lead (at - lead) bytes ∙ ap (λ (i : ℕ). drop i bytes) place)
 
 empty_range : (bytes : List ℕ) (at : ℕ) → slice_range bytes at at ≡ []
 empty_range bytes at = let e : at - at ≡ 0 = omega arith in rw e refl
@@ -155,7 +227,8 @@ lexemes_append : (ts us : List Token) → lexemes (ts ++ us) ≡ lexemes ts ++ l
 lexemes_append ts us = map-append lexeme ts us
 
 -- a token at its place, and tokens behind it
-cut_placed : (bytes : List ℕ) (kind : TokenKind) (lead at end : ℕ) (ts : List Token) → lead ≤ at → at ≤ end → end ≤ length bytes → ArePlaced end ts → ArePlaced lead (token_cut bytes kind lead at end ∷ ts)
+cut_placed : (bytes : List ℕ) (kind : TokenKind) (lead at end : ℕ) (ts : List Token) → lead ≤ at → at ≤ end
+    → end ≤ length bytes → ArePlaced end ts → ArePlaced lead (token_cut bytes kind lead at end ∷ ts)
 cut_placed bytes kind lead at end ts p q r h =
     let first = range_length bytes lead at p (omega arith) in
     let second = range_length bytes at end q r in
@@ -183,19 +256,32 @@ module _ (v : Version) (bytes : List ℕ) (front : List Token) (m : CodeMode) (m
       views = ap lexemes n ∙ lexemes_append front (token_cut bytes End lead at at ∷ []) ∙ ap (λ (x : Lexeme). lexemes front ++ x ∷ []) last
 
       lexed_all : Lexed v start [] bytes (lexemes new)
-      lexed_all = subst (λ (us : List Lexeme). Lexed v start [] bytes us) (sym views) (f.tokens (lexeme_of End (slice_range bytes lead at) [] ∷ []) (ends (drop_end bytes at le) (no_faults (reverse fs) e)))
+      lexed_all = subst (λ (us : List Lexeme). Lexed v start [] bytes us) (sym views)
+          (f.tokens (lexeme_of End (slice_range bytes lead at) [] ∷ [])
+          (ends (drop_end bytes at le) (no_faults (reverse fs) e)))
 
       placed_all : ArePlaced 0 new
-      placed_all = let o = f.order in let w = f.within in subst (λ (us : List Token). ArePlaced 0 us) (sym n) (f.placed (token_cut bytes End lead at at ∷ []) (cut_placed bytes End lead at at [] o (omega arith) w tt))
+      placed_all = let o = f.order in let w = f.within in subst (λ (us : List Token). ArePlaced 0 us) (sym n)
+          (f.placed (token_cut bytes End lead at at ∷ []) (cut_placed bytes End lead at at [] o (omega arith) w tt))
 
-  module _ (kind : Kind) (n : ℕ) (t : CodeTurn) (m' : CodeMode) (ms' : List CodeMode) (fs' : List LexFault) (h : IsLongest v (mode_of bytes m) (drop at bytes) kind n) (turns : turn_seen bytes t ≡ turn_of v (mode_of bytes m) kind (take n (drop at bytes)) (drop n (drop at bytes))) (follows : IsAfter t ms m' ms') (notes : IsNoted m t at fs fs') where
+  module _ (kind : Kind) (n : ℕ) (t : CodeTurn) (m' : CodeMode) (ms' : List CodeMode) (fs' : List LexFault)
+      (h : IsLongest v (mode_of bytes m) (drop at bytes) kind n)
+      (turns : turn_seen bytes t ≡ turn_of v (mode_of bytes m) kind (take n (drop at bytes)) (drop n (drop at bytes)))
+      (follows : IsAfter t ms m' ms') (notes : IsNoted m t at fs fs') where
     next_stack : stack_of bytes m' ms' fs' ≡ after v (stack_of bytes m ms fs) kind n (drop at bytes)
     next_stack =
         let p = follows bytes in
-        stack_by (turn_seen bytes t) (mode_of bytes m) (below_of bytes ms) (length (reverse fs)) (mode_of bytes m') (below_of bytes ms') (length (reverse fs')) p.0 p.1 (ap length (notes bytes) ∙ depth_is (effect (mode_of bytes m) (turn_seen bytes t)) at (reverse fs)) ∙ ap (λ (u : Turn). turned_by u (stack_of bytes m ms fs)) turns
+        stack_by (turn_seen bytes t) (mode_of bytes m) (below_of bytes ms) (length (reverse fs)) (mode_of bytes m')
+        (below_of bytes ms') (length (reverse fs')) p.0 p.1
+        (ap length (notes bytes) ∙ depth_is (effect (mode_of bytes m) (turn_seen bytes t)) at (reverse fs))
+        ∙ ap (λ (u : Turn). turned_by u (stack_of bytes m ms fs)) turns
 
     next_stops : (fault : LexFault) → Stops v (stack_of bytes m' ms' fs') (reverse fs') (at + n) (drop (at + n) bytes) fault → Stops v start [] 0 bytes fault
-    next_stops fault s = f.stops fault (later kind n h (rw (sym next_stack, sym (notes bytes ∙ ap (λ (u : Turn). opened_by (mode_of bytes m) u at (reverse fs)) turns), drop_drop at n bytes) s))
+    next_stops fault s = f.stops fault (later kind n h (rw (
+      sym next_stack,
+      sym (notes bytes ∙ ap (λ (u : Turn). opened_by (mode_of bytes m) u at (reverse fs)) turns),
+      drop_drop at n bytes,
+    ) s))
 
     pub front_trivia : token_of kind (take n (drop at bytes)) ≡ None → Front v bytes front m' ms' fs' lead (at + n)
     front_trivia blank = let o = f.order in let w = f.within in let b = h.within in record {
@@ -213,15 +299,25 @@ module _ (v : Version) (bytes : List ℕ) (front : List Token) (m : CodeMode) (m
       views : lexemes new ≡ lexemes front ++ lexeme_of k (slice_range bytes lead at) (take n (drop at bytes)) ∷ []
       views = ap lexemes e ∙ lexemes_append front (token_cut bytes k lead at (at + n) ∷ []) ∙ ap (λ (x : Lexeme). lexemes front ++ x ∷ []) new_lexeme
 
-      next_tokens : (ts : List Lexeme) → Lexed v (stack_of bytes m' ms' fs') (slice_range bytes (at + n) (at + n)) (drop (at + n) bytes) ts → Lexed v start [] bytes (lexemes new ++ ts)
+      next_tokens : (ts : List Lexeme) → Lexed v (stack_of bytes m' ms' fs') (slice_range bytes (at + n) (at + n))
+          (drop (at + n) bytes) ts → Lexed v start [] bytes (lexemes new ++ ts)
       next_tokens ts l =
-          let rest : Lexed v (after v (stack_of bytes m ms fs) kind n (drop at bytes)) [] (drop n (drop at bytes)) ts = rw (sym next_stack, sym (empty_range bytes (at + n)), drop_drop at n bytes) l in
-          subst (λ (us : List Lexeme). Lexed v start [] bytes us) (sym (ap (λ (us : List Lexeme). us ++ ts) views ∙ append_assoc (lexemes front) (lexeme_of k (slice_range bytes lead at) (take n (drop at bytes)) ∷ []) ts)) (f.tokens (lexeme_of k (slice_range bytes lead at) (take n (drop at bytes)) ∷ ts) (token kind n k h solid rest))
+          let rest : Lexed v (after v (stack_of bytes m ms fs) kind n (drop at bytes)) [] (drop n (drop at bytes)) ts
+          = rw (sym next_stack, sym (empty_range bytes (at + n)), drop_drop at n bytes) l in
+          subst (λ (us : List Lexeme). Lexed v start [] bytes us)
+          (sym (ap (λ (us : List Lexeme). us ++ ts) views
+          ∙ append_assoc (lexemes front) (lexeme_of k (slice_range bytes lead at) (take n (drop at bytes)) ∷ [])
+          ts)) (f.tokens (lexeme_of k (slice_range bytes lead at) (take n (drop at bytes)) ∷ ts)
+          (token kind n k h solid rest))
 
       next_placed : (ts : List Token) → ArePlaced (at + n) ts → ArePlaced 0 (new ++ ts)
       next_placed ts p =
           let o = f.order in let w = f.within in let b = h.within in
-          subst (λ (us : List Token). ArePlaced 0 us) (sym (ap (λ (us : List Token). us ++ ts) e ∙ append_assoc front (token_cut bytes k lead at (at + n) ∷ []) ts)) (f.placed (token_cut bytes k lead at (at + n) ∷ ts) (cut_placed bytes k lead at (at + n) ts o (omega arith) (omega (arith, length-drop at bytes)) p))
+          subst (λ (us : List Token). ArePlaced 0 us)
+          (sym (ap (λ (us : List Token). us ++ ts) e ∙ append_assoc front
+          (token_cut bytes k lead at (at + n) ∷ []) ts))
+          (f.placed (token_cut bytes k lead at (at + n) ∷ ts)
+          (cut_placed bytes k lead at (at + n) ts o (omega arith) (omega (arith, length-drop at bytes)) p))
 
       pub front_token : Front v bytes new m' ms' fs' (at + n) (at + n)
       front_token = let o = f.order in let w = f.within in let b = h.within in record {

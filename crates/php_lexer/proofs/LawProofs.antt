@@ -59,8 +59,13 @@ lexemes_bytes (x ∷ xs) = (x.lead ++ x.text) ++ lexemes_bytes xs
 
 joined : {v : Version} {stack : Stack} {lead bytes : List ℕ} {ts : List Lexeme} → Lexed v stack lead bytes ts → lead ++ bytes ≡ lexemes_bytes ts
 joined (ends {lead = lead} {bytes = bytes} e d) = ap (λ (u : List ℕ). lead ++ u) e ∙ sym (append-nil (lead ++ []))
-joined (trivia {lead = lead} {bytes = bytes} kind n h b l) = ap (λ (u : List ℕ). lead ++ u) (sym (take-append-drop n bytes)) ∙ sym (append_assoc lead (take n bytes) (drop n bytes)) ∙ joined l
-joined (token {lead = lead} {bytes = bytes} kind n t h b l) = ap (λ (u : List ℕ). lead ++ u) (sym (take-append-drop n bytes)) ∙ sym (append_assoc lead (take n bytes) (drop n bytes)) ∙ ap (λ (u : List ℕ). (lead ++ take n bytes) ++ u) (joined l)
+joined (trivia {lead = lead} {bytes = bytes} kind n h b l) =
+    ap (λ (u : List ℕ). lead ++ u) (sym (take-append-drop n bytes))
+    ∙ sym (append_assoc lead (take n bytes) (drop n bytes)) ∙ joined l
+joined (token {lead = lead} {bytes = bytes} kind n t h b l) =
+    ap (λ (u : List ℕ). lead ++ u) (sym (take-append-drop n bytes))
+    ∙ sym (append_assoc lead (take n bytes) (drop n bytes)) ∙ ap (λ (u : List ℕ). (lead ++ take n bytes) ++ u)
+    (joined l)
 
 bytes_of : (ts : List Token) → lexemes_bytes (map lexeme ts) ≡ tokens_bytes ts
 bytes_of [] = refl

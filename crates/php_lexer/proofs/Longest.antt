@@ -86,7 +86,9 @@ row_0 label (a ∷ w) tail h rest = refl
 
 rows_0 : (label : List ℕ) (rows : List Row) → rows_some rows ≡ true → (rest : List ℕ) → kind_by label rows [] rest ≡ None
 rows_0 label [] h rest = refl
-rows_0 label (rule kind w tail ∷ rows) h rest = rw (row_0 label w tail (first (row_some w tail) (rows_some rows) h) rest) (rows_0 label rows (second (row_some w tail) (rows_some rows) h) rest)
+rows_0 label (rule kind w tail ∷ rows) h rest =
+    rw (row_0 label w tail (first (row_some w tail) (rows_some rows) h) rest)
+    (rows_0 label rows (second (row_some w tail) (rows_some rows) h) rest)
 
 mode_0 : (v : Version) (m : Mode) → rows_some (rows_of v m) ≡ true
 mode_0 v html = refl

@@ -11,7 +11,8 @@ use Rattle.php_lexer.specs.Views.{token_cut}
 abbrev pub tokens_in : List ℕ → List Mark → List Token
 tokens_in bytes ms = map (token_at bytes) ms
 
-pub cut_is : (bytes : List ℕ) (m : Mark) (k : TokenKind) (lead at end : ℕ) → m.kind ≡ k → m.lead ≡ lead → m.start ≡ at → m.end ≡ end → token_at bytes m ≡ token_cut bytes k lead at end
+pub cut_is : (bytes : List ℕ) (m : Mark) (k : TokenKind) (lead at end : ℕ) → m.kind ≡ k → m.lead ≡ lead → m.start ≡ at
+    → m.end ≡ end → token_at bytes m ≡ token_cut bytes k lead at end
 cut_is bytes m k lead at end a b c d = rw (a, b, c, d) refl
 
 pub one_more : (bytes : List ℕ) (ms new : List Mark) (m : Mark) (t : Token) → new ≡ ms ++ m ∷ [] → token_at bytes m ≡ t → tokens_in bytes new ≡ tokens_in bytes ms ++ t ∷ []

@@ -57,7 +57,8 @@ no_text : (x y : Bool) (o : Option ℕ) → x ≡ false → cond (x && y) None o
 no_text true y o e = absurd cc
 no_text false y o e = refl
 
-pub word_direct : (b : ℕ) (bs : List ℕ) → is_letter b ≡ true → nat_eq (lower b) 98 ≡ false → nat_eq (lower b) 121 ≡ false → Some (Word, run_len Labels [] First (b ∷ bs)) ≡ scan_by [] common_rows (b ∷ bs)
+pub word_direct : (b : ℕ) (bs : List ℕ) → is_letter b ≡ true → nat_eq (lower b) 98 ≡ false
+    → nat_eq (lower b) 121 ≡ false → Some (Word, run_len Labels [] First (b ∷ bs)) ≡ scan_by [] common_rows (b ∷ bs)
 word_direct b bs h p q =
     let n = run_len Labels [] First (b ∷ bs) in
     let e : run_len Labels [] First (b ∷ bs) ≡ 1 + run_len Labels [] Plain bs = rw h refl in
@@ -65,7 +66,8 @@ word_direct b bs h p q =
     let len : word_len (b ∷ bs) ≡ some_len n = no_text (is_b (take n (b ∷ bs))) (begins_text (drop n (b ∷ bs))) (some_len n) alone in
     sym (plain_scan b bs h p q ∙ ap (λ (o : Option ℕ). longer Word (add_to 0 o) None) len ∙ longer_some Word (run_len Labels [] Plain bs) n e)
 
-pub word_found : (b : ℕ) (bs bytes : List ℕ) (n : ℕ) → n ≡ run_len Labels [] First bytes → bytes ≡ b ∷ bs → is_letter b ≡ true → (lower b ≡ 98 → ⊥) → (lower b ≡ 121 → ⊥) → Some (Word, n) ≡ scan_by [] common_rows (b ∷ bs)
+pub word_found : (b : ℕ) (bs bytes : List ℕ) (n : ℕ) → n ≡ run_len Labels [] First bytes → bytes ≡ b ∷ bs
+    → is_letter b ≡ true → (lower b ≡ 98 → ⊥) → (lower b ≡ 121 → ⊥) → Some (Word, n) ≡ scan_by [] common_rows (b ∷ bs)
 word_found b bs bytes n e w h p q =
     let count : n ≡ run_len Labels [] First (b ∷ bs) = e ∙ ap (λ (u : List ℕ). run_len Labels [] First u) w in
     ap (λ (k : ℕ). word_of k) count ∙ word_direct b bs h (ne_eqb (lower b) 98 p) (ne_eqb (lower b) 121 q)
@@ -85,4 +87,14 @@ not_letter k b p q = by_case (nat_eq k (lower b)) refl
 pub no_type : (bs : List ℕ) → begins is_letter bs ≡ false → begins_type bs ≡ false
 no_type [] h = refl
 no_type (b ∷ bs) h =
-    rw (not_letter 105 b refl h, not_letter 98 b refl h, not_letter 115 b refl h, not_letter 97 b refl h, not_letter 111 b refl h, not_letter 102 b refl h, not_letter 100 b refl h, not_letter 114 b refl h, not_letter 117 b refl h) refl
+    rw (
+      not_letter 105 b refl h,
+      not_letter 98 b refl h,
+      not_letter 115 b refl h,
+      not_letter 97 b refl h,
+      not_letter 111 b refl h,
+      not_letter 102 b refl h,
+      not_letter 100 b refl h,
+      not_letter 114 b refl h,
+      not_letter 117 b refl h,
+    ) refl

@@ -155,12 +155,16 @@ big_goes (Body Here) label Plain before b bs f h stop =
     let clash : true ≡ false = sym go ∙ stop in absurd cc
 big_goes (Body Here) label Escaped before b bs f h stop = absurd cc
 
-stop_cuts : (r : Run) (label : List ℕ) (s : State) (before b : ℕ) (bs : List ℕ) → RunFits r s before → goes r label s b bs ≡ false → (t : Bool) → small b ≡ t → (small before || t) ≡ true
+stop_cuts : (r : Run) (label : List ℕ) (s : State) (before b : ℕ) (bs : List ℕ) → RunFits r s before
+    → goes r label s b bs ≡ false → (t : Bool) → small b ≡ t → (small before || t) ≡ true
 stop_cuts r label s before b bs f stop true e = or_true (small before)
 stop_cuts r label s before b bs f stop false e = rw (big_goes r label s before b bs f e stop) refl
 
-run_by : (r : Run) (label : List ℕ) (s : State) (before b : ℕ) (bs : List ℕ) → RunFits r s before → (RunFits r (moved r s b) b → cuts b bs (run_len r label (moved r s b) bs) ≡ true) → (t : Bool) → goes r label s b bs ≡ t → cuts before (b ∷ bs) (cond t (1 + run_len r label (moved r s b) bs) 0) ≡ true
-run_by r label s before b bs f ih true e = cuts_next before b bs (run_len r label (moved r s b) bs) (1 + run_len r label (moved r s b) bs) (omega arith) (ih (next_fits r label s b bs e))
+run_by : (r : Run) (label : List ℕ) (s : State) (before b : ℕ) (bs : List ℕ) → RunFits r s before
+    → (RunFits r (moved r s b) b → cuts b bs (run_len r label (moved r s b) bs) ≡ true) → (t : Bool)
+    → goes r label s b bs ≡ t → cuts before (b ∷ bs) (cond t (1 + run_len r label (moved r s b) bs) 0) ≡ true
+run_by r label s before b bs f ih true e = cuts_next before b bs (run_len r label (moved r s b) bs)
+    (1 + run_len r label (moved r s b) bs) (omega arith) (ih (next_fits r label s b bs e))
 run_by r label s before b bs f ih false e = stop_cuts r label s before b bs f e (small b) refl
 
 pub run_cuts : (r : Run) (label : List ℕ) (s : State) (before : ℕ) (bs : List ℕ) → RunFits r s before → cuts before bs (run_len r label s bs) ≡ true
@@ -196,7 +200,9 @@ some_of n = Some n
 pub some_same : (m n : ℕ) → some_of m ≡ some_of n → m ≡ n
 some_same m n e = cc
 
-until_by : (before b : ℕ) (bs : List ℕ) (bar close : Bool) (o : Option ℕ) (n : ℕ) → (close ≡ true → small b ≡ true) → ((k : ℕ) → o ≡ Some k → cuts b bs k ≡ true) → cond bar None (cond close (Some 1) (add_to 1 o)) ≡ Some n → cuts before (b ∷ bs) n ≡ true
+until_by : (before b : ℕ) (bs : List ℕ) (bar close : Bool) (o : Option ℕ) (n : ℕ) → (close ≡ true → small b ≡ true)
+    → ((k : ℕ) → o ≡ Some k → cuts b bs k ≡ true) → cond bar None (cond close (Some 1) (add_to 1 o)) ≡ Some n
+    → cuts before (b ∷ bs) n ≡ true
 until_by before b bs true close o n c ih e = absurd cc
 until_by before b bs false true o n c ih e = let one = some_same 1 n e in cuts_next before b bs 0 n (omega arith) (rw (c refl) refl)
 until_by before b bs false false None n c ih e = absurd cc
@@ -204,4 +210,5 @@ until_by before b bs false false (Some k) n c ih e = let more = some_same (1 + k
 
 pub until_cuts : (u : Until) (s : State) (before : ℕ) (bs : List ℕ) (n : ℕ) → until_len u s bs ≡ Some n → cuts before bs n ≡ true
 until_cuts u s before [] n e = absurd cc
-until_cuts u s before (b ∷ bs) n e = until_by before b bs (bars u s b bs) (closes u s b) (until_len u (turned u s b) bs) n (λ h. close_small u s b h (small b) refl) (until_cuts u (turned u s b) b bs) e
+until_cuts u s before (b ∷ bs) n e = until_by before b bs (bars u s b bs) (closes u s b)
+    (until_len u (turned u s b) bs) n (λ h. close_small u s b h (small b) refl) (until_cuts u (turned u s b) b bs) e

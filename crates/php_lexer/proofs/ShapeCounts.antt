@@ -33,18 +33,22 @@ module _ (sh : Shape) (s : Spot) (b : ℕ) (bs : List ℕ) where
   none_more p d zero lt le = absurd (omega arith)
   none_more p d (suc m) lt le = rw (p, d m (omega arith)) refl
 
-  none_all : is_stuck (step sh s b) ≡ false → may_end sh s ≡ false → Describes (shaped sh (step sh s b)) bs None → (m : ℕ) → m ≤ length (b ∷ bs) → has_shape sh s (take m (b ∷ bs)) ≡ false
+  none_all : is_stuck (step sh s b) ≡ false → may_end sh s ≡ false → Describes (shaped sh (step sh s b)) bs None
+      → (m : ℕ) → m ≤ length (b ∷ bs) → has_shape sh s (take m (b ∷ bs)) ≡ false
   none_all p q d zero le = q
   none_all p q d (suc m) le = rw (p, d m (omega arith)) refl
 
   some_is : (n k : ℕ) → k ≡ suc n → is_stuck (step sh s b) ≡ false → has_shape sh (step sh s b) (take n bs) ≡ true → has_shape sh s (take k (b ∷ bs)) ≡ true
   some_is n k e p d = rw e (rw (p, d) refl)
 
-  some_more : (n : ℕ) → is_stuck (step sh s b) ≡ false → Describes (shaped sh (step sh s b)) bs (Some n) → (m : ℕ) → 1 + n < m → m ≤ length (b ∷ bs) → has_shape sh s (take m (b ∷ bs)) ≡ false
+  some_more : (n : ℕ) → is_stuck (step sh s b) ≡ false → Describes (shaped sh (step sh s b)) bs (Some n) → (m : ℕ)
+      → 1 + n < m → m ≤ length (b ∷ bs) → has_shape sh s (take m (b ∷ bs)) ≡ false
   some_more n p d zero lt le = absurd (omega arith)
   some_more n p d (suc m) lt le = rw (p, d.2 m (omega arith) (omega arith)) refl
 
-  by_step : (t e : Bool) (o : Option ℕ) → is_stuck (step sh s b) ≡ t → may_end sh s ≡ e → Describes (shaped sh (step sh s b)) bs o → Describes (shaped sh s) (b ∷ bs) (cond t (here_len e) (or_else (add_to 1 o) (here_len e)))
+  by_step : (t e : Bool) (o : Option ℕ) → is_stuck (step sh s b) ≡ t → may_end sh s ≡ e
+      → Describes (shaped sh (step sh s b)) bs o → Describes (shaped sh s) (b ∷ bs)
+      (cond t (here_len e) (or_else (add_to 1 o) (here_len e)))
   by_step true true o p q d = (omega arith, q, stuck_more p)
   by_step true false o p q d = stuck_none p q
   by_step false e (Some n) p q d = (let le = d.0 in omega arith, some_is n (1 + n) (omega arith) p d.1, some_more n p d)

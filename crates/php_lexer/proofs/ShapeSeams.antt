@@ -4,9 +4,43 @@ use Rattle.std.proofs.lemmas.Bool.Decides.{nat_tests}
 use Rattle.php_spellings.specs.declared.table.Shape.{Shape}
 use Rattle.php_spellings.specs.declared.table.Shape.TheVariants as shape
 use Rattle.php_spellings.specs.declared.table.Spot.{Spot}
-use Rattle.php_spellings.specs.declared.table.Spot.TheVariants.{Begin, Whole, WholeGap, LeadPoint, Point, Part, PartGap, Mark, Sign, Power, PowerGap, FirstLabel, Backslash, LaterLabel, OpenedLabel, QuotedLabel, ClosedLabel, Return, Line, Stuck}
+use Rattle.php_spellings.specs.declared.table.Spot.TheVariants.{
+  Begin,
+  Whole,
+  WholeGap,
+  LeadPoint,
+  Point,
+  Part,
+  PartGap,
+  Mark,
+  Sign,
+  Power,
+  PowerGap,
+  FirstLabel,
+  Backslash,
+  LaterLabel,
+  OpenedLabel,
+  QuotedLabel,
+  ClosedLabel,
+  Return,
+  Line,
+  Stuck,
+}
 use Rattle.php_spellings.specs.Bytes.{is_blank_byte, is_digit, lower}
-use Rattle.php_lexer.specs.Shapes.{is_octal_digit, is_binary_digit, is_hex_digit, is_exponent, is_sign, digits_step, decimal_step, float_step, heredoc_step, step, may_end, is_stuck}
+use Rattle.php_lexer.specs.Shapes.{
+  is_octal_digit,
+  is_binary_digit,
+  is_hex_digit,
+  is_exponent,
+  is_sign,
+  digits_step,
+  decimal_step,
+  float_step,
+  heredoc_step,
+  step,
+  may_end,
+  is_stuck,
+}
 use Rattle.php_lexer.specs.Scan.{add_to, or_else, here_len, shape_len}
 use Rattle.php_lexer.proofs.Seams.{small, cuts, cuts_next, or_true, some_same, big_eq, big_letter, big_label, big_lower}
 
@@ -164,14 +198,19 @@ later_some : (bs : List ℕ) → shape_len shape.Name LaterLabel bs ≡ None →
 later_some [] e = cc
 later_some (b ∷ bs) e = later_by (is_stuck (step shape.Name LaterLabel b)) (add_to 1 (shape_len shape.Name (step shape.Name LaterLabel b) bs)) e
 
-name_end : (before b : ℕ) (bs : List ℕ) → is_stuck (step shape.Name LaterLabel b) ≡ true ⊎ shape_len shape.Name (step shape.Name LaterLabel b) bs ≡ None → (t : Bool) → small b ≡ t → (small before || t) ≡ true
+name_end : (before b : ℕ) (bs : List ℕ) → is_stuck (step shape.Name LaterLabel b) ≡ true
+    ⊎ shape_len shape.Name (step shape.Name LaterLabel b) bs ≡ None → (t : Bool) → small b ≡ t
+    → (small before || t) ≡ true
 name_end before b bs stop true e = or_true (small before)
-name_end before b bs (inl stuck) false e = let go : is_stuck (step shape.Name LaterLabel b) ≡ false = rw (big_label b e) refl in clash (is_stuck (step shape.Name LaterLabel b)) stuck go
+name_end before b bs (inl stuck) false e = let go : is_stuck (step shape.Name LaterLabel b) ≡ false =
+    rw (big_label b e) refl in clash (is_stuck (step shape.Name LaterLabel b)) stuck go
 name_end before b bs (inr none) false e =
     let go : shape_len shape.Name (step shape.Name LaterLabel b) bs ≡ shape_len shape.Name LaterLabel bs = rw (big_label b e) refl in
     absurd (later_some bs (sym go ∙ none))
 
-name_spot : (s : Spot) (before b : ℕ) (bs : List ℕ) → may_end shape.Name s ≡ true → is_stuck (step shape.Name s b) ≡ true ⊎ shape_len shape.Name (step shape.Name s b) bs ≡ None → (small before || small b) ≡ true
+name_spot : (s : Spot) (before b : ℕ) (bs : List ℕ) → may_end shape.Name s ≡ true
+    → is_stuck (step shape.Name s b) ≡ true ⊎ shape_len shape.Name (step shape.Name s b) bs ≡ None
+    → (small before || small b) ≡ true
 name_spot Begin before b bs h stop = absurd cc
 name_spot Whole before b bs h stop = absurd cc
 name_spot WholeGap before b bs h stop = absurd cc
@@ -197,7 +236,8 @@ small_or : (x y : Bool) → x ≡ true → (x || y) ≡ true
 small_or x y e = rw e refl
 
 -- where a shape ends, an ASCII byte is the last or the next
-end_cuts : (sh : Shape) (s : Spot) (before b : ℕ) (bs : List ℕ) → ShapeFits sh s before → may_end sh s ≡ true → is_stuck (step sh s b) ≡ true ⊎ shape_len sh (step sh s b) bs ≡ None → (small before || small b) ≡ true
+end_cuts : (sh : Shape) (s : Spot) (before b : ℕ) (bs : List ℕ) → ShapeFits sh s before → may_end sh s ≡ true
+    → is_stuck (step sh s b) ≡ true ⊎ shape_len sh (step sh s b) bs ≡ None → (small before || small b) ≡ true
 end_cuts shape.Name s before b bs f h stop = name_spot s before b bs h stop
 end_cuts shape.Decimal s before b bs f h stop = small_or (small before) (small b) (f h)
 end_cuts shape.Octal s before b bs f h stop = small_or (small before) (small b) (f h)
@@ -211,7 +251,10 @@ pub here_zero : (e : Bool) (n : ℕ) → here_len e ≡ Some n → (e ≡ true) 
 here_zero true n h = (refl, let z = some_same 0 n h in sym z)
 here_zero false n h = absurd cc
 
-shape_by : (sh : Shape) (s : Spot) (before b : ℕ) (bs : List ℕ) (n : ℕ) → ShapeFits sh s before → (t : Bool) → is_stuck (step sh s b) ≡ t → (o : Option ℕ) → shape_len sh (step sh s b) bs ≡ o → ((k : ℕ) → o ≡ Some k → cuts b bs k ≡ true) → cond t (here_len (may_end sh s)) (or_else (add_to 1 o) (here_len (may_end sh s))) ≡ Some n → cuts before (b ∷ bs) n ≡ true
+shape_by : (sh : Shape) (s : Spot) (before b : ℕ) (bs : List ℕ) (n : ℕ) → ShapeFits sh s before → (t : Bool)
+    → is_stuck (step sh s b) ≡ t → (o : Option ℕ) → shape_len sh (step sh s b) bs ≡ o
+    → ((k : ℕ) → o ≡ Some k → cuts b bs k ≡ true) → cond t (here_len (may_end sh s))
+    (or_else (add_to 1 o) (here_len (may_end sh s))) ≡ Some n → cuts before (b ∷ bs) n ≡ true
 shape_by sh s before b bs n f true e o p ih h =
     let z = here_zero (may_end sh s) n h in
     rw z.1 (end_cuts sh s before b bs f z.0 (inl e))
@@ -224,7 +267,8 @@ shape_by sh s before b bs n f false e (Some k) p ih h =
 
 pub shape_cuts : (sh : Shape) (s : Spot) (before : ℕ) (bs : List ℕ) (n : ℕ) → ShapeFits sh s before → shape_len sh s bs ≡ Some n → cuts before bs n ≡ true
 shape_cuts sh s before [] n f h = let z = here_zero (may_end sh s) n h in rw z.1 (or_true (small before))
-shape_cuts sh s before (b ∷ bs) n f h = shape_by sh s before b bs n f (is_stuck (step sh s b)) refl (shape_len sh (step sh s b) bs) refl (λ k p. shape_cuts sh (step sh s b) b bs k (next_fits sh s b) p) h
+shape_cuts sh s before (b ∷ bs) n f h = shape_by sh s before b bs n f (is_stuck (step sh s b)) refl
+    (shape_len sh (step sh s b) bs) refl (λ k p. shape_cuts sh (step sh s b) b bs k (next_fits sh s b) p) h
 
 pub small_fits : (sh : Shape) (s : Spot) (before : ℕ) → small before ≡ true → ShapeFits sh s before
 small_fits shape.Name s before h = tt

@@ -57,7 +57,8 @@ stack_parts top below n = record { top = top; below = below; depth = n }
 abbrev lexeme_of : TokenKind → List ℕ → List ℕ → Lexeme
 lexeme_of kind lead text = record { kind = kind; lead = lead; text = text }
 
-same_token : (t u : TokenKind) (lead bytes : List ℕ) (n i : ℕ) (ts us : List Lexeme) → t ≡ u → n ≡ i → ts ≡ us → lexeme_of t lead (take n bytes) ∷ ts ≡ lexeme_of u lead (take i bytes) ∷ us
+same_token : (t u : TokenKind) (lead bytes : List ℕ) (n i : ℕ) (ts us : List Lexeme) → t ≡ u → n ≡ i → ts ≡ us
+    → lexeme_of t lead (take n bytes) ∷ ts ≡ lexeme_of u lead (take i bytes) ∷ us
 same_token t u lead bytes n i ts us p q r = rw (p, q, r) refl
 
 pub one_lexing : {v : Version} {stack : Stack} {lead bytes : List ℕ} {ts us : List Lexeme} → Lexed v stack lead bytes ts → Lexed v stack lead bytes us → ts ≡ us
@@ -66,17 +67,24 @@ one_lexing (ends {version = v} {stack} {lead} {bytes} e d) (trivia k n h b l) = 
 one_lexing (ends {version = v} {stack} {lead} {bytes} e d) (token k n t h b l) = absurd (none_left v stack.top bytes k n e h)
 one_lexing (trivia {version = v} {stack} {lead} {bytes} k n h b l) (ends e d) = absurd (none_left v stack.top bytes k n e h)
 one_lexing (token {version = v} {stack} {lead} {bytes} k n t h b l) (ends e d) = absurd (none_left v stack.top bytes k n e h)
-one_lexing (trivia {version = v} {stack} {lead} {bytes} k n h b l) (token j i t h' b' l') = differ k j n i bytes t (same_kind v stack.top bytes k j n i h h') (same_length v stack.top bytes k j n i h h') b b'
-one_lexing (token {version = v} {stack} {lead} {bytes} k n t h b l) (trivia j i h' b' l') = differ j k i n bytes t (same_kind v stack.top bytes j k i n h' h) (same_length v stack.top bytes j k i n h' h) b' b
+one_lexing (trivia {version = v} {stack} {lead} {bytes} k n h b l) (token j i t h' b' l') =
+    differ k j n i bytes t (same_kind v stack.top bytes k j n i h h') (same_length v stack.top bytes k j n i h h') b
+    b'
+one_lexing (token {version = v} {stack} {lead} {bytes} k n t h b l) (trivia j i h' b' l') =
+    differ j k i n bytes t (same_kind v stack.top bytes j k i n h' h) (same_length v stack.top bytes j k i n h' h) b'
+    b
 one_lexing (trivia {version = v} {stack} {lead} {bytes} k n h b l) (trivia {ts = us} j i h' b' l') =
     let kinds = same_kind v stack.top bytes k j n i h h' in
     let sizes = same_length v stack.top bytes k j n i h h' in
-    one_lexing l (subst (λ (x : Kind). Lexed v (after v stack x n bytes) (lead ++ take n bytes) (drop n bytes) us) (sym kinds) (subst (λ (x : ℕ). Lexed v (after v stack j x bytes) (lead ++ take x bytes) (drop x bytes) us) (sym sizes) l'))
+    one_lexing l (subst (λ (x : Kind). Lexed v (after v stack x n bytes) (lead ++ take n bytes) (drop n bytes) us)
+    (sym kinds) (subst (λ (x : ℕ). Lexed v (after v stack j x bytes) (lead ++ take x bytes) (drop x bytes) us)
+    (sym sizes) l'))
 one_lexing (token {version = v} {stack} {lead} {bytes} {ts = ts} k n t h b l) (token {ts = us} j i u h' b' l') =
     let kinds = same_kind v stack.top bytes k j n i h h' in
     let sizes = same_length v stack.top bytes k j n i h h' in
     let tokens : t ≡ u = token_eq t u (sym b ∙ same_at k j n i bytes kinds sizes ∙ b') in
-    let rest = one_lexing l (subst (λ (x : Kind). Lexed v (after v stack x n bytes) [] (drop n bytes) us) (sym kinds) (subst (λ (x : ℕ). Lexed v (after v stack j x bytes) [] (drop x bytes) us) (sym sizes) l')) in
+    let rest = one_lexing l (subst (λ (x : Kind). Lexed v (after v stack x n bytes) [] (drop n bytes) us) (sym kinds)
+    (subst (λ (x : ℕ). Lexed v (after v stack j x bytes) [] (drop x bytes) us) (sym sizes) l')) in
     same_token t u lead bytes n i ts us tokens sizes rest
 
 turned_depth : (t : Turn) (top : Mode) (below : List Mode) (n : ℕ) → (turned_by t (stack_parts top below n)).depth ≡ deeper (effect top t) n
@@ -89,26 +97,42 @@ turned_depth (stay m) property below n = refl
 turned_depth (enter above under) top below n = refl
 turned_depth leave top below n = refl
 
-deep : (v : Version) (stack : Stack) (k : Kind) (n : ℕ) (bytes : List ℕ) (at : ℕ) (fs : List LexFault) → stack.depth ≡ length fs → (after v stack k n bytes).depth ≡ length (opened_by stack.top (turn_at v stack k n bytes) at fs)
+deep : (v : Version) (stack : Stack) (k : Kind) (n : ℕ) (bytes : List ℕ) (at : ℕ) (fs : List LexFault)
+    → stack.depth ≡ length fs → (after v stack k n bytes).depth ≡ length
+    (opened_by stack.top (turn_at v stack k n bytes) at fs)
 deep v stack k n bytes at fs d =
-    turned_depth (turn_at v stack k n bytes) stack.top stack.below stack.depth ∙ ap (λ (i : ℕ). deeper (effect stack.top (turn_at v stack k n bytes)) i) d ∙ sym (depth_is (effect stack.top (turn_at v stack k n bytes)) at fs)
+    turned_depth (turn_at v stack k n bytes) stack.top stack.below stack.depth
+    ∙ ap (λ (i : ℕ). deeper (effect stack.top (turn_at v stack k n bytes)) i) d
+    ∙ sym (depth_is (effect stack.top (turn_at v stack k n bytes)) at fs)
 
-move : (v : Version) (stack : Stack) (bytes : List ℕ) (fs : List LexFault) (at : ℕ) (f : LexFault) (k j : Kind) (n i : ℕ) → k ≡ j → n ≡ i → Stops v (after v stack j i bytes) (opened_by stack.top (turn_at v stack j i bytes) at fs) (at + i) (drop i bytes) f → Stops v (after v stack k n bytes) (opened_by stack.top (turn_at v stack k n bytes) at fs) (at + n) (drop n bytes) f
-move v stack bytes fs at f k j n i p q s = subst (λ (x : Kind). Stops v (after v stack x n bytes) (opened_by stack.top (turn_at v stack x n bytes) at fs) (at + n) (drop n bytes) f) (sym p) (subst (λ (x : ℕ). Stops v (after v stack j x bytes) (opened_by stack.top (turn_at v stack j x bytes) at fs) (at + x) (drop x bytes) f) (sym q) s)
+move : (v : Version) (stack : Stack) (bytes : List ℕ) (fs : List LexFault) (at : ℕ) (f : LexFault) (k j : Kind)
+    (n i : ℕ) → k ≡ j → n ≡ i → Stops v (after v stack j i bytes)
+    (opened_by stack.top (turn_at v stack j i bytes) at fs) (at + i) (drop i bytes) f
+    → Stops v (after v stack k n bytes) (opened_by stack.top (turn_at v stack k n bytes) at fs) (at + n)
+    (drop n bytes) f
+move v stack bytes fs at f k j n i p q s =
+    subst (λ (x : Kind). Stops v (after v stack x n bytes) (opened_by stack.top (turn_at v stack x n bytes) at fs)
+    (at + n) (drop n bytes) f) (sym p) (subst (λ (x : ℕ). Stops v (after v stack j x bytes)
+    (opened_by stack.top (turn_at v stack j x bytes) at fs) (at + x) (drop x bytes) f) (sym q) s)
 
 -- Where the tokens stop there are none.
-pub no_stop : {v : Version} {stack : Stack} {lead bytes : List ℕ} {ts : List Lexeme} → Lexed v stack lead bytes ts → (fs : List LexFault) (at : ℕ) (f : LexFault) → stack.depth ≡ length fs → Stops v stack fs at bytes f → ⊥
+pub no_stop : {v : Version} {stack : Stack} {lead bytes : List ℕ} {ts : List Lexeme} → Lexed v stack lead bytes ts
+    → (fs : List LexFault) (at : ℕ) (f : LexFault) → stack.depth ≡ length fs → Stops v stack fs at bytes f → ⊥
 no_stop (ends e d) fs at f same (here some none) = let size = ap length e in omega arith
 no_stop (ends e d) fs at f same unended = omega arith
 no_stop (ends {version = v} {stack} {lead} {bytes} e d) fs at f same (later j i h s) = none_left v stack.top bytes j i e h
 no_stop (trivia k n h b l) fs at f same (here some none) = clash h.is (none n h.within)
 no_stop (trivia {version = v} {stack} {lead} {bytes} k n h b l) fs at f same unended = none_left v stack.top [] k n refl h
 no_stop (trivia {version = v} {stack} {lead} {bytes} k n h b l) fs at f same (later j i h' s) =
-    no_stop l (opened_by stack.top (turn_at v stack k n bytes) at fs) (at + n) f (deep v stack k n bytes at fs same) (move v stack bytes fs at f k j n i (same_kind v stack.top bytes k j n i h h') (same_length v stack.top bytes k j n i h h') s)
+    no_stop l (opened_by stack.top (turn_at v stack k n bytes) at fs) (at + n) f (deep v stack k n bytes at fs same)
+    (move v stack bytes fs at f k j n i (same_kind v stack.top bytes k j n i h h')
+    (same_length v stack.top bytes k j n i h h') s)
 no_stop (token k n t h b l) fs at f same (here some none) = clash h.is (none n h.within)
 no_stop (token {version = v} {stack} {lead} {bytes} k n t h b l) fs at f same unended = none_left v stack.top [] k n refl h
 no_stop (token {version = v} {stack} {lead} {bytes} k n t h b l) fs at f same (later j i h' s) =
-    no_stop l (opened_by stack.top (turn_at v stack k n bytes) at fs) (at + n) f (deep v stack k n bytes at fs same) (move v stack bytes fs at f k j n i (same_kind v stack.top bytes k j n i h h') (same_length v stack.top bytes k j n i h h') s)
+    no_stop l (opened_by stack.top (turn_at v stack k n bytes) at fs) (at + n) f (deep v stack k n bytes at fs same)
+    (move v stack bytes fs at f k j n i (same_kind v stack.top bytes k j n i h h')
+    (same_length v stack.top bytes k j n i h h') s)
 
 -- There is one fault.
 pub one_fault : {v : Version} {stack : Stack} {bytes : List ℕ} {fs : List LexFault} {at : ℕ} {f g : LexFault} → Stops v stack fs at bytes f → Stops v stack fs at bytes g → f ≡ g
@@ -120,4 +144,6 @@ one_fault unended unended = refl
 one_fault (unended {version = v} {stack}) (later j i h s) = absurd (none_left v stack.top [] j i refl h)
 one_fault (later j i h s) (here some none) = clash h.is (none i h.within)
 one_fault (later {version = v} {stack} j i h s) unended = absurd (none_left v stack.top [] j i refl h)
-one_fault (later {version = v} {stack} {fs} {at} {bytes} k n h s) (later {fault = g} j i h' s') = one_fault s (move v stack bytes fs at g k j n i (same_kind v stack.top bytes k j n i h h') (same_length v stack.top bytes k j n i h h') s')
+one_fault (later {version = v} {stack} {fs} {at} {bytes} k n h s) (later {fault = g} j i h' s') =
+    one_fault s (move v stack bytes fs at g k j n i (same_kind v stack.top bytes k j n i h h')
+    (same_length v stack.top bytes k j n i h h') s')

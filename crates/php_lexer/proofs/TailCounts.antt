@@ -26,4 +26,7 @@ describes_tail label NowdocRest bs = describes_nowdoc bs
 
 pub sorts_by : (label : List ℕ) (rows : List Row) (bs : List ℕ) → Sorts (kind_by label rows) bs (scan_by label rows bs)
 sorts_by label [] bs = λ m le. refl
-sorts_by label (rule kind w tail ∷ rows) bs = sorts_row kind (led lower w (is_tail label tail)) (kind_by label rows) bs (behind lower w (tail_len label tail) bs) (scan_by label rows bs) (describes_behind lower w (is_tail label tail) (tail_len label tail) (describes_tail label tail) bs) (sorts_by label rows bs)
+sorts_by label (rule kind w tail ∷ rows) bs = sorts_row kind (led lower w (is_tail label tail)) (kind_by label rows)
+    bs (behind lower w (tail_len label tail) bs) (scan_by label rows bs)
+    (describes_behind lower w (is_tail label tail) (tail_len label tail) (describes_tail label tail) bs)
+    (sorts_by label rows bs)

@@ -1,5 +1,42 @@
 -- No token ends within a character.
-use Rattle.std.proofs.Common.{◌≡◌, ℕ, zero, suc, ◌+◌, ◌<◌, ◌≤◌, Bool, true, false, not, cond, ◌&&◌, ◌||◌, nat_eq, nat_lt, List, [], ◌∷◌, length, take, drop, get_or, ◌⊎◌, inl, inr, Option, Some, None, refl, sym, ap, ◌∙◌, subst, arith, eq-eqb}
+use Rattle.std.proofs.Common.{
+  ◌≡◌,
+  ℕ,
+  zero,
+  suc,
+  ◌+◌,
+  ◌<◌,
+  ◌≤◌,
+  Bool,
+  true,
+  false,
+  not,
+  cond,
+  ◌&&◌,
+  ◌||◌,
+  nat_eq,
+  nat_lt,
+  List,
+  [],
+  ◌∷◌,
+  length,
+  take,
+  drop,
+  get_or,
+  ◌⊎◌,
+  inl,
+  inr,
+  Option,
+  Some,
+  None,
+  refl,
+  sym,
+  ap,
+  ◌∙◌,
+  subst,
+  arith,
+  eq-eqb,
+}
 use Rattle.std.proofs.lemmas.Bool.{ltb-true, eqb-true, cases_lt}
 use Rattle.std.proofs.lemmas.Str.{IsUtf8-take, IsUtf8-drop, IsCharBoundary-before_ascii, IsCharBoundary-after_ascii, IsCharBoundary-end}
 use Rattle.std.specs.Str.{IsUtf8, IsCharBoundary}
@@ -17,7 +54,24 @@ use Rattle.php_spellings.specs.Bytes.{is_blank_byte, is_line_end, is_label_byte,
 use Rattle.php_lexer.specs.Heredocs.{no_label, ends_heredoc, begins_nowdoc, nowdoc_label, nowdoc_head}
 use Rattle.php_lexer.specs.Rules.{Row, rule, follows, is_b, begins_text}
 use Rattle.php_lexer.specs.Modes.{Mode, html, code, named, quoted, offset, property, rows_of, label_in, IsLongest}
-use Rattle.php_lexer.specs.Scan.{add_to, here_len, some_len, run_len, some_run_len, word_len, name_len, last_label_len, end_line_len, body_len, nowdoc_len, tail_len, behind, longer, scan_by, scan}
+use Rattle.php_lexer.specs.Scan.{
+  add_to,
+  here_len,
+  some_len,
+  run_len,
+  some_run_len,
+  word_len,
+  name_len,
+  last_label_len,
+  end_line_len,
+  body_len,
+  nowdoc_len,
+  tail_len,
+  behind,
+  longer,
+  scan_by,
+  scan,
+}
 use Rattle.php_lexer.proofs.Seams.{small, small_front, cuts, cuts_next, cuts_here, or_true, some_same, big_label, big_lower, run_cuts, until_cuts, fits_small}
 use Rattle.php_lexer.proofs.ShapeSeams.{here_zero, shape_cuts, small_fits}
 use Rattle.php_lexer.proofs.Longest.{scanned_longest, scanned_none, longest_some}
@@ -31,7 +85,9 @@ some_is n k false e h = some_same n k h
 
 run_some : (r : Run) (label : List ℕ) (s : State) (before : ℕ) (bs : List ℕ) (n : ℕ) → small before ≡ true → some_run_len r label s bs ≡ Some n → cuts before bs n ≡ true
 run_some r label s before bs n small_before e =
-    subst (λ (k : ℕ). cuts before bs k ≡ true) (some_is (run_len r label s bs) n (nat_eq (run_len r label s bs) 0) refl e) (run_cuts r label s before bs (fits_small r s before small_before))
+    subst (λ (k : ℕ). cuts before bs k ≡ true)
+    (some_is (run_len r label s bs) n (nat_eq (run_len r label s bs) 0) refl e)
+    (run_cuts r label s before bs (fits_small r s before small_before))
 
 if_not : (t : Bool) (o : Option ℕ) (n : ℕ) → cond t None o ≡ Some n → o ≡ Some n
 if_not true o n e = absurd cc
@@ -77,21 +133,28 @@ last_label_cuts (a ∷ label) before bs n e =
     plus_zero : (n : ℕ) → n + 0 ≡ n
     plus_zero n = omega arith
 
-line_by : (label : List ℕ) (before b : ℕ) (bs : List ℕ) (n : ℕ) → ((k : ℕ) → end_line_len label bs ≡ Some k → cuts b bs k ≡ true) → (t : Bool) → cond t (add_to 1 (end_line_len label bs)) (last_label_len label (b ∷ bs)) ≡ Some n → cuts before (b ∷ bs) n ≡ true
-line_by label before b bs n ih true e = let parts = add_parts 1 (end_line_len label bs) n e in cuts_next before b bs parts.0 n (let size = parts.2 in omega arith) (ih parts.0 parts.1)
+line_by : (label : List ℕ) (before b : ℕ) (bs : List ℕ) (n : ℕ)
+    → ((k : ℕ) → end_line_len label bs ≡ Some k → cuts b bs k ≡ true) → (t : Bool)
+    → cond t (add_to 1 (end_line_len label bs)) (last_label_len label (b ∷ bs)) ≡ Some n
+    → cuts before (b ∷ bs) n ≡ true
+line_by label before b bs n ih true e = let parts = add_parts 1 (end_line_len label bs) n e
+    in cuts_next before b bs parts.0 n (let size = parts.2 in omega arith) (ih parts.0 parts.1)
 line_by label before b bs n ih false e = last_label_cuts label before (b ∷ bs) n e
 
 end_line_cuts : (label : List ℕ) (before : ℕ) (bs : List ℕ) (n : ℕ) → end_line_len label bs ≡ Some n → cuts before bs n ≡ true
 end_line_cuts label before [] n e = absurd cc
 end_line_cuts label before (b ∷ bs) n e = line_by label before b bs n (end_line_cuts label b bs) (is_blank_byte b) e
 
-body_by : (label : List ℕ) (before b : ℕ) (bs : List ℕ) (n : ℕ) (o : Option ℕ) → ((k : ℕ) → o ≡ Some k → cuts b bs k ≡ true) → (t : Bool) → cond t (end_line_len label (b ∷ bs)) (add_to 1 o) ≡ Some n → cuts before (b ∷ bs) n ≡ true
+body_by : (label : List ℕ) (before b : ℕ) (bs : List ℕ) (n : ℕ) (o : Option ℕ)
+    → ((k : ℕ) → o ≡ Some k → cuts b bs k ≡ true) → (t : Bool)
+    → cond t (end_line_len label (b ∷ bs)) (add_to 1 o) ≡ Some n → cuts before (b ∷ bs) n ≡ true
 body_by label before b bs n o ih true e = end_line_cuts label before (b ∷ bs) n e
 body_by label before b bs n o ih false e = let parts = add_parts 1 o n e in cuts_next before b bs parts.0 n (let size = parts.2 in omega arith) (ih parts.0 parts.1)
 
 body_cuts : (label : List ℕ) (fresh : Bool) (before : ℕ) (bs : List ℕ) (n : ℕ) → body_len label fresh bs ≡ Some n → cuts before bs n ≡ true
 body_cuts label fresh before [] n e = absurd cc
-body_cuts label fresh before (b ∷ bs) n e = body_by label before b bs n (body_len label (is_line_end b) bs) (body_cuts label (is_line_end b) b bs) (fresh && ends_heredoc label (b ∷ bs)) e
+body_cuts label fresh before (b ∷ bs) n e = body_by label before b bs n (body_len label (is_line_end b) bs)
+    (body_cuts label (is_line_end b) b bs) (fresh && ends_heredoc label (b ∷ bs)) e
 
 cuts_ahead : (h before : ℕ) (bs : List ℕ) (k n : ℕ) → n ≡ h + k → ((p : ℕ) → cuts p (drop h bs) k ≡ true) → cuts before bs n ≡ true
 cuts_ahead zero before bs k n e f = let size : n ≡ k = omega arith in rw size (f before)
@@ -107,14 +170,19 @@ nowdoc_cuts before bs n e =
 -- ---- tails and rows
 
 word_cuts : (before : ℕ) (bs : List ℕ) (n : ℕ) → small before ≡ true → word_len bs ≡ Some n → cuts before bs n ≡ true
-word_cuts before bs n h e = run_some Labels [] First before bs n h (if_not (is_b (take (run_len Labels [] First bs) bs) && begins_text (drop (run_len Labels [] First bs) bs)) (some_len (run_len Labels [] First bs)) n e)
+word_cuts before bs n h e = run_some Labels [] First before bs n h
+    (if_not (is_b (take (run_len Labels [] First bs) bs) && begins_text (drop (run_len Labels [] First bs) bs))
+    (some_len (run_len Labels [] First bs)) n e)
 
 name_cuts : (before : ℕ) (bs : List ℕ) (n : ℕ) → small before ≡ true → name_len bs ≡ Some n → cuts before bs n ≡ true
-name_cuts before bs n h e = run_some Labels [] First before bs n h ((if_so (begins (λ c. nat_eq c 91 || nat_eq c 125) (drop (run_len Labels [] First bs) bs)) (some_len (run_len Labels [] First bs)) n e).1)
+name_cuts before bs n h e = run_some Labels [] First before bs n h
+    ((if_so (begins (λ c. nat_eq c 91 || nat_eq c 125) (drop (run_len Labels [] First bs) bs))
+    (some_len (run_len Labels [] First bs)) n e).1)
 
 tail_cuts : (label : List ℕ) (tail : Tail) (before : ℕ) (bs : List ℕ) (n : ℕ) → small before ≡ true → tail_len label tail bs ≡ Some n → cuts before bs n ≡ true
 tail_cuts label (When f) before bs n h e = let z = here_zero (follows f bs) n e in cuts_here before bs n z.1 h
-tail_cuts label (AnyRun r) before bs n h e = subst (λ (k : ℕ). cuts before bs k ≡ true) (some_same (run_len r label First bs) n e) (run_cuts r label First before bs (fits_small r First before h))
+tail_cuts label (AnyRun r) before bs n h e = subst (λ (k : ℕ). cuts before bs k ≡ true)
+    (some_same (run_len r label First bs) n e) (run_cuts r label First before bs (fits_small r First before h))
 tail_cuts label (SomeOf r s) before bs n h e = run_some r label s before bs n h e
 tail_cuts label (UpTo u) before bs n h e = until_cuts u First before bs n e
 tail_cuts label (Shaped sh s) before bs n h e = shape_cuts sh s before bs n (small_fits sh s before h) e
@@ -155,12 +223,19 @@ lower_small a b h e false p =
     let c : nat_eq (lower b) a ≡ true = eq-eqb (lower b) a (sym same) in
     let clash : true ≡ false = sym c ∙ other in absurd cc
 
-word_ahead : (w : List ℕ) (before : ℕ) (bs : List ℕ) (k n : ℕ) → n ≡ length w + k → all_small w ≡ true → starts_by lower w bs ≡ true → small before ≡ true → ((p : ℕ) → small p ≡ true → cuts p (drop (length w) bs) k ≡ true) → cuts before bs n ≡ true
+word_ahead : (w : List ℕ) (before : ℕ) (bs : List ℕ) (k n : ℕ) → n ≡ length w + k → all_small w ≡ true
+    → starts_by lower w bs ≡ true → small before ≡ true
+    → ((p : ℕ) → small p ≡ true → cuts p (drop (length w) bs) k ≡ true) → cuts before bs n ≡ true
 word_ahead [] before bs k n e all s h f = let size : n ≡ k = omega arith in rw size (f before h)
 word_ahead (a ∷ w) before [] k n e all s h f = absurd cc
-word_ahead (a ∷ w) before (b ∷ bs) k n e all s h f = cuts_next before b bs (length w + k) n (omega arith) (word_ahead w b bs k (length w + k) refl (second (small a) (all_small w) all) (and_second (nat_eq a (lower b)) (starts_by lower w bs) s) (lower_small a b (first (small a) (all_small w) all) (and_first (nat_eq a (lower b)) (starts_by lower w bs) s) (small b) refl) f)
+word_ahead (a ∷ w) before (b ∷ bs) k n e all s h f = cuts_next before b bs (length w + k) n (omega arith)
+    (word_ahead w b bs k (length w + k) refl (second (small a) (all_small w) all)
+    (and_second (nat_eq a (lower b)) (starts_by lower w bs) s)
+    (lower_small a b (first (small a) (all_small w) all) (and_first (nat_eq a (lower b)) (starts_by lower w bs) s)
+    (small b) refl) f)
 
-row_cuts : (label w : List ℕ) (tail : Tail) (before : ℕ) (bs : List ℕ) (n : ℕ) → all_small w ≡ true → small before ≡ true → behind lower w (tail_len label tail) bs ≡ Some n → cuts before bs n ≡ true
+row_cuts : (label w : List ℕ) (tail : Tail) (before : ℕ) (bs : List ℕ) (n : ℕ) → all_small w ≡ true
+    → small before ≡ true → behind lower w (tail_len label tail) bs ≡ Some n → cuts before bs n ≡ true
 row_cuts label w tail before bs n all h e =
     let so = if_so (starts_by lower w bs) (add_to (length w) (tail_len label tail (drop (length w) bs))) n e in
     let parts = add_parts (length w) (tail_len label tail (drop (length w) bs)) n so.1 in
@@ -172,18 +247,27 @@ some_pair x = Some x
 pair_same : (x y : Kind × ℕ) → some_pair x ≡ some_pair y → x ≡ y
 pair_same x y e = cc
 
-longer_by : (kind : Kind) (n : ℕ) (x y : Kind × ℕ) (before : ℕ) (bs : List ℕ) → cuts before bs n ≡ true → cuts before bs x.1 ≡ true → (t : Bool) → cond t (some_pair x) (some_pair (kind, n)) ≡ some_pair y → cuts before bs y.1 ≡ true
+longer_by : (kind : Kind) (n : ℕ) (x y : Kind × ℕ) (before : ℕ) (bs : List ℕ) → cuts before bs n ≡ true
+    → cuts before bs x.1 ≡ true → (t : Bool) → cond t (some_pair x) (some_pair (kind, n)) ≡ some_pair y
+    → cuts before bs y.1 ≡ true
 longer_by kind n x y before bs p q true e = subst (λ (z : Kind × ℕ). cuts before bs z.1 ≡ true) (pair_same x y e) q
 longer_by kind n x y before bs p q false e = subst (λ (z : Kind × ℕ). cuts before bs z.1 ≡ true) (pair_same (kind, n) y e) p
 
-longer_cuts : (kind : Kind) (o : Option ℕ) (other : Option (Kind × ℕ)) (y : Kind × ℕ) (before : ℕ) (bs : List ℕ) → ((n : ℕ) → o ≡ Some n → cuts before bs n ≡ true) → ((x : Kind × ℕ) → other ≡ some_pair x → cuts before bs x.1 ≡ true) → longer kind o other ≡ some_pair y → cuts before bs y.1 ≡ true
+longer_cuts : (kind : Kind) (o : Option ℕ) (other : Option (Kind × ℕ)) (y : Kind × ℕ) (before : ℕ) (bs : List ℕ)
+    → ((n : ℕ) → o ≡ Some n → cuts before bs n ≡ true)
+    → ((x : Kind × ℕ) → other ≡ some_pair x → cuts before bs x.1 ≡ true) → longer kind o other ≡ some_pair y
+    → cuts before bs y.1 ≡ true
 longer_cuts kind None other y before bs f g e = g y e
 longer_cuts kind (Some n) None y before bs f g e = subst (λ (z : Kind × ℕ). cuts before bs z.1 ≡ true) (pair_same (kind, n) y e) (f n refl)
 longer_cuts kind (Some n) (Some x) y before bs f g e = longer_by kind n x y before bs (f n refl) (g x refl) (nat_lt n x.1) e
 
-rows_cuts : (label : List ℕ) (rows : List Row) (before : ℕ) (bs : List ℕ) (y : Kind × ℕ) → rows_small rows ≡ true → small before ≡ true → scan_by label rows bs ≡ some_pair y → cuts before bs y.1 ≡ true
+rows_cuts : (label : List ℕ) (rows : List Row) (before : ℕ) (bs : List ℕ) (y : Kind × ℕ) → rows_small rows ≡ true
+    → small before ≡ true → scan_by label rows bs ≡ some_pair y → cuts before bs y.1 ≡ true
 rows_cuts label [] before bs y all h e = absurd cc
-rows_cuts label (rule kind w tail ∷ rows) before bs y all h e = longer_cuts kind (behind lower w (tail_len label tail) bs) (scan_by label rows bs) y before bs (λ n p. row_cuts label w tail before bs n (first (all_small w) (rows_small rows) all) h p) (λ x p. rows_cuts label rows before bs x (second (all_small w) (rows_small rows) all) h p) e
+rows_cuts label (rule kind w tail ∷ rows) before bs y all h e =
+    longer_cuts kind (behind lower w (tail_len label tail) bs) (scan_by label rows bs) y before bs
+    (λ n p. row_cuts label w tail before bs n (first (all_small w) (rows_small rows) all) h p)
+    (λ x p. rows_cuts label rows before bs x (second (all_small w) (rows_small rows) all) h p) e
 
 mode_small : (v : Version) (m : Mode) → rows_small (rows_of v m) ≡ true
 mode_small v html = refl

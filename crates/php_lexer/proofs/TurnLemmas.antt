@@ -9,10 +9,13 @@ use Rattle.php_lexer.specs.declared.modes.Turn.TheVariants.{Stay}
 use Rattle.php_lexer.specs.Modes.{code, stay, code_turn}
 use Rattle.php_lexer.specs.Views.{IsTurned}
 
-in_code : (v : Version) (bytes : List ℕ) (kind : Kind) (at n : ℕ) (ms : List CodeMode) (fs : List LexFault) → code_turn kind (take n (drop at bytes)) ≡ stay code → IsTurned v bytes Code kind at n ms Code ms fs fs
+in_code : (v : Version) (bytes : List ℕ) (kind : Kind) (at n : ℕ) (ms : List CodeMode) (fs : List LexFault)
+    → code_turn kind (take n (drop at bytes)) ≡ stay code → IsTurned v bytes Code kind at n ms Code ms fs fs
 in_code v bytes kind at n ms fs e = record { turn = Stay Code; seen = sym e; after = λ b. (refl, refl); noted = λ b. refl }
 
-pub stayed : (v : Version) (bytes : List ℕ) (m : CodeMode) (kind : Kind) (at n : ℕ) (ms : List CodeMode) (fs : List LexFault) (text : List ℕ) → text ≡ take n (drop at bytes) → m ≡ Code → code_turn kind text ≡ stay code → IsTurned v bytes m kind at n ms m ms fs fs
+pub stayed : (v : Version) (bytes : List ℕ) (m : CodeMode) (kind : Kind) (at n : ℕ) (ms : List CodeMode)
+    (fs : List LexFault) (text : List ℕ) → text ≡ take n (drop at bytes) → m ≡ Code → code_turn kind text ≡ stay code
+    → IsTurned v bytes m kind at n ms m ms fs fs
 stayed v bytes m kind at n ms fs text t is e =
     let P : CodeMode → Type 0 = λ x. IsTurned v bytes x kind at n ms x ms fs fs in
     subst P (sym is) (in_code v bytes kind at n ms fs (ap (code_turn kind) (sym t) ∙ e))

@@ -1,5 +1,32 @@
 -- What is counted is within the bytes.
-use Rattle.std.proofs.Common.{◌≡◌, ℕ, zero, suc, ◌+◌, ◌≤◌, ◌<◌, nat_eq, ◌∙◌, Bool, true, false, ◌&&◌, List, [], ◌∷◌, length, drop, Option, Some, None, refl, sym, subst, arith, length-drop}
+use Rattle.std.proofs.Common.{
+  ◌≡◌,
+  ℕ,
+  zero,
+  suc,
+  ◌+◌,
+  ◌≤◌,
+  ◌<◌,
+  nat_eq,
+  ◌∙◌,
+  Bool,
+  true,
+  false,
+  ◌&&◌,
+  List,
+  [],
+  ◌∷◌,
+  length,
+  drop,
+  Option,
+  Some,
+  None,
+  refl,
+  sym,
+  subst,
+  arith,
+  length-drop,
+}
 use Rattle.std.specs.Prelude.{IfSome}
 use Rattle.php_spellings.specs.declared.table.Tail.{Tail}
 use Rattle.std.proofs.lemmas.List.Folds.{length-prefix_len}
@@ -16,10 +43,12 @@ within is bs None d = tt
 within is bs (Some n) d = d.0
 
 pub tail_within : (label : List ℕ) (tail : Tail) (bs : List ℕ) (o : Option ℕ) → o ≡ tail_len label tail bs → IfSome o (λ n. n ≤ length bs)
-tail_within label tail bs o e = subst (λ (x : Option ℕ). IfSome x (λ n. n ≤ length bs)) (sym e) (within (is_tail label tail) bs (tail_len label tail bs) (describes_tail label tail bs))
+tail_within label tail bs o e = subst (λ (x : Option ℕ). IfSome x (λ n. n ≤ length bs)) (sym e)
+    (within (is_tail label tail) bs (tail_len label tail bs) (describes_tail label tail bs))
 
 pub body_within : (label : List ℕ) (bs : List ℕ) (o : Option ℕ) → o ≡ body_len label false bs → IfSome o (λ n. n ≤ length bs)
-body_within label bs o e = subst (λ (x : Option ℕ). IfSome x (λ n. n ≤ length bs)) (sym e) (within (is_body label false) bs (body_len label false bs) (describes_body label false bs))
+body_within label bs o e = subst (λ (x : Option ℕ). IfSome x (λ n. n ≤ length bs)) (sym e)
+    (within (is_body label false) bs (body_len label false bs) (describes_body label false bs))
 
 -- ---- the first line of a nowdoc
 
@@ -40,7 +69,9 @@ and_second false y e = absurd cc
 label_size : (bs : List ℕ) → length (nowdoc_label bs) ≡ label_len (behind_quote bs)
 label_size bs = length-prefix_len is_label_byte (behind_quote bs)
 
-head_by : (bs : List ℕ) (p q r s : Bool) → begins_by 39 (skip_blanks bs) ≡ p → begins_by 39 (drop (label_len (behind_quote bs)) (behind_quote bs)) ≡ r → (((p && q) && r) && s) ≡ true → nowdoc_head bs ≤ length bs
+head_by : (bs : List ℕ) (p q r s : Bool) → begins_by 39 (skip_blanks bs) ≡ p
+    → begins_by 39 (drop (label_len (behind_quote bs)) (behind_quote bs)) ≡ r → (((p && q) && r) && s) ≡ true
+    → nowdoc_head bs ≤ length bs
 head_by bs p q r s ep er e =
     let first = and_first ((p && q) && r) s e in
     let quote = ep ∙ and_first p q (and_first (p && q) r first) in

@@ -1,5 +1,36 @@
 -- What is counted of words and of names behind `${` is the longest.
-use Rattle.std.proofs.Common.{◌≡◌, ℕ, zero, suc, ◌+◌, ◌<◌, ◌≤◌, Bool, true, false, not, cond, ◌&&◌, ◌||◌, nat_eq, List, [], ◌∷◌, length, take, drop, ◌⊎◌, inl, inr, Option, Some, None, refl, subst, arith}
+use Rattle.std.proofs.Common.{
+  ◌≡◌,
+  ℕ,
+  zero,
+  suc,
+  ◌+◌,
+  ◌<◌,
+  ◌≤◌,
+  Bool,
+  true,
+  false,
+  not,
+  cond,
+  ◌&&◌,
+  ◌||◌,
+  nat_eq,
+  List,
+  [],
+  ◌∷◌,
+  length,
+  take,
+  drop,
+  ◌⊎◌,
+  inl,
+  inr,
+  Option,
+  Some,
+  None,
+  refl,
+  subst,
+  arith,
+}
 use Rattle.std.proofs.lemmas.Bool.{eqb-true, cases_lt}
 use Rattle.std.proofs.lemmas.List.{length-take-le}
 use Rattle.php_spellings.specs.declared.table.State.{State}
@@ -11,7 +42,8 @@ use Rattle.php_lexer.specs.Rules.{is_b, begins_text, is_any_word, is_braced_name
 use Rattle.php_lexer.specs.Scan.{run_len, some_len, some_run_len, word_len, name_len}
 use Rattle.php_lexer.proofs.Counts.{Describes, and_false, run_within, run_more, describes_some_run, some_eq}
 
-filtered : (is p : List ℕ → List ℕ → Bool) (bs : List ℕ) (o : Option ℕ) → Describes is bs o → ((k : ℕ) → o ≡ Some k → p (take k bs) (drop k bs) ≡ true) → Describes (λ t rest. is t rest && p t rest) bs o
+filtered : (is p : List ℕ → List ℕ → Bool) (bs : List ℕ) (o : Option ℕ) → Describes is bs o
+    → ((k : ℕ) → o ≡ Some k → p (take k bs) (drop k bs) ≡ true) → Describes (λ t rest. is t rest && p t rest) bs o
 filtered is p bs None d h = λ m le. rw (d m le) refl
 filtered is p bs (Some k) d h = (d.0, rw (d.1, h k refl) refl, λ m lt le. rw (d.2 m lt le) refl)
 
@@ -78,7 +110,9 @@ describes_name bs = by_test (begins closer (drop n bs)) refl
     none e m (inr ge) le = none_at (λ t rest. begins closer rest) bs n e m (up_from m n ge) le refl
 
     by_test : (t : Bool) → begins closer (drop n bs) ≡ t → Describes is_braced_name bs (cond t (some_len n) None)
-    by_test true e = filtered (some_run Labels [] First) (λ t rest. begins closer rest) bs (some_run_len Labels [] First bs) (describes_some_run Labels [] First bs) (λ k h. subst (λ (i : ℕ). begins closer (drop i bs) ≡ true) (some_len_is n (nat_eq n 0) refl k h) e)
+    by_test true e = filtered (some_run Labels [] First) (λ t rest. begins closer rest) bs
+        (some_run_len Labels [] First bs) (describes_some_run Labels [] First bs)
+        (λ k h. subst (λ (i : ℕ). begins closer (drop i bs) ≡ true) (some_len_is n (nat_eq n 0) refl k h) e)
     by_test false e = λ m le. none e m (cases_lt m n) le
 
 -- ---- words
@@ -125,4 +159,7 @@ describes_word bs = by_test (owned (take n bs) (drop n bs)) refl
 
     by_test : (t : Bool) → owned (take n bs) (drop n bs) ≡ t → Describes is_any_word bs (cond t None (some_len n))
     by_test true e = λ m le. none e m (cases_lt m n) le
-    by_test false e = filtered (some_run Labels [] First) (λ t rest. not (owned t rest)) bs (some_run_len Labels [] First bs) (describes_some_run Labels [] First bs) (λ k h. subst (λ (i : ℕ). not (owned (take i bs) (drop i bs)) ≡ true) (some_len_is n (nat_eq n 0) refl k h) (rw e refl))
+    by_test false e = filtered (some_run Labels [] First) (λ t rest. not (owned t rest)) bs
+        (some_run_len Labels [] First bs) (describes_some_run Labels [] First bs)
+        (λ k h. subst (λ (i : ℕ). not (owned (take i bs) (drop i bs)) ≡ true) (some_len_is n (nat_eq n 0) refl k h)
+        (rw e refl))

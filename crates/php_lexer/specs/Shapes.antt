@@ -3,7 +3,28 @@ use Rattle.std.specs.Prelude.{ℕ, Bool, true, false, not, ◌&&◌, ◌||◌, c
 use Rattle.php_spellings.specs.declared.table.Shape.{Shape}
 use Rattle.php_spellings.specs.declared.table.Shape.TheVariants as shape
 use Rattle.php_spellings.specs.declared.table.Spot.{Spot}
-use Rattle.php_spellings.specs.declared.table.Spot.TheVariants.{Begin, Whole, WholeGap, LeadPoint, Point, Part, PartGap, Mark, Sign, Power, PowerGap, FirstLabel, Backslash, LaterLabel, OpenedLabel, QuotedLabel, ClosedLabel, Return, Line, Stuck}
+use Rattle.php_spellings.specs.declared.table.Spot.TheVariants.{
+  Begin,
+  Whole,
+  WholeGap,
+  LeadPoint,
+  Point,
+  Part,
+  PartGap,
+  Mark,
+  Sign,
+  Power,
+  PowerGap,
+  FirstLabel,
+  Backslash,
+  LaterLabel,
+  OpenedLabel,
+  QuotedLabel,
+  ClosedLabel,
+  Return,
+  Line,
+  Stuck,
+}
 use Rattle.php_spellings.specs.Bytes.{is_blank_byte, is_digit, is_letter, is_label_byte, lower}
 
 abbrev pub is_octal_digit : ℕ → Bool

@@ -68,7 +68,8 @@ IsNoted m turn at fs fs' =
     (bytes : List ℕ) → reverse fs' ≡ opened_by (mode_of bytes m) (turn_seen bytes turn) at (reverse fs)
 
 -- A token does to the stack, and to the faults of the open quoted texts, what its turn does.
-pub record IsTurned (version : Version) (bytes : List ℕ) (m : CodeMode) (kind : Kind) (at n : ℕ) (ms : List CodeMode) (m' : CodeMode) (ms' : List CodeMode) (fs fs' : List LexFault) : Type 0 where
+pub record IsTurned (version : Version) (bytes : List ℕ) (m : CodeMode) (kind : Kind) (at n : ℕ) (ms : List CodeMode)
+    (m' : CodeMode) (ms' : List CodeMode) (fs fs' : List LexFault) : Type 0 where
   pub turn : CodeTurn
   pub seen : turn_seen bytes turn ≡ turn_of version (mode_of bytes m) kind (take n (drop at bytes)) (drop n (drop at bytes))
   pub after : IsAfter turn ms m' ms'

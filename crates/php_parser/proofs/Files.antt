@@ -38,7 +38,9 @@ first_is t u ts us e = cc
 
 pub one_tree : (v : Version) (tokens : List Token) (f g : File) → ReadsFile v tokens f → ReadsFile v tokens g → f ≡ g
 one_tree v tokens f g p q =
-    let same = some_is (f.statements, f.end ∷ []) (g.statements, g.end ∷ []) (sym (turned_is v (bound v) tokens f.statements (f.end ∷ []) (as_statements v tokens f p)) ∙ turned_is v (bound v) tokens g.statements (g.end ∷ []) (as_statements v tokens g q)) in
+    let same = some_is (f.statements, f.end ∷ []) (g.statements, g.end ∷ [])
+    (sym (turned_is v (bound v) tokens f.statements (f.end ∷ []) (as_statements v tokens f p))
+    ∙ turned_is v (bound v) tokens g.statements (g.end ∷ []) (as_statements v tokens g q)) in
     let statements : f.statements ≡ g.statements = ap (λ (x : Forest × List Token). x.0) same in
     let ends : f.end ≡ g.end = first_is f.end g.end [] [] (ap (λ (x : Forest × List Token). x.1) same) in
     ap (λ (x : Forest). file_of x f.end) statements ∙ ap (file_of g.statements) ends
@@ -53,7 +55,9 @@ last_alone (t ∷ u ∷ ts) e = absurd cc
 abbrev pub WholeFile : Version → List Token → Row → ℕ → Type 0
 WholeFile v ts row deep = (f : File) × (ReadsFile v ts f × IsWhole ts row deep f.statements f.end)
 
-pub file_found : (v : Version) (ts : List Token) (row : Row) (deep : ℕ) (f : Forest) (rest : List Token) → ReadsStatements v (bound v) ts f rest → IsListed ts row deep f rest → ends_file (behind ts row) ≡ true → WholeFile v ts row deep
+pub file_found : (v : Version) (ts : List Token) (row : Row) (deep : ℕ) (f : Forest) (rest : List Token)
+    → ReadsStatements v (bound v) ts f rest → IsListed ts row deep f rest → ends_file (behind ts row) ≡ true
+    → WholeFile v ts row deep
 file_found v ts row deep f rest r l e =
     let t = last_alone (behind ts row) e in
     let is : rest ≡ t.0 ∷ [] = sym l.left ∙ t.1.0 in
@@ -66,10 +70,12 @@ file_found v ts row deep f rest r l e =
     } in
     (file_of f t.0, (reads, record { nodes = l.made; text = text; deep = l.depth_is }))
 
-pub whole_only : (v : Version) (ts : List Token) (row : Row) (deep : ℕ) (f : File) → ReadsFile v ts f → IsListed ts row deep f.statements (f.end ∷ []) → IsWhole ts row deep f.statements f.end
+pub whole_only : (v : Version) (ts : List Token) (row : Row) (deep : ℕ) (f : File) → ReadsFile v ts f
+    → IsListed ts row deep f.statements (f.end ∷ []) → IsWhole ts row deep f.statements f.end
 whole_only v ts row deep f p l = record { nodes = l.made; text = p.text; deep = l.depth_is }
 
-pub not_ended : (v : Version) (ts : List Token) (row : Row) (deep : ℕ) (f : File) → ReadsFile v ts f → IsListed ts row deep f.statements (f.end ∷ []) → ends_file (behind ts row) ≡ false → ⊥
+pub not_ended : (v : Version) (ts : List Token) (row : Row) (deep : ℕ) (f : File) → ReadsFile v ts f
+    → IsListed ts row deep f.statements (f.end ∷ []) → ends_file (behind ts row) ≡ false → ⊥
 not_ended v ts row deep f p l e = let x : true ≡ false = sym p.ends ∙ ap ends_file (sym l.left) ∙ e in absurd cc
 
 pub none_answers : (v : Version) (ts : List Token) (e : ParseFault) (f : File) → AnswersStatements (Err e) ts f.statements (f.end ∷ []) → AnswersWhole (Err e) ts f

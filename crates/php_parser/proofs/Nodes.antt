@@ -31,5 +31,6 @@ some_item i is = omega arith
 pub nodes_of_walk : (v : Version) {f : Forest} {rest : List Token} → Walks (php v) (Turns Statements ∷ []) f rest → are_nodes f ≡ true
 nodes_of_walk v (stop p w) = none_nodes v w
 nodes_of_walk v (turn {g} {i} {js} {is} {h} {f} {rest} p w has u) =
-    let here : i ∷ js ≡ Node Statement ∷ [] = sym p ∙ statement_items (first_of (leaves h ++ (leaves f ++ rest))) (subst (λ (is : List Item). 0 < length is) (sym p) (some_item i js)) in
+    let here : i ∷ js ≡ Node Statement ∷ [] = sym p ∙ statement_items (first_of (leaves h ++ (leaves f ++ rest)))
+    (subst (λ (is : List Item). 0 < length is) (sym p) (some_item i js)) in
     both_nodes h f (one_nodes v (subst (λ (is : List Item). Walks (php v) is h (leaves f ++ rest)) here w)) (nodes_of_walk v u)

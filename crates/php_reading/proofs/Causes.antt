@@ -30,7 +30,9 @@ none_of v ts parsing.NotInGrammar p q = q
 none_of v ts parsing.Memory p q = absurd cc
 
 -- tokens to which the parser answers that they have no tree
-pub without_tree : (v : Version) (bytes : List ℕ) (ts : List Token) (e : ParseFault) → length bytes ≤ byte_limit → TokensOf v bytes ts → e ≡ parsing.NotInGrammar → ((f : File) → ReadsFile v ts f → FileAnswers (Err e) f) → HasNoTree v bytes
+pub without_tree : (v : Version) (bytes : List ℕ) (ts : List Token) (e : ParseFault) → length bytes ≤ byte_limit
+    → TokensOf v bytes ts → e ≡ parsing.NotInGrammar → ((f : File) → ReadsFile v ts f → FileAnswers (Err e) f)
+    → HasNoTree v bytes
 without_tree v bytes ts e h p is q = record { within = h; tokens = ts; lexed = p; none = none_of v ts e is q }
 
 -- ---- no tree where there is a fault

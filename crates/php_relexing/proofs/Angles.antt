@@ -114,7 +114,8 @@ fourth : (w : Version) (s : List ℕ) → begins_by 60 s ≡ true → scan w cod
 fourth w [] h = absurd cc
 fourth w (d ∷ s) h = subst (λ (x : ℕ). scan w code (60 ∷ 60 ∷ 60 ∷ x ∷ s) ≡ found Op 2) (sym (eqb-true d 60 h)) (shift_thrice w s)
 
-shift_by : (w : Version) (c : ℕ) (s : List ℕ) (x y : Bool) → nat_eq c 61 ≡ x → nat_eq c 60 ≡ y → (not x && (not y || begins_by 60 s)) ≡ true → scan w code (60 ∷ 60 ∷ c ∷ s) ≡ found Op 2
+shift_by : (w : Version) (c : ℕ) (s : List ℕ) (x y : Bool) → nat_eq c 61 ≡ x → nat_eq c 60 ≡ y
+    → (not x && (not y || begins_by 60 s)) ≡ true → scan w code (60 ∷ 60 ∷ c ∷ s) ≡ found Op 2
 shift_by w c s true y p q h = absurd cc
 shift_by w c s false true p q h = subst (λ (x : ℕ). scan w code (60 ∷ 60 ∷ x ∷ s) ≡ found Op 2) (sym (eqb-true c 60 q)) (fourth w s h)
 shift_by w c s false false p q h = shift_other w c s p q
@@ -180,7 +181,8 @@ close_both V83 s = refl
 close_by : (w : Version) (a s : List ℕ) → OneOf close_rows a → close_ends a s ≡ true → scan w code (63 ∷ 62 ∷ a ++ s) ≡ found Close (suc (suc (length a)))
 close_by w a s (inl e) h = subst (λ (u : List ℕ). close_ends u s ≡ true → scan w code (63 ∷ 62 ∷ u ++ s) ≡ found Close (suc (suc (length u)))) (sym e) (close_alone w s) h
 close_by w a s (inr (inl e)) h = subst (λ (u : List ℕ). scan w code (63 ∷ 62 ∷ u ++ s) ≡ found Close (suc (suc (length u)))) (sym e) (close_feed w s)
-close_by w a s (inr (inr (inl e))) h = subst (λ (u : List ℕ). close_ends u s ≡ true → scan w code (63 ∷ 62 ∷ u ++ s) ≡ found Close (suc (suc (length u)))) (sym e) (close_return w s) h
+close_by w a s (inr (inr (inl e))) h = subst (λ (u : List ℕ). close_ends u s ≡ true
+    → scan w code (63 ∷ 62 ∷ u ++ s) ≡ found Close (suc (suc (length u)))) (sym e) (close_return w s) h
 close_by w a s (inr (inr (inr (inl e)))) h = subst (λ (u : List ℕ). scan w code (63 ∷ 62 ∷ u ++ s) ≡ found Close (suc (suc (length u)))) (sym e) (close_both w s)
 close_by w a s (inr (inr (inr (inr e)))) h = absurd e
 

@@ -38,7 +38,8 @@ len_alone : (kind : Kind) (k : ℕ) (o : Option ℕ) (n : ℕ) → scanned_to ki
 len_alone kind k None n e = absurd cc
 len_alone kind k (Some m) n e = (m, refl, found_length kind kind (suc k + m) n e)
 
-len_over : (kind other : Kind) (k : ℕ) (o : Option ℕ) (n : ℕ) → (Some other ≡ Some kind → ⊥) → scanned_to kind k o (Some (other, 1)) ≡ found kind n → (m : ℕ) × (o ≡ Some m) × (suc k + m ≡ n)
+len_over : (kind other : Kind) (k : ℕ) (o : Option ℕ) (n : ℕ) → (Some other ≡ Some kind → ⊥)
+    → scanned_to kind k o (Some (other, 1)) ≡ found kind n → (m : ℕ) × (o ≡ Some m) × (suc k + m ≡ n)
 len_over kind other k None n differ e = absurd (differ (ap kind_found e))
 len_over kind other k (Some m) n differ e = (m, refl, found_length kind kind (suc k + m) n (rw (not_less k m) at e))
 
@@ -111,27 +112,39 @@ module _ (v w : Version) (a r s : List ℕ) where
 
   simple : IsLongest v code (39 ∷ a ++ r) Text (suc (length a)) → IsLongest w code (39 ∷ a ++ s) Text (suc (length a))
   simple h =
-      let (m, is, size) = len_alone Text 0 (until_len Simple First (a ++ r)) (suc (length a)) (sym (simple_scan v (a ++ r)) ∙ scan_of v code (39 ∷ a ++ r) Text (suc (length a)) h) in
+      let (m, is, size) = len_alone Text 0 (until_len Simple First (a ++ r)) (suc (length a))
+      (sym (simple_scan v (a ++ r)) ∙ scan_of v code (39 ∷ a ++ r) Text (suc (length a)) h) in
       let same = same_len Simple simple_blind m is (omega arith) in
-      rescanned v w code code (39 ∷ a ++ r) (39 ∷ a ++ s) Text (suc (length a)) (simple_scan v (a ++ r) ∙ ap (λ (o : Option ℕ). scanned_to Text 0 o None) same ∙ sym (simple_scan w (a ++ s))) h
+      rescanned v w code code (39 ∷ a ++ r) (39 ∷ a ++ s) Text (suc (length a))
+      (simple_scan v (a ++ r) ∙ ap (λ (o : Option ℕ). scanned_to Text 0 o None) same
+      ∙ sym (simple_scan w (a ++ s))) h
 
   double : IsLongest v code (34 ∷ a ++ r) Text (suc (length a)) → IsLongest w code (34 ∷ a ++ s) Text (suc (length a))
   double h =
-      let (m, is, size) = len_over Text Quote 0 (until_len Closed First (a ++ r)) (suc (length a)) (λ e. cc) (sym (double_scan v (a ++ r)) ∙ scan_of v code (34 ∷ a ++ r) Text (suc (length a)) h) in
+      let (m, is, size) = len_over Text Quote 0 (until_len Closed First (a ++ r)) (suc (length a)) (λ e. cc)
+      (sym (double_scan v (a ++ r)) ∙ scan_of v code (34 ∷ a ++ r) Text (suc (length a)) h) in
       let same = same_len Closed closed_blind m is (omega arith) in
-      rescanned v w code code (34 ∷ a ++ r) (34 ∷ a ++ s) Text (suc (length a)) (double_scan v (a ++ r) ∙ ap (λ (o : Option ℕ). scanned_to Text 0 o (Some (Quote, 1))) same ∙ sym (double_scan w (a ++ s))) h
+      rescanned v w code code (34 ∷ a ++ r) (34 ∷ a ++ s) Text (suc (length a))
+      (double_scan v (a ++ r) ∙ ap (λ (o : Option ℕ). scanned_to Text 0 o (Some (Quote, 1))) same
+      ∙ sym (double_scan w (a ++ s))) h
 
   block : IsLongest v code (47 ∷ 42 ∷ a ++ r) Comment (suc (suc (length a))) → IsLongest w code (47 ∷ 42 ∷ a ++ s) Comment (suc (suc (length a)))
   block h =
-      let (m, is, size) = len_alone Comment 1 (until_len Block First (a ++ r)) (suc (suc (length a))) (sym (block_scan v (a ++ r)) ∙ scan_of v code (47 ∷ 42 ∷ a ++ r) Comment (suc (suc (length a))) h) in
+      let (m, is, size) = len_alone Comment 1 (until_len Block First (a ++ r)) (suc (suc (length a)))
+      (sym (block_scan v (a ++ r)) ∙ scan_of v code (47 ∷ 42 ∷ a ++ r) Comment (suc (suc (length a))) h) in
       let same = same_len Block block_blind m is (omega arith) in
-      rescanned v w code code (47 ∷ 42 ∷ a ++ r) (47 ∷ 42 ∷ a ++ s) Comment (suc (suc (length a))) (block_scan v (a ++ r) ∙ ap (λ (o : Option ℕ). scanned_to Comment 1 o None) same ∙ sym (block_scan w (a ++ s))) h
+      rescanned v w code code (47 ∷ 42 ∷ a ++ r) (47 ∷ 42 ∷ a ++ s) Comment (suc (suc (length a)))
+      (block_scan v (a ++ r) ∙ ap (λ (o : Option ℕ). scanned_to Comment 1 o None) same
+      ∙ sym (block_scan w (a ++ s))) h
 
   cast : IsLongest v code (40 ∷ a ++ r) Cast (suc (length a)) → IsLongest w code (40 ∷ a ++ s) Cast (suc (length a))
   cast h =
-      let (m, is, size) = len_over Cast Op 0 (until_len CastWord First (a ++ r)) (suc (length a)) (λ e. cc) (sym (cast_scan v (a ++ r)) ∙ scan_of v code (40 ∷ a ++ r) Cast (suc (length a)) h) in
+      let (m, is, size) = len_over Cast Op 0 (until_len CastWord First (a ++ r)) (suc (length a)) (λ e. cc)
+      (sym (cast_scan v (a ++ r)) ∙ scan_of v code (40 ∷ a ++ r) Cast (suc (length a)) h) in
       let same = same_len CastWord cast_blind m is (omega arith) in
-      rescanned v w code code (40 ∷ a ++ r) (40 ∷ a ++ s) Cast (suc (length a)) (cast_scan v (a ++ r) ∙ ap (λ (o : Option ℕ). scanned_to Cast 0 o (Some (Op, 1))) same ∙ sym (cast_scan w (a ++ s))) h
+      rescanned v w code code (40 ∷ a ++ r) (40 ∷ a ++ s) Cast (suc (length a))
+      (cast_scan v (a ++ r) ∙ ap (λ (o : Option ℕ). scanned_to Cast 0 o (Some (Op, 1))) same
+      ∙ sym (cast_scan w (a ++ s))) h
 
   double_len : (o : Option ℕ) (n : ℕ) → double_to o ≡ found Text n → (m : ℕ) × (o ≡ Some m) × (2 + m ≡ n)
   double_len None n e = let clash : Some Quote ≡ Some Text = ap kind_found e in absurd cc
@@ -140,13 +153,17 @@ module _ (v w : Version) (a r s : List ℕ) where
   module _ (b : ℕ) (is_b : lower b ≡ 98) where
     b_simple_stays : IsLongest v code (b ∷ 39 ∷ a ++ r) Text (suc (suc (length a))) → IsLongest w code (b ∷ 39 ∷ a ++ s) Text (suc (suc (length a)))
     b_simple_stays h =
-        let (m, is, size) = len_alone Text 1 (until_len Simple First (a ++ r)) (suc (suc (length a))) (sym (bs_scan v b (a ++ r) is_b) ∙ scan_of v code (b ∷ 39 ∷ a ++ r) Text (suc (suc (length a))) h) in
+        let (m, is, size) = len_alone Text 1 (until_len Simple First (a ++ r)) (suc (suc (length a)))
+        (sym (bs_scan v b (a ++ r) is_b) ∙ scan_of v code (b ∷ 39 ∷ a ++ r) Text (suc (suc (length a))) h) in
         let same = same_len Simple simple_blind m is (omega arith) in
-        rescanned v w code code (b ∷ 39 ∷ a ++ r) (b ∷ 39 ∷ a ++ s) Text (suc (suc (length a))) (bs_scan v b (a ++ r) is_b ∙ ap (λ (o : Option ℕ). scanned_to Text 1 o None) same ∙ sym (bs_scan w b (a ++ s) is_b)) h
+        rescanned v w code code (b ∷ 39 ∷ a ++ r) (b ∷ 39 ∷ a ++ s) Text (suc (suc (length a)))
+        (bs_scan v b (a ++ r) is_b ∙ ap (λ (o : Option ℕ). scanned_to Text 1 o None) same
+        ∙ sym (bs_scan w b (a ++ s) is_b)) h
 
     b_double_stays : IsLongest v code (b ∷ 34 ∷ a ++ r) Text (suc (suc (length a))) → IsLongest w code (b ∷ 34 ∷ a ++ s) Text (suc (suc (length a)))
     b_double_stays h =
-        let (m, is, size) = double_len (until_len Closed First (a ++ r)) (suc (suc (length a))) (sym (bd_scan v b (a ++ r) is_b) ∙ scan_of v code (b ∷ 34 ∷ a ++ r) Text (suc (suc (length a))) h) in
+        let (m, is, size) = double_len (until_len Closed First (a ++ r)) (suc (suc (length a)))
+        (sym (bd_scan v b (a ++ r) is_b) ∙ scan_of v code (b ∷ 34 ∷ a ++ r) Text (suc (suc (length a))) h) in
         let same = same_len Closed closed_blind m is (omega arith) in
         rescanned v w code code (b ∷ 34 ∷ a ++ r) (b ∷ 34 ∷ a ++ s) Text (suc (suc (length a))) (bd_scan v b (a ++ r) is_b ∙ ap double_to same ∙ sym (bd_scan w b (a ++ s) is_b)) h
 
@@ -157,10 +174,15 @@ quote_by P q one two true e h = subst P (sym (eqb-true q 39 e)) one
 quote_by P q one two false e h = subst P (sym (eqb-true q 34 h)) two
 
 pub quoted_texts_stay : QuotedTextsStay
-quoted_texts_stay v w q a r s h = quote_by (λ x. IsLongest v code (x ∷ a ++ r) Text (suc (length a)) → IsLongest w code (x ∷ a ++ s) Text (suc (length a))) q (simple v w a r s) (double v w a r s) (nat_eq q 39) refl h
+quoted_texts_stay v w q a r s h = quote_by (λ x. IsLongest v code (x ∷ a ++ r) Text (suc (length a))
+    → IsLongest w code (x ∷ a ++ s) Text (suc (length a))) q (simple v w a r s) (double v w a r s) (nat_eq q 39) refl
+    h
 
 pub binary_texts_stay : BinaryTextsStay
-binary_texts_stay v w b q a r s is_b h = quote_by (λ x. IsLongest v code (b ∷ x ∷ a ++ r) Text (suc (suc (length a))) → IsLongest w code (b ∷ x ∷ a ++ s) Text (suc (suc (length a)))) q (b_simple_stays v w a r s b is_b) (b_double_stays v w a r s b is_b) (nat_eq q 39) refl h
+binary_texts_stay v w b q a r s is_b h =
+    quote_by (λ x. IsLongest v code (b ∷ x ∷ a ++ r) Text (suc (suc (length a)))
+    → IsLongest w code (b ∷ x ∷ a ++ s) Text (suc (suc (length a)))) q (b_simple_stays v w a r s b is_b)
+    (b_double_stays v w a r s b is_b) (nat_eq q 39) refl h
 
 pub block_comments_stay : BlockCommentsStay
 block_comments_stay v w a r s h = block v w a r s h

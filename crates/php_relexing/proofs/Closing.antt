@@ -16,7 +16,8 @@ use Rattle.php_relexing.proofs.Near.{has}
 -- ---- one step
 
 -- the length behind a byte that doesn't close the text
-onward : (bar close : Bool) (x : Option ℕ) (n : ℕ) → cond bar None (cond close (Some 1) (add_to 1 x)) ≡ Some n → (bar ≡ false) × ((close ≡ false) → (k : ℕ) × (x ≡ Some k) × (n ≡ suc k))
+onward : (bar close : Bool) (x : Option ℕ) (n : ℕ) → cond bar None (cond close (Some 1) (add_to 1 x)) ≡ Some n
+    → (bar ≡ false) × ((close ≡ false) → (k : ℕ) × (x ≡ Some k) × (n ≡ suc k))
 onward true close x n e = absurd cc
 onward false true x n e = (refl, λ p. absurd cc)
 onward false false None n e = absurd cc
@@ -38,7 +39,12 @@ pub record Blind (u : Until) : Type 0 where
   pub last : (s : State) (b : ℕ) (v w : List ℕ) → closes u s b ≡ true → bars u s b v ≡ bars u s b w
 
 module _ (u : Until) (blind : Blind u) where
-  step_by : (s : State) (b : ℕ) (a v w : List ℕ) (n : ℕ) (close : Bool) → closes u s b ≡ close → ((k : ℕ) → until_len u (turned u s b) (a ++ v) ≡ Some k → k ≤ length a → until_len u (turned u s b) (a ++ w) ≡ Some k) → cond (bars u s b (a ++ v)) None (cond close (Some 1) (add_to 1 (until_len u (turned u s b) (a ++ v)))) ≡ Some n → n ≤ suc (length a) → cond (bars u s b (a ++ w)) None (cond close (Some 1) (add_to 1 (until_len u (turned u s b) (a ++ w)))) ≡ Some n
+  step_by : (s : State) (b : ℕ) (a v w : List ℕ) (n : ℕ) (close : Bool) → closes u s b ≡ close
+      → ((k : ℕ) → until_len u (turned u s b) (a ++ v) ≡ Some k → k ≤ length a
+      → until_len u (turned u s b) (a ++ w) ≡ Some k) → cond (bars u s b (a ++ v)) None
+      (cond close (Some 1) (add_to 1 (until_len u (turned u s b) (a ++ v)))) ≡ Some n → n ≤ suc (length a)
+      → cond (bars u s b (a ++ w)) None (cond close (Some 1) (add_to 1 (until_len u (turned u s b) (a ++ w)))) ≡ Some
+      n
   step_by s b a v w n true p ih e le =
       let o = onward (bars u s b (a ++ v)) true (until_len u (turned u s b) (a ++ v)) n e in
       let bar : bars u s b (a ++ w) ≡ false = sym (blind.last s b (a ++ v) (a ++ w) p) ∙ o.0 in
@@ -63,7 +69,8 @@ simple_blind = record { within = λ s b a v w k e le. refl; last = λ s b v w h.
 pub block_blind : Blind Block
 block_blind = record { within = λ s b a v w k e le. refl; last = λ s b v w h. refl }
 
-closed_within : (s : State) (b : ℕ) (a v w : List ℕ) (k : ℕ) → until_len Closed (turned Closed s b) (a ++ v) ≡ Some k → k ≤ length a → bars Closed s b (a ++ v) ≡ bars Closed s b (a ++ w)
+closed_within : (s : State) (b : ℕ) (a v w : List ℕ) (k : ℕ) → until_len Closed (turned Closed s b) (a ++ v) ≡ Some k
+    → k ≤ length a → bars Closed s b (a ++ v) ≡ bars Closed s b (a ++ w)
 closed_within s b [] v w k e le = absurd (not_empty Closed (turned Closed s b) v k e (omega arith))
 closed_within First b (c ∷ a) v w k e le = refl
 closed_within Plain b (c ∷ a) v w k e le = refl
@@ -86,7 +93,10 @@ or_true : (x : Bool) → (x || true) ≡ true
 or_true true = refl
 or_true false = refl
 
-close_by : (b : ℕ) (a v : List ℕ) (k : ℕ) (bar close : Bool) → (close ≡ true → nat_eq b 41 ≡ true) → (x : Option ℕ) → ((j : ℕ) → x ≡ Some j → j ≤ length a → has 41 a ≡ true) → cond bar None (cond close (Some 1) (add_to 1 x)) ≡ Some k → k ≤ suc (length a) → (nat_eq b 41 || has 41 a) ≡ true
+close_by : (b : ℕ) (a v : List ℕ) (k : ℕ) (bar close : Bool) → (close ≡ true → nat_eq b 41 ≡ true) → (x : Option ℕ)
+    → ((j : ℕ) → x ≡ Some j → j ≤ length a → has 41 a ≡ true)
+    → cond bar None (cond close (Some 1) (add_to 1 x)) ≡ Some k → k ≤ suc (length a)
+    → (nat_eq b 41 || has 41 a) ≡ true
 close_by b a v k true close c x ih e le = absurd cc
 close_by b a v k false true c x ih e le = rw (c refl) refl
 close_by b a v k false false c None ih e le = absurd cc
@@ -103,14 +113,17 @@ bracket_closes Escaped b h = h
 cast_closes : (s : State) (a v : List ℕ) (k : ℕ) → until_len CastWord s (a ++ v) ≡ Some k → k ≤ length a → has 41 a ≡ true
 cast_closes s [] v k e le = absurd (not_empty CastWord s v k e (omega arith))
 cast_closes s (b ∷ a) v k e le =
-    close_by b a v k (bars CastWord s b (a ++ v)) (closes CastWord s b) (bracket_closes s b) (until_len CastWord (turned CastWord s b) (a ++ v)) (cast_closes (turned CastWord s b) a v) e le
+    close_by b a v k (bars CastWord s b (a ++ v)) (closes CastWord s b) (bracket_closes s b)
+    (until_len CastWord (turned CastWord s b) (a ++ v)) (cast_closes (turned CastWord s b) a v) e le
 
 abbrev no_bracket : List ℕ → Bool
 no_bracket [] = true
 no_bracket (c ∷ w) = not (nat_eq c 41) && no_bracket w
 
 -- a word without brackets is sought no further than the closing bracket
-alone_by : (c : ℕ) (w : List ℕ) (x : ℕ) (a v v' : List ℕ) → nat_eq c 41 ≡ false → (has 41 a ≡ true → word_alone w (a ++ v) ≡ word_alone w (a ++ v')) → (t : Bool) → nat_eq x 41 ≡ t → (t || has 41 a) ≡ true → word_alone (c ∷ w) (x ∷ a ++ v) ≡ word_alone (c ∷ w) (x ∷ a ++ v')
+alone_by : (c : ℕ) (w : List ℕ) (x : ℕ) (a v v' : List ℕ) → nat_eq c 41 ≡ false
+    → (has 41 a ≡ true → word_alone w (a ++ v) ≡ word_alone w (a ++ v')) → (t : Bool) → nat_eq x 41 ≡ t
+    → (t || has 41 a) ≡ true → word_alone (c ∷ w) (x ∷ a ++ v) ≡ word_alone (c ∷ w) (x ∷ a ++ v')
 alone_by c w x a v v' h ih true p q = let same = eqb-true x 41 p in rw (same, h) refl
 alone_by c w x a v v' h ih false p q = by_first (nat_eq c (lower x))
   where
@@ -138,7 +151,8 @@ words_same (x ∷ ws) h a v w e =
 type_same : (b : ℕ) (a v w : List ℕ) → has 41 a ≡ true → begins_type (b ∷ a ++ v) ≡ begins_type (b ∷ a ++ w)
 type_same b a v w e = words_same cast_words refl (b ∷ a) v w (rw e (or_true (nat_eq b 41)))
 
-cast_within : (s : State) (b : ℕ) (a v w : List ℕ) (k : ℕ) → until_len CastWord (turned CastWord s b) (a ++ v) ≡ Some k → k ≤ length a → bars CastWord s b (a ++ v) ≡ bars CastWord s b (a ++ w)
+cast_within : (s : State) (b : ℕ) (a v w : List ℕ) (k : ℕ) → until_len CastWord (turned CastWord s b) (a ++ v) ≡ Some
+    k → k ≤ length a → bars CastWord s b (a ++ v) ≡ bars CastWord s b (a ++ w)
 cast_within First b a v w k e le = rw (type_same b a v w (cast_closes (turned CastWord First b) a v k e le)) refl
 cast_within Plain b a v w k e le = refl
 cast_within Escaped b a v w k e le = refl

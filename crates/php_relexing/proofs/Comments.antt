@@ -85,14 +85,18 @@ new_hash (b ∷ bs) h = let head = other_head 91 b refl h in rw head refl
 
 pub slash_comments_stay : SlashCommentsStay
 slash_comments_stay v w a r s stop h =
-    let old : 2 + line_len First (a ++ r) ≡ suc (suc (length a)) = found_length Comment Comment (2 + line_len First (a ++ r)) (suc (suc (length a))) (sym (slash_scan v (a ++ r)) ∙ scan_of v code (47 ∷ 47 ∷ a ++ r) Comment (suc (suc (length a))) h) in
+    let old : 2 + line_len First (a ++ r) ≡ suc (suc (length a)) =
+    found_length Comment Comment (2 + line_len First (a ++ r)) (suc (suc (length a)))
+    (sym (slash_scan v (a ++ r)) ∙ scan_of v code (47 ∷ 47 ∷ a ++ r) Comment (suc (suc (length a))) h) in
     let new = line_stays a r s First stop (omega arith) in
     let size : 2 + line_len First (a ++ s) ≡ suc (suc (length a)) = omega arith in
     longest_of w code (47 ∷ 47 ∷ a ++ s) Comment (suc (suc (length a))) (slash_scan w (a ++ s) ∙ ap (found Comment) size)
 
 hash_len : (a r s : List ℕ) → stops_line s ≡ true → IsLongest V74 code (35 ∷ a ++ r) Comment (suc (length a)) → line_len First (a ++ s) ≡ length a
 hash_len a r s stop h =
-    let old : 1 + line_len First (a ++ r) ≡ suc (length a) = found_length Comment Comment (1 + line_len First (a ++ r)) (suc (length a)) (sym (old_hash (a ++ r)) ∙ scan_of V74 code (35 ∷ a ++ r) Comment (suc (length a)) h) in
+    let old : 1 + line_len First (a ++ r) ≡ suc (length a) =
+    found_length Comment Comment (1 + line_len First (a ++ r)) (suc (length a))
+    (sym (old_hash (a ++ r)) ∙ scan_of V74 code (35 ∷ a ++ r) Comment (suc (length a)) h) in
     line_stays a r s First stop (omega arith)
 
 no_bracket : (a s : List ℕ) → stops_line s ≡ true → begins_by 91 a ≡ false → begins_by 91 (a ++ s) ≡ false

@@ -99,7 +99,8 @@ tail_cross c BracedName e h a more rest = absurd cc
 tail_cross c EndLine e h a more rest = absurd cc
 tail_cross c NowdocRest e h a more rest = absurd cc
 
-led_cross : (c : ℕ) (tail : Tail) → is_break c ≡ true → stops_tail tail ≡ true → (w : List ℕ) → has c w ≡ false → (a more rest : List ℕ) → led lower w (is_tail [] tail) (a ++ c ∷ more) rest ≡ false
+led_cross : (c : ℕ) (tail : Tail) → is_break c ≡ true → stops_tail tail ≡ true → (w : List ℕ) → has c w ≡ false
+    → (a more rest : List ℕ) → led lower w (is_tail [] tail) (a ++ c ∷ more) rest ≡ false
 led_cross c tail e h [] n a more rest = tail_cross c tail e h a more rest
 led_cross c tail e h (x ∷ w) n [] more rest = rw (lower_break x c (no_letter c e) (or_left (nat_eq x c) (has c w) n)) refl
 led_cross c tail e h (x ∷ w) n (b ∷ a) more rest = rw (led_cross c tail e h w (or_right (nat_eq x c) (has c w) n) a more rest) (and_false (nat_eq x (lower b)))
@@ -110,14 +111,16 @@ led_cross c tail e h (x ∷ w) n (b ∷ a) more rest = rw (led_cross c tail e h 
 abbrev pub IsOpen : ℕ → List ℕ → Type 0
 IsOpen b bs = (nat_eq b 63 ≡ false) ⊎ (begins_by 62 bs ≡ false)
 
-closing_other : (x : ℕ) (w : List ℕ) (b : ℕ) (t : List ℕ) (tail : Tail) (rest : List ℕ) → is_closing (x ∷ w) ≡ true → nat_eq b 63 ≡ false → led lower (x ∷ w) (is_tail [] tail) (b ∷ t) rest ≡ false
+closing_other : (x : ℕ) (w : List ℕ) (b : ℕ) (t : List ℕ) (tail : Tail) (rest : List ℕ) → is_closing (x ∷ w) ≡ true
+    → nat_eq b 63 ≡ false → led lower (x ∷ w) (is_tail [] tail) (b ∷ t) rest ≡ false
 closing_other x w b t tail rest h e =
     let is = and_parts (nat_eq x 63) (begins_by 62 w) h in
     let first = is.0 in
     let other : nat_eq x (lower b) ≡ false = grind (arith, nat_tests) in
     rw other refl
 
-closing_second : (x : ℕ) (w : List ℕ) (b : ℕ) (t : List ℕ) (tail : Tail) (rest : List ℕ) → is_closing (x ∷ w) ≡ true → begins_by 62 t ≡ false → led lower (x ∷ w) (is_tail [] tail) (b ∷ t) rest ≡ false
+closing_second : (x : ℕ) (w : List ℕ) (b : ℕ) (t : List ℕ) (tail : Tail) (rest : List ℕ) → is_closing (x ∷ w) ≡ true
+    → begins_by 62 t ≡ false → led lower (x ∷ w) (is_tail [] tail) (b ∷ t) rest ≡ false
 closing_second x [] b t tail rest h e = absurd (let is = (and_parts (nat_eq x 63) false h).1 in cc)
 closing_second x (y ∷ w) b [] tail rest h e = and_false (nat_eq x (lower b))
 closing_second x (y ∷ w) b (z ∷ t) tail rest h e =
@@ -125,11 +128,13 @@ closing_second x (y ∷ w) b (z ∷ t) tail rest h e =
     let other : nat_eq y (lower z) ≡ false = grind (arith, nat_tests) in
     rw other (and_false (nat_eq x (lower b)))
 
-row_closing : (x : ℕ) (w : List ℕ) (b : ℕ) (t : List ℕ) (tail : Tail) (rest : List ℕ) → is_closing (x ∷ w) ≡ true → IsOpen b t → led lower (x ∷ w) (is_tail [] tail) (b ∷ t) rest ≡ false
+row_closing : (x : ℕ) (w : List ℕ) (b : ℕ) (t : List ℕ) (tail : Tail) (rest : List ℕ) → is_closing (x ∷ w) ≡ true
+    → IsOpen b t → led lower (x ∷ w) (is_tail [] tail) (b ∷ t) rest ≡ false
 row_closing x w b t tail rest h (inl e) = closing_other x w b t tail rest h e
 row_closing x w b t tail rest h (inr e) = closing_second x w b t tail rest h e
 
-first_cross : (c : ℕ) (tail : Tail) → is_break c ≡ true → (is_blank_tail tail || stops_tail tail) ≡ true → (b : ℕ) (a more rest : List ℕ) → is_space b ≡ false → is_tail [] tail (b ∷ a ++ c ∷ more) rest ≡ false
+first_cross : (c : ℕ) (tail : Tail) → is_break c ≡ true → (is_blank_tail tail || stops_tail tail) ≡ true
+    → (b : ℕ) (a more rest : List ℕ) → is_space b ≡ false → is_tail [] tail (b ∷ a ++ c ∷ more) rest ≡ false
 first_cross c (SomeOf Spaces s) e h b a more rest apart = rw apart refl
 first_cross c (SomeOf Labels s) e h b a more rest apart = tail_cross c (SomeOf Labels s) e h (b ∷ a) more rest
 first_cross c (SomeOf Line s) e h b a more rest apart = absurd cc
@@ -170,11 +175,15 @@ pub record Starts (b : ℕ) (bs : List ℕ) (rest : List ℕ) : Type 0 where
   pub off : IsOpen b bs
   pub goes : GoesOn b bs rest
 
-row_cross : (c : ℕ) (kind : Kind) (w : List ℕ) (tail : Tail) → is_break c ≡ true → stops_row c (rule kind w tail) ≡ true → (b : ℕ) (a more rest : List ℕ) → Starts b (a ++ c ∷ more) rest → led lower w (is_tail [] tail) (b ∷ a ++ c ∷ more) rest ≡ false
+row_cross : (c : ℕ) (kind : Kind) (w : List ℕ) (tail : Tail) → is_break c ≡ true
+    → stops_row c (rule kind w tail) ≡ true → (b : ℕ) (a more rest : List ℕ) → Starts b (a ++ c ∷ more) rest
+    → led lower w (is_tail [] tail) (b ∷ a ++ c ∷ more) rest ≡ false
 row_cross c kind [] tail e h b a more rest is = first_cross c tail e h b a more rest is.solid
 row_cross c kind (x ∷ w) tail e h b a more rest is = by_far (is_far x) refl (is_lettered (x ∷ w)) refl (is_closing (x ∷ w)) refl h
   where
-    by_far : (t : Bool) → is_far x ≡ t → (l : Bool) → is_lettered (x ∷ w) ≡ l → (o : Bool) → is_closing (x ∷ w) ≡ o → (t || (l || (o || not (has c w) && stops_tail tail))) ≡ true → led lower (x ∷ w) (is_tail [] tail) (b ∷ a ++ c ∷ more) rest ≡ false
+    by_far : (t : Bool) → is_far x ≡ t → (l : Bool) → is_lettered (x ∷ w) ≡ l → (o : Bool) → is_closing (x ∷ w) ≡ o
+        → (t || (l || (o || not (has c w) && stops_tail tail))) ≡ true
+        → led lower (x ∷ w) (is_tail [] tail) (b ∷ a ++ c ∷ more) rest ≡ false
     by_far true p l q o r k = rw (far_lower x b p is.far) refl
     by_far false p true q o r k = row_lettered [] tail x w b (a ++ c ∷ more) rest q is.goes
     by_far false p false q true r k = row_closing x w b (a ++ c ∷ more) tail rest r is.off
@@ -182,7 +191,8 @@ row_cross c kind (x ∷ w) tail e h b a more rest is = by_far (is_far x) refl (i
         let (none, stops) = and_parts (not (has c w)) (stops_tail tail) k in
         rw (led_cross c tail e stops w (not_it (has c w) none) a more rest) (and_false (nat_eq x (lower b)))
 
-rows_cross : (c : ℕ) (rows : List Row) → is_break c ≡ true → stops_rows rows c ≡ true → (b : ℕ) (a more rest : List ℕ) → Starts b (a ++ c ∷ more) rest → kind_by [] rows (b ∷ a ++ c ∷ more) rest ≡ None
+rows_cross : (c : ℕ) (rows : List Row) → is_break c ≡ true → stops_rows rows c ≡ true → (b : ℕ) (a more rest : List ℕ)
+    → Starts b (a ++ c ∷ more) rest → kind_by [] rows (b ∷ a ++ c ∷ more) rest ≡ None
 rows_cross c [] e h b a more rest is = refl
 rows_cross c (rule kind w tail ∷ rows) e h b a more rest is =
     let (first, others) = and_parts (stops_row c (rule kind w tail)) (stops_rows rows c) h in

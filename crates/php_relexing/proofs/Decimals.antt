@@ -33,7 +33,11 @@ next d u other = cond d Whole (cond u WholeGap other)
 -- ---- how far the digits go
 
 module _ (s : List ℕ) (stop : begins is_stop s ≡ true) where
-  decimal_by : (d u : Bool) (a : List ℕ) (here : Option ℕ) → (not (is_stuck (next d u Stuck)) && has_shape shape.Digits (next d u Stuck) a) ≡ true → ((t : Bool) → are_digits t a ≡ true → shape_len shape.Decimal (behind_digit t) (a ++ s) ≡ Some (length a)) → cond (is_stuck (next d u Stuck)) here (or_else (add_to 1 (shape_len shape.Decimal (next d u Stuck) (a ++ s))) here) ≡ Some (suc (length a))
+  decimal_by : (d u : Bool) (a : List ℕ) (here : Option ℕ) →
+      (not (is_stuck (next d u Stuck)) && has_shape shape.Digits (next d u Stuck) a) ≡ true
+      → ((t : Bool) → are_digits t a ≡ true → shape_len shape.Decimal (behind_digit t) (a ++ s) ≡ Some (length a))
+      → cond (is_stuck (next d u Stuck)) here
+      (or_else (add_to 1 (shape_len shape.Decimal (next d u Stuck) (a ++ s))) here) ≡ Some (suc (length a))
   decimal_by true u a here h ih = let one : 1 + length a ≡ suc (length a) = omega arith in rw (ih true h, one) refl
   decimal_by false true a here h ih = let one : 1 + length a ≡ suc (length a) = omega arith in rw (ih false h, one) refl
   decimal_by false false a here h ih = absurd cc
@@ -45,7 +49,11 @@ module _ (s : List ℕ) (stop : begins is_stop s ≡ true) where
   decimal_len true (b ∷ a) h = decimal_by (is_digit b) (nat_eq b 95) a (Some 0) h (λ t. decimal_len t a)
   decimal_len false (b ∷ a) h = decimal_by (is_digit b) false a None h (λ t. decimal_len t a)
 
-  float_by : (d u : Bool) (other : Spot) (a : List ℕ) → (not (is_stuck (next d u Stuck)) && has_shape shape.Digits (next d u Stuck) a) ≡ true → ((t : Bool) → are_digits t a ≡ true → shape_len shape.Float (behind_digit t) (a ++ s) ≡ None) → cond (is_stuck (next d u other)) None (or_else (add_to 1 (shape_len shape.Float (next d u other) (a ++ s))) None) ≡ None
+  float_by : (d u : Bool) (other : Spot) (a : List ℕ)
+      → (not (is_stuck (next d u Stuck)) && has_shape shape.Digits (next d u Stuck) a) ≡ true
+      → ((t : Bool) → are_digits t a ≡ true → shape_len shape.Float (behind_digit t) (a ++ s) ≡ None)
+      → cond (is_stuck (next d u other)) None
+      (or_else (add_to 1 (shape_len shape.Float (next d u other) (a ++ s))) None) ≡ None
   float_by true u other a h ih = rw (ih true h) refl
   float_by false true other a h ih = rw (ih false h) refl
   float_by false false other a h ih = absurd cc
@@ -72,7 +80,9 @@ to_numbers : (v : Version) (b : ℕ) (bs : List ℕ) → is_digit b ≡ true →
 to_numbers V74 b bs h = older_scan b bs (no_hash b h) ∙ digit_scan b bs h
 to_numbers V83 b bs h = nameless_scan b bs (no_hash b h) (no_letter b h) (no_backslash b h) ∙ digit_scan b bs h
 
-decimal_scan : (b : ℕ) (bs : List ℕ) (n : ℕ) → is_digit b ≡ true → nat_eq b 48 ≡ false → shape_len shape.Decimal Whole bs ≡ Some n → shape_len shape.Float Whole bs ≡ None → scan_by [] number_rows (b ∷ bs) ≡ Some (Decimal, suc n)
+decimal_scan : (b : ℕ) (bs : List ℕ) (n : ℕ) → is_digit b ≡ true → nat_eq b 48 ≡ false
+    → shape_len shape.Decimal Whole bs ≡ Some n → shape_len shape.Float Whole bs ≡ None
+    → scan_by [] number_rows (b ∷ bs) ≡ Some (Decimal, suc n)
 decimal_scan b bs n h p d f =
     let head = other_head 48 b refl p in
     let one : 1 + n ≡ suc n = omega arith in
@@ -80,12 +90,16 @@ decimal_scan b bs n h p d f =
     rw (h, p, head, d, f, one, z) refl
 
 -- A decimal number, which does not begin with 0.
-pub decimal_is : (v : Version) (b : ℕ) (a s : List ℕ) → is_digit b ≡ true → nat_eq b 48 ≡ false → are_digits true a ≡ true → begins is_stop s ≡ true → IsLongest v code (b ∷ a ++ s) Decimal (suc (length a))
+pub decimal_is : (v : Version) (b : ℕ) (a s : List ℕ) → is_digit b ≡ true → nat_eq b 48 ≡ false
+    → are_digits true a ≡ true → begins is_stop s ≡ true → IsLongest v code (b ∷ a ++ s) Decimal (suc (length a))
 decimal_is v b a s h p all stop =
-    scanned_longest v code (b ∷ a ++ s) (Some (Decimal, suc (length a))) (to_numbers v b (a ++ s) h ∙ decimal_scan b (a ++ s) (length a) h p (decimal_len s stop true a all) (float_len s stop true a all))
+    scanned_longest v code (b ∷ a ++ s) (Some (Decimal, suc (length a)))
+    (to_numbers v b (a ++ s) h ∙ decimal_scan b (a ++ s) (length a) h p (decimal_len s stop true a all)
+    (float_len s stop true a all))
 
 zero_scan : (c : ℕ) (s : List ℕ) → is_stop c ≡ true → scan_by [] number_rows (48 ∷ c ∷ s) ≡ Some (Octal, 1)
-zero_scan c s h = each (λ x. scan_by [] number_rows (48 ∷ x ∷ s) ≡ Some (Octal, 1)) stops (refl, (refl, (refl, (refl, (refl, (refl, (refl, (refl, (refl, (refl, (refl, tt))))))))))) c h
+zero_scan c s h = each (λ x. scan_by [] number_rows (48 ∷ x ∷ s) ≡ Some (Octal, 1)) stops
+    (refl, (refl, (refl, (refl, (refl, (refl, (refl, (refl, (refl, (refl, (refl, tt))))))))))) c h
 
 -- A zero alone is an octal number.
 pub zero_is : (v : Version) (s : List ℕ) → begins is_stop s ≡ true → IsLongest v code (48 ∷ s) Octal 1

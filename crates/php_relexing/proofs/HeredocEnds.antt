@@ -1,5 +1,31 @@
 -- The end of a heredoc before other bytes, and the pieces before it.
-use Rattle.std.proofs.Common.{◌≡◌, ℕ, suc, ◌+◌, Bool, true, false, cond, ◌||◌, nat_eq, List, [], ◌∷◌, ◌++◌, length, Option, Some, None, refl, sym, ap, ◌∙◌, subst, append_assoc, arith}
+use Rattle.std.proofs.Common.{
+  ◌≡◌,
+  ℕ,
+  suc,
+  ◌+◌,
+  Bool,
+  true,
+  false,
+  cond,
+  ◌||◌,
+  nat_eq,
+  List,
+  [],
+  ◌∷◌,
+  ◌++◌,
+  length,
+  Option,
+  Some,
+  None,
+  refl,
+  sym,
+  ap,
+  ◌∙◌,
+  subst,
+  append_assoc,
+  arith,
+}
 use Rattle.std.proofs.lemmas.Bool.{and_parts, eqb-true}
 use Rattle.std.proofs.lemmas.Bool.Decides.{nat_tests}
 use Rattle.std.proofs.Math.Seq.{drop-append_seam}
@@ -70,7 +96,9 @@ last_by (a ∷ l) b t r s e blank h =
     let same = led_same (a ∷ l) (b ∷ t) r h in
     subst (λ (u : List ℕ). EndLine u (b ∷ t) s) same (last_line b t s e blank)
 
-line_by : (label : List ℕ) (b : ℕ) (t r s : List ℕ) → no_label s ≡ true → (is_end_line label t r ≡ true → EndLine label t s) → (x : Bool) → is_blank_byte b ≡ x → cond x (is_end_line label t r) (is_last_label label (b ∷ t) r) ≡ true → EndLine label (b ∷ t) s
+line_by : (label : List ℕ) (b : ℕ) (t r s : List ℕ) → no_label s ≡ true
+    → (is_end_line label t r ≡ true → EndLine label t s) → (x : Bool) → is_blank_byte b ≡ x
+    → cond x (is_end_line label t r) (is_last_label label (b ∷ t) r) ≡ true → EndLine label (b ∷ t) s
 line_by label b t r s e ih true p h =
     let is = ih h in
     let one : 1 + length t ≡ suc (length t) = omega arith in
@@ -101,11 +129,14 @@ label_apart (a ∷ l) b t r h e =
     let (here, rest) = and_parts (nat_eq a b) (led as_it_is l (no_more no_label) t r) e in
     letter_apart b (ap is_letter (sym (eqb-true a b here)) ∙ letter)
 
-first_by : (label : List ℕ) (b : ℕ) (t r : List ℕ) → is_label label ≡ true → (x : Bool) → is_blank_byte b ≡ x → cond x (is_end_line label t r) (is_last_label label (b ∷ t) r) ≡ true → NoPart b
+first_by : (label : List ℕ) (b : ℕ) (t r : List ℕ) → is_label label ≡ true → (x : Bool) → is_blank_byte b ≡ x
+    → cond x (is_end_line label t r) (is_last_label label (b ∷ t) r) ≡ true → NoPart b
 first_by label b t r h true p e = blank_apart b p
 first_by label b t r h false p e = label_apart label b t r h e
 
-end_scan : (w : Version) (label : List ℕ) (b : ℕ) (bs : List ℕ) (n : ℕ) → NoPart b → ends_heredoc label (b ∷ bs) ≡ true → end_line_len label (b ∷ bs) ≡ Some n → scan w (quoted Here label true) (b ∷ bs) ≡ longer QuotedEnd (add_to 0 (end_line_len label (b ∷ bs))) None
+end_scan : (w : Version) (label : List ℕ) (b : ℕ) (bs : List ℕ) (n : ℕ) → NoPart b
+    → ends_heredoc label (b ∷ bs) ≡ true → end_line_len label (b ∷ bs) ≡ Some n
+    → scan w (quoted Here label true) (b ∷ bs) ≡ longer QuotedEnd (add_to 0 (end_line_len label (b ∷ bs))) None
 end_scan w label b bs n apart ends len = rw (apart.dollar, apart.brace, ends) refl
 
 end_row : (n : ℕ) → longer QuotedEnd (add_to 0 (Some n)) None ≡ found QuotedEnd n
@@ -119,7 +150,8 @@ or_none : (x : Bool) → (x || false) ≡ true → x ≡ true
 or_none true h = refl
 or_none false h = absurd cc
 
-end_is : (w : Version) (label t r s : List ℕ) → is_label label ≡ true → no_label s ≡ true → is_end_line label t r ≡ true → IsLongest w (quoted Here label true) (t ++ s) QuotedEnd (length t)
+end_is : (w : Version) (label t r s : List ℕ) → is_label label ≡ true → no_label s ≡ true
+    → is_end_line label t r ≡ true → IsLongest w (quoted Here label true) (t ++ s) QuotedEnd (length t)
 end_is w label [] r s h e k = absurd cc
 end_is w label (b ∷ t) r s h e k =
     let is = end_line label (b ∷ t) r s e k in

@@ -35,7 +35,9 @@ no_match l c h e = by_test (nat_eq l c) refl
     by_test true p = let clash : true ≡ false = sym h ∙ ap is_label_byte (eqb-true l c p) ∙ e in absurd cc
 
 module _ (c d : ℕ) (r s : List ℕ) (is_c : Stopper c) (is_d : Stopper d) where
-  label_step : (l : ℕ) (ls : List ℕ) (y : ℕ) (x : List ℕ) → begins_label ls (x ++ c ∷ r) ≡ begins_label ls (x ++ d ∷ s) → (t : Bool) → ((t && starts ls (x ++ c ∷ r)) && no_label (drop (length ls) (x ++ c ∷ r))) ≡ ((t && starts ls (x ++ d ∷ s)) && no_label (drop (length ls) (x ++ d ∷ s)))
+  label_step : (l : ℕ) (ls : List ℕ) (y : ℕ) (x : List ℕ) → begins_label ls (x ++ c ∷ r) ≡ begins_label ls
+      (x ++ d ∷ s) → (t : Bool) → ((t && starts ls (x ++ c ∷ r)) && no_label (drop (length ls) (x ++ c ∷ r))) ≡
+      ((t && starts ls (x ++ d ∷ s)) && no_label (drop (length ls) (x ++ d ∷ s)))
   label_step l ls y x ih true = ih
   label_step l ls y x ih false = refl
 
@@ -49,7 +51,10 @@ module _ (c d : ℕ) (r s : List ℕ) (is_c : Stopper c) (is_d : Stopper d) wher
       let (here, more) = and_parts (is_label_byte l) (all_label ls) h in
       label_step l ls y x (label_same ls more x) (nat_eq l y)
 
-  ends_by : (label : List ℕ) → all_label label ≡ true → (y : ℕ) (x : List ℕ) → ends_heredoc label (x ++ c ∷ r) ≡ ends_heredoc label (x ++ d ∷ s) → (t : Bool) → is_blank_byte y ≡ t → begins_label label (cond t (skip_blanks (x ++ c ∷ r)) (y ∷ x ++ c ∷ r)) ≡ begins_label label (cond t (skip_blanks (x ++ d ∷ s)) (y ∷ x ++ d ∷ s))
+  ends_by : (label : List ℕ) → all_label label ≡ true → (y : ℕ) (x : List ℕ)
+      → ends_heredoc label (x ++ c ∷ r) ≡ ends_heredoc label (x ++ d ∷ s) → (t : Bool) → is_blank_byte y ≡ t
+      → begins_label label (cond t (skip_blanks (x ++ c ∷ r)) (y ∷ x ++ c ∷ r)) ≡ begins_label label
+      (cond t (skip_blanks (x ++ d ∷ s)) (y ∷ x ++ d ∷ s))
   ends_by label h y x ih true e = ih
   ends_by label h y x ih false e = label_same label h (y ∷ x)
 

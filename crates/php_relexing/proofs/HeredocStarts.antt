@@ -8,7 +8,28 @@ use Rattle.php_spellings.specs.declared.table.Kind.{Kind}
 use Rattle.php_spellings.specs.declared.table.Kind.TheVariants.{HeredocStart, Op}
 use Rattle.php_spellings.specs.declared.table.Shape.TheVariants as shape
 use Rattle.php_spellings.specs.declared.table.Spot.{Spot}
-use Rattle.php_spellings.specs.declared.table.Spot.TheVariants.{Begin, Whole, WholeGap, LeadPoint, Point, Part, PartGap, Mark, Sign, Power, PowerGap, FirstLabel, Backslash, LaterLabel, OpenedLabel, QuotedLabel, ClosedLabel, Return, Line, Stuck}
+use Rattle.php_spellings.specs.declared.table.Spot.TheVariants.{
+  Begin,
+  Whole,
+  WholeGap,
+  LeadPoint,
+  Point,
+  Part,
+  PartGap,
+  Mark,
+  Sign,
+  Power,
+  PowerGap,
+  FirstLabel,
+  Backslash,
+  LaterLabel,
+  OpenedLabel,
+  QuotedLabel,
+  ClosedLabel,
+  Return,
+  Line,
+  Stuck,
+}
 use Rattle.php_spellings.specs.Bytes.{is_blank_byte, is_letter, begins_by, skip_blanks}
 use Rattle.php_lexer.specs.Heredocs.{begins_nowdoc}
 use Rattle.php_lexer.specs.Shapes.{step, may_end, is_stuck, has_shape}
@@ -61,7 +82,8 @@ at_return (c ∷ s) h = rw h refl
 not_line : {A : Type 0} → Return ≡ Line → A
 not_line e = cc
 
-end_by : (spot : Spot) (fed : Bool) (s : List ℕ) → (fed ≡ true → spot ≡ Line) → may_end shape.HeredocLine spot ≡ true → (not fed && begins_by 10 s) ≡ false → shape_len shape.HeredocLine spot s ≡ Some 0
+end_by : (spot : Spot) (fed : Bool) (s : List ℕ) → (fed ≡ true → spot ≡ Line) → may_end shape.HeredocLine spot ≡ true
+    → (not fed && begins_by 10 s) ≡ false → shape_len shape.HeredocLine spot s ≡ Some 0
 end_by Begin fed s f h e = absurd cc
 end_by Whole fed s f h e = absurd cc
 end_by WholeGap fed s f h e = absurd cc
@@ -84,7 +106,9 @@ end_by Return false s f h e = at_return s e
 end_by Line fed s f h e = at_line s
 end_by Stuck fed s f h e = absurd cc
 
-line_len : (spot : Spot) (fed : Bool) (a s : List ℕ) → (fed ≡ true → spot ≡ Line) → has_shape shape.HeredocLine spot a ≡ true → (not (ends_feed fed a) && begins_by 10 s) ≡ false → shape_len shape.HeredocLine spot (a ++ s) ≡ Some (length a)
+line_len : (spot : Spot) (fed : Bool) (a s : List ℕ) → (fed ≡ true → spot ≡ Line)
+    → has_shape shape.HeredocLine spot a ≡ true → (not (ends_feed fed a) && begins_by 10 s) ≡ false
+    → shape_len shape.HeredocLine spot (a ++ s) ≡ Some (length a)
 line_len spot fed [] s f h e = end_by spot fed s f h e
 line_len spot fed (b ∷ a) s f h e =
     let (goes, more) = and_parts (not (is_stuck (step shape.HeredocLine spot b))) (has_shape shape.HeredocLine (step shape.HeredocLine spot b) a) h in
@@ -94,14 +118,19 @@ line_len spot fed (b ∷ a) s f h e =
 
 -- ---- no nowdoc
 
-no_quote_by : (b : ℕ) (bs : List ℕ) (t : Bool) → is_blank_byte b ≡ t → (t ≡ true → begins_by 39 (skip_blanks bs) ≡ false) → (t ≡ false → nat_eq b 39 ≡ false) → begins_by 39 (skip_blanks (b ∷ bs)) ≡ false
+no_quote_by : (b : ℕ) (bs : List ℕ) (t : Bool) → is_blank_byte b ≡ t
+    → (t ≡ true → begins_by 39 (skip_blanks bs) ≡ false) → (t ≡ false → nat_eq b 39 ≡ false)
+    → begins_by 39 (skip_blanks (b ∷ bs)) ≡ false
 no_quote_by b bs t e f g = ap (begins_by 39) (skip_by b bs t e) ∙ by_blank t f g
   where
     by_blank : (t : Bool) → (t ≡ true → begins_by 39 (skip_blanks bs) ≡ false) → (t ≡ false → nat_eq b 39 ≡ false) → begins_by 39 (cond t (skip_blanks bs) (b ∷ bs)) ≡ false
     by_blank true f g = f refl
     by_blank false f g = g refl
 
-begin_by : (b : ℕ) (a : List ℕ) (t l q : Bool) → is_blank_byte b ≡ t → is_letter b ≡ l → nat_eq b 34 ≡ q → (not (is_stuck (cond t Begin (cond l FirstLabel (cond q OpenedLabel Stuck)))) && has_shape shape.HeredocLine (cond t Begin (cond l FirstLabel (cond q OpenedLabel Stuck))) a) ≡ true → (t ≡ true → has_shape shape.HeredocLine Begin a ≡ true) × (t ≡ false → nat_eq b 39 ≡ false)
+begin_by : (b : ℕ) (a : List ℕ) (t l q : Bool) → is_blank_byte b ≡ t → is_letter b ≡ l → nat_eq b 34 ≡ q
+    → (not (is_stuck (cond t Begin (cond l FirstLabel (cond q OpenedLabel Stuck))))
+    && has_shape shape.HeredocLine (cond t Begin (cond l FirstLabel (cond q OpenedLabel Stuck))) a) ≡ true
+    → (t ≡ true → has_shape shape.HeredocLine Begin a ≡ true) × (t ≡ false → nat_eq b 39 ≡ false)
 begin_by b a true l q e f g h = (λ p. h, λ p. absurd cc)
 begin_by b a false true q e f g h = (λ p. absurd cc, λ p. grind (arith, nat_tests))
 begin_by b a false false true e f g h = (λ p. absurd cc, λ p. grind (arith, nat_tests))
@@ -124,7 +153,9 @@ start_row n =
     let size : 3 + n ≡ suc (suc (suc n)) = omega arith in
     rw (less, size) refl
 
-start_scan : (v : Version) (bs : List ℕ) (n : ℕ) → begins_nowdoc bs ≡ false → shape_len shape.HeredocLine Begin bs ≡ Some n → scan v code (60 ∷ 60 ∷ 60 ∷ bs) ≡ longer HeredocStart (Some (3 + n)) (longer Op (Some 1) (Some (Op, 2)))
+start_scan : (v : Version) (bs : List ℕ) (n : ℕ) → begins_nowdoc bs ≡ false
+    → shape_len shape.HeredocLine Begin bs ≡ Some n → scan v code (60 ∷ 60 ∷ 60 ∷ bs) ≡ longer HeredocStart
+    (Some (3 + n)) (longer Op (Some 1) (Some (Op, 2)))
 start_scan V74 bs n h e = rw (h, e) refl
 start_scan V83 bs n h e = rw (h, e) refl
 
@@ -147,4 +178,5 @@ pub heredoc_starts_stay : HeredocStartsStay
 heredoc_starts_stay v w a r s e h =
     let shaped = start_shape v a r h in
     let len = line_len Begin false a s (λ p. no_feed p) shaped e in
-    longest_of w code (60 ∷ 60 ∷ 60 ∷ a ++ s) HeredocStart (suc (suc (suc (length a)))) (start_scan w (a ++ s) (length a) (no_nowdoc (a ++ s) (no_quote a s shaped)) len ∙ start_row (length a))
+    longest_of w code (60 ∷ 60 ∷ 60 ∷ a ++ s) HeredocStart (suc (suc (suc (length a))))
+    (start_scan w (a ++ s) (length a) (no_nowdoc (a ++ s) (no_quote a s shaped)) len ∙ start_row (length a))

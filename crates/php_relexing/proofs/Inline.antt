@@ -1,5 +1,33 @@
 -- Inline HTML before an opening tag.
-use Rattle.std.proofs.Common.{◌≡◌, ℕ, suc, ◌+◌, Bool, true, false, cond, not, ◌&&◌, ◌||◌, nat_eq, List, [], ◌∷◌, ◌++◌, length, drop, codes, Some, None, refl, sym, ap, ◌∙◌, subst, arith}
+use Rattle.std.proofs.Common.{
+  ◌≡◌,
+  ℕ,
+  suc,
+  ◌+◌,
+  Bool,
+  true,
+  false,
+  cond,
+  not,
+  ◌&&◌,
+  ◌||◌,
+  nat_eq,
+  List,
+  [],
+  ◌∷◌,
+  ◌++◌,
+  length,
+  drop,
+  codes,
+  Some,
+  None,
+  refl,
+  sym,
+  ap,
+  ◌∙◌,
+  subst,
+  arith,
+}
 use Rattle.std.proofs.lemmas.Bool.{and_parts, eqb-true}
 use Rattle.std.proofs.lemmas.Bool.Decides.{nat_tests}
 use Rattle.php_tree.specs.declared.version.Version.{Version}
@@ -37,9 +65,15 @@ fourth false y w z u = refl
 
 tag_same : (x r s : List ℕ) → begins_tag (x ++ 60 ∷ r) ≡ begins_tag (x ++ 60 ∷ s)
 tag_same [] r s = refl
-tag_same (a ∷ []) r s = ap (λ (t : Bool). (nat_eq 63 (lower a) && false) || t) (second (nat_eq 63 (lower a)) (is_empty (drop 2 r) || begins is_space (drop 2 r)) (is_empty (drop 2 s) || begins is_space (drop 2 s)))
-tag_same (a ∷ b ∷ []) r s = ap (λ (t : Bool). (nat_eq 63 (lower a) && (nat_eq 61 (lower b) && true)) || t) (third (nat_eq 63 (lower a)) (nat_eq 112 (lower b)) (is_empty (drop 1 r) || begins is_space (drop 1 r)) (is_empty (drop 1 s) || begins is_space (drop 1 s)))
-tag_same (a ∷ b ∷ c ∷ []) r s = ap (λ (t : Bool). (nat_eq 63 (lower a) && (nat_eq 61 (lower b) && true)) || t) (fourth (nat_eq 63 (lower a)) (nat_eq 112 (lower b)) (nat_eq 104 (lower c)) (is_empty r || begins is_space r) (is_empty s || begins is_space s))
+tag_same (a ∷ []) r s = ap (λ (t : Bool). (nat_eq 63 (lower a) && false) || t)
+    (second (nat_eq 63 (lower a)) (is_empty (drop 2 r) || begins is_space (drop 2 r))
+    (is_empty (drop 2 s) || begins is_space (drop 2 s)))
+tag_same (a ∷ b ∷ []) r s = ap (λ (t : Bool). (nat_eq 63 (lower a) && (nat_eq 61 (lower b) && true)) || t)
+    (third (nat_eq 63 (lower a)) (nat_eq 112 (lower b)) (is_empty (drop 1 r) || begins is_space (drop 1 r))
+    (is_empty (drop 1 s) || begins is_space (drop 1 s)))
+tag_same (a ∷ b ∷ c ∷ []) r s = ap (λ (t : Bool). (nat_eq 63 (lower a) && (nat_eq 61 (lower b) && true)) || t)
+    (fourth (nat_eq 63 (lower a)) (nat_eq 112 (lower b)) (nat_eq 104 (lower c)) (is_empty r || begins is_space r)
+    (is_empty s || begins is_space s))
 tag_same (a ∷ b ∷ c ∷ d ∷ []) r s = refl
 tag_same (a ∷ b ∷ c ∷ d ∷ e ∷ x) r s = refl
 
@@ -88,11 +122,13 @@ no_byte : (c : ℕ) (u : List ℕ) → nat_eq c 32 || nat_eq c 9 || nat_eq c 10 
 no_byte c [] h e = refl
 no_byte c (y ∷ u) h e = let other : nat_eq c (lower y) ≡ false = grind (arith, nat_tests) in rw other refl
 
-one_more : (w : List ℕ) (c : ℕ) (bs : List ℕ) (t : Bool) → starts_word w bs ≡ t → (t ≡ true → starts_word (c ∷ []) (drop (length w) bs) ≡ false) → starts_word (w ++ c ∷ []) bs ≡ false
+one_more : (w : List ℕ) (c : ℕ) (bs : List ℕ) (t : Bool) → starts_word w bs ≡ t
+    → (t ≡ true → starts_word (c ∷ []) (drop (length w) bs) ≡ false) → starts_word (w ++ c ∷ []) bs ≡ false
 one_more w c bs false e f = starts_more w c bs ∙ rw e refl
 one_more w c bs true e f = starts_more w c bs ∙ rw (e, f refl) refl
 
-last_by : (bs : List ℕ) (t : Bool) → starts_word (codes "?php") bs ≡ t → (t ≡ true → is_empty (drop 4 bs) ≡ false) → cond t (add_to 5 (cond (is_empty (drop 4 bs)) (Some 0) None)) None ≡ None
+last_by : (bs : List ℕ) (t : Bool) → starts_word (codes "?php") bs ≡ t → (t ≡ true → is_empty (drop 4 bs) ≡ false)
+    → cond t (add_to 5 (cond (is_empty (drop 4 bs)) (Some 0) None)) None ≡ None
 last_by bs false e f = refl
 last_by bs true e f = rw (f refl) refl
 
@@ -134,7 +170,8 @@ other_rows v b bs h = rw (other_head 60 b refl h) refl
 at_other : (v : Version) (b : ℕ) (bs : List ℕ) (n : ℕ) → nat_eq b 60 ≡ false → run_len Html [] First (b ∷ bs) ≡ suc n → scan v html (b ∷ bs) ≡ found InlineHtml (suc n)
 at_other v b bs n h e = other_rows v b bs h ∙ ap (λ (k : ℕ). longer InlineHtml (add_to 0 (some_len k)) None) e ∙ inline_row n
 
-inline_by : (v : Version) (b : ℕ) (bs : List ℕ) (n : ℕ) (t : Bool) → nat_eq b 60 ≡ t → not (t && begins_tag bs) ≡ true → run_len Html [] First (b ∷ bs) ≡ suc n → scan v html (b ∷ bs) ≡ found InlineHtml (suc n)
+inline_by : (v : Version) (b : ℕ) (bs : List ℕ) (n : ℕ) (t : Bool) → nat_eq b 60 ≡ t → not (t && begins_tag bs) ≡ true
+    → run_len Html [] First (b ∷ bs) ≡ suc n → scan v html (b ∷ bs) ≡ found InlineHtml (suc n)
 inline_by v b bs n true p h e =
     let same = eqb-true b 60 p in
     subst (λ (x : ℕ). scan v html (x ∷ bs) ≡ found InlineHtml (suc n)) (sym same)
@@ -149,7 +186,9 @@ or_none : (x : Bool) → (x || false) ≡ true → x ≡ true
 or_none true h = refl
 or_none false h = absurd cc
 
-inline_is : (w : Version) (a r s : List ℕ) → begins_tag s ≡ true → (not (is_empty a) && is_run Html [] First a (60 ∷ r)) ≡ true → IsLongest w html (a ++ 60 ∷ s) InlineHtml (length a)
+inline_is : (w : Version) (a r s : List ℕ) → begins_tag s ≡ true
+    → (not (is_empty a) && is_run Html [] First a (60 ∷ r)) ≡ true
+    → IsLongest w html (a ++ 60 ∷ s) InlineHtml (length a)
 inline_is w [] r s e h = absurd cc
 inline_is w (b ∷ a) r s e h =
     let run = html_over First (b ∷ a) r s h in

@@ -1,5 +1,39 @@
 -- A bracket between two tokens of code leaves all tokens before it the longest.
-use Rattle.std.proofs.Common.{◌≡◌, ℕ, zero, suc, ◌+◌, ◌-◌, ◌<◌, ◌≤◌, Bool, true, false, not, nat_eq, ◌&&◌, ◌||◌, List, [], ◌∷◌, ◌++◌, length, take, drop, ◌⊎◌, inl, inr, None, refl, sym, ap, ◌∙◌, subst, append_assoc, arith}
+use Rattle.std.proofs.Common.{
+  ◌≡◌,
+  ℕ,
+  zero,
+  suc,
+  ◌+◌,
+  ◌-◌,
+  ◌<◌,
+  ◌≤◌,
+  Bool,
+  true,
+  false,
+  not,
+  nat_eq,
+  ◌&&◌,
+  ◌||◌,
+  List,
+  [],
+  ◌∷◌,
+  ◌++◌,
+  length,
+  take,
+  drop,
+  ◌⊎◌,
+  inl,
+  inr,
+  None,
+  refl,
+  sym,
+  ap,
+  ◌∙◌,
+  subst,
+  append_assoc,
+  arith,
+}
 use Rattle.std.proofs.lemmas.Bool.{cases_lt, eqb-true}
 use Rattle.std.proofs.lemmas.List.{take-append-le, length-append}
 use Rattle.std.proofs.Math.Seq.{take-append-add}
@@ -14,7 +48,8 @@ use Rattle.php_relexing.proofs.Near.{GoesOn, stops_rows, rows_cross, rows_blind}
 
 -- ---- the rows of code
 
-bracket_is : (c : ℕ) (w x y z : Bool) → nat_eq c 40 ≡ w → nat_eq c 41 ≡ x → nat_eq c 91 ≡ y → nat_eq c 93 ≡ z → (w || x || y || z) ≡ true → ((c ≡ 40) ⊎ (c ≡ 41)) ⊎ ((c ≡ 91) ⊎ (c ≡ 93))
+bracket_is : (c : ℕ) (w x y z : Bool) → nat_eq c 40 ≡ w → nat_eq c 41 ≡ x → nat_eq c 91 ≡ y → nat_eq c 93 ≡ z
+    → (w || x || y || z) ≡ true → ((c ≡ 40) ⊎ (c ≡ 41)) ⊎ ((c ≡ 91) ⊎ (c ≡ 93))
 bracket_is c true x y z p q r s h = inl (inl (eqb-true c 40 p))
 bracket_is c false true y z p q r s h = inl (inr (eqb-true c 41 q))
 bracket_is c false false true z p q r s h = inr (inl (eqb-true c 91 r))
@@ -74,7 +109,8 @@ module _ (v : Version) (c : ℕ) (bracket : is_bracket c ≡ true) (b : ℕ) (s 
   rows : stops_rows c (code_rows v) ≡ true
   rows = code_stops v c bracket
 
-  same_front : (k : ℕ) (r2 new : List ℕ) → k ≤ length s → kind_of v code (b ∷ take k (s ++ r2)) (drop k (s ++ r2)) ≡ kind_of v code (b ∷ take k (s ++ c ∷ new)) (drop k (s ++ c ∷ new))
+  same_front : (k : ℕ) (r2 new : List ℕ) → k ≤ length s → kind_of v code (b ∷ take k (s ++ r2)) (drop k (s ++ r2)) ≡
+      kind_of v code (b ∷ take k (s ++ c ∷ new)) (drop k (s ++ c ∷ new))
   same_front k r2 new le =
       let old = goes_on b s r2 k near le in
       let other = goes_on b s (c ∷ new) k near le in
@@ -86,14 +122,17 @@ module _ (v : Version) (c : ℕ) (bracket : is_bracket c ≡ true) (b : ℕ) (s 
   crossed : (k : ℕ) (new rest : List ℕ) → kind_of v code (b ∷ take (length s + suc k) (s ++ c ∷ new)) rest ≡ None
   crossed k new rest = rw (take-append-add s (c ∷ new) (suc k)) (rows_cross [] c (code_rows v) bracket rows b s near (take k new) rest)
 
-  longer_by : (kind : Kind) (n : ℕ) (r2 new : List ℕ) → IsLongest v code (b ∷ s ++ r2) kind (suc n) → (j : ℕ) → suc n < suc j → length s < j ⊎ j ≤ length s → kind_of v code (b ∷ take j (s ++ c ∷ new)) (drop j (s ++ c ∷ new)) ≡ None
+  longer_by : (kind : Kind) (n : ℕ) (r2 new : List ℕ) → IsLongest v code (b ∷ s ++ r2) kind (suc n) → (j : ℕ)
+      → suc n < suc j → length s < j ⊎ j ≤ length s → kind_of v code (b ∷ take j (s ++ c ∷ new))
+      (drop j (s ++ c ∷ new)) ≡ None
   longer_by kind n r2 new h j lt (inl far) =
       let k = j - length s - 1 in
       let e : j ≡ length s + suc k = omega arith in
       subst (λ (i : ℕ). kind_of v code (b ∷ take i (s ++ c ∷ new)) (drop j (s ++ c ∷ new)) ≡ None) (sym e) (crossed k new (drop j (s ++ c ∷ new)))
   longer_by kind n r2 new h j lt (inr le2) = sym (same_front j r2 new le2) ∙ h.longest (suc j) lt (let l = length-append s r2 in omega arith)
 
-  longer : (kind : Kind) (n : ℕ) (r2 new : List ℕ) → IsLongest v code (b ∷ s ++ r2) kind (suc n) → (m : ℕ) → suc n < m → m ≤ length (b ∷ s ++ c ∷ new) → kind_of v code (take m (b ∷ s ++ c ∷ new)) (drop m (b ∷ s ++ c ∷ new)) ≡ None
+  longer : (kind : Kind) (n : ℕ) (r2 new : List ℕ) → IsLongest v code (b ∷ s ++ r2) kind (suc n) → (m : ℕ) → suc n < m
+      → m ≤ length (b ∷ s ++ c ∷ new) → kind_of v code (take m (b ∷ s ++ c ∷ new)) (drop m (b ∷ s ++ c ∷ new)) ≡ None
   longer kind n r2 new h zero lt le2 = absurd (omega arith)
   longer kind n r2 new h (suc j) lt le2 = longer_by kind n r2 new h j lt (cases_lt (length s) j)
 
@@ -122,10 +161,14 @@ begins_more p (z ∷ a) more h = h
 near_more : (b : ℕ) (a more : List ℕ) → is_near b a ≡ true → is_near b (a ++ more) ≡ true
 near_more b a more h =
     let far = fst (not (is_far b)) (not (begins_words b) || begins (leaves_words b) a) h in
-    let words = or_more (not (begins_words b)) (begins (leaves_words b) a) (begins (leaves_words b) (a ++ more)) (begins_more (leaves_words b) a more) (snd (not (is_far b)) (not (begins_words b) || begins (leaves_words b) a) h) in
+    let words = or_more (not (begins_words b)) (begins (leaves_words b) a) (begins (leaves_words b) (a ++ more))
+    (begins_more (leaves_words b) a more)
+    (snd (not (is_far b)) (not (begins_words b) || begins (leaves_words b) a) h) in
     rw (far, words) refl
 
-inserted : (v : Version) (c : ℕ) → is_bracket c ≡ true → (kind : Kind) (u : List ℕ) (ts us : List Tile) → AllNear ts → Tiled v (ts ++ us) → IsLongest v code (c ∷ u ++ joined us) kind (suc (length u)) → Tiled v (ts ++ tile kind c u ∷ us)
+inserted : (v : Version) (c : ℕ) → is_bracket c ≡ true → (kind : Kind) (u : List ℕ) (ts us : List Tile) → AllNear ts
+    → Tiled v (ts ++ us) → IsLongest v code (c ∷ u ++ joined us) kind (suc (length u))
+    → Tiled v (ts ++ tile kind c u ∷ us)
 inserted v c bracket kind u [] us near t h = (h, t)
 inserted v c bracket kind u (tile k b a ∷ ts) us near t h = (
   first,
@@ -139,7 +182,9 @@ inserted v c bracket kind u (tile k b a ∷ ts) us near t h = (
     first =
         let old = subst (λ (x : List ℕ). IsLongest v code (b ∷ x) k (suc (length a))) (whole us) t.0 in
         let size = length-append a (joined ts) in
-        subst (λ (x : List ℕ). IsLongest v code (b ∷ x) k (suc (length a))) (sym (whole (tile kind c u ∷ us))) (stays v c bracket b (a ++ joined ts) (near_more b a (joined ts) near.0) k (length a) (joined us) (u ++ joined us) (omega arith) old)
+        subst (λ (x : List ℕ). IsLongest v code (b ∷ x) k (suc (length a))) (sym (whole (tile kind c u ∷ us)))
+        (stays v c bracket b (a ++ joined ts) (near_more b a (joined ts) near.0) k (length a) (joined us)
+        (u ++ joined us) (omega arith) old)
 
 pub bracket_comes_in : BracketComesIn
 bracket_comes_in v c kind u ts us bracket near t h = inserted v c bracket kind u ts us near t h

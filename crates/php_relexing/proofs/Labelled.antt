@@ -34,21 +34,29 @@ no_name (b ∷ a) s all h =
 no_hash : (b : ℕ) → is_letter b ≡ true → nat_eq b 35 ≡ false
 no_hash b h = grind (arith, nat_tests)
 
-word_row : (b : ℕ) (bs : List ℕ) (n : ℕ) → is_letter b ≡ true → nat_eq (lower b) 98 ≡ false → run_len Labels [] Plain bs ≡ n → longer Word (behind lower [] (tail_len [] AnyWord) (b ∷ bs)) None ≡ Some (Word, suc n)
+word_row : (b : ℕ) (bs : List ℕ) (n : ℕ) → is_letter b ≡ true → nat_eq (lower b) 98 ≡ false
+    → run_len Labels [] Plain bs ≡ n → longer Word (behind lower [] (tail_len [] AnyWord) (b ∷ bs)) None ≡ Some
+    (Word, suc n)
 word_row b bs n h p e =
     let one : 1 + n ≡ suc n = omega arith in
     let some : nat_eq (suc n) 0 ≡ false = grind (arith, nat_tests) in
     let none : 0 + suc n ≡ suc n = omega arith in
     rw (h, e, one, p, some, none) refl
 
-name_row : (b : ℕ) (bs : List ℕ) (o : Option (Kind × ℕ)) → is_letter b ≡ true → shape_len shape.Name FirstLabel bs ≡ None → longer Name (behind lower [] (tail_len [] (Shaped shape.Name Begin)) (b ∷ bs)) o ≡ o
+name_row : (b : ℕ) (bs : List ℕ) (o : Option (Kind × ℕ)) → is_letter b ≡ true
+    → shape_len shape.Name FirstLabel bs ≡ None → longer Name
+    (behind lower [] (tail_len [] (Shaped shape.Name Begin)) (b ∷ bs)) o ≡ o
 name_row b bs o h e = rw (h, e) refl
 
-scan_is : (v : Version) (b : ℕ) (bs : List ℕ) (n : ℕ) → is_letter b ≡ true → nat_eq (lower b) 98 ≡ false → nat_eq (lower b) 121 ≡ false → run_len Labels [] Plain bs ≡ n → shape_len shape.Name FirstLabel bs ≡ None → scan v code (b ∷ bs) ≡ Some (Word, suc n)
+scan_is : (v : Version) (b : ℕ) (bs : List ℕ) (n : ℕ) → is_letter b ≡ true → nat_eq (lower b) 98 ≡ false
+    → nat_eq (lower b) 121 ≡ false → run_len Labels [] Plain bs ≡ n → shape_len shape.Name FirstLabel bs ≡ None
+    → scan v code (b ∷ bs) ≡ Some (Word, suc n)
 scan_is V74 b bs n h p q e none = older_scan b bs (no_hash b h) ∙ plain_scan b bs h p q ∙ word_row b bs n h p e
 scan_is V83 b bs n h p q e none = newer_scan b bs (no_hash b h) ∙ name_row b bs _ h none ∙ plain_scan b bs h p q ∙ word_row b bs n h p e
 
 -- A word that begins with neither `b` nor `y`.
-pub word_is : (v : Version) (b : ℕ) (a s : List ℕ) → is_letter b ≡ true → nat_eq (lower b) 98 ≡ false → nat_eq (lower b) 121 ≡ false → all_label a ≡ true → begins is_stop s ≡ true → IsLongest v code (b ∷ a ++ s) Word (suc (length a))
+pub word_is : (v : Version) (b : ℕ) (a s : List ℕ) → is_letter b ≡ true → nat_eq (lower b) 98 ≡ false
+    → nat_eq (lower b) 121 ≡ false → all_label a ≡ true → begins is_stop s ≡ true
+    → IsLongest v code (b ∷ a ++ s) Word (suc (length a))
 word_is v b a s h p q all stop =
     scanned_longest v code (b ∷ a ++ s) (Some (Word, suc (length a))) (scan_is v b (a ++ s) (length a) h p q (run_is a s all stop) (no_name a s all stop))

@@ -10,7 +10,28 @@ use Rattle.php_spellings.specs.declared.table.State.TheVariants.{Plain}
 use Rattle.php_spellings.specs.declared.table.Run.TheVariants.{Labels, Spaces}
 use Rattle.php_spellings.specs.declared.table.Shape.TheVariants as shape
 use Rattle.php_spellings.specs.declared.table.Spot.{Spot}
-use Rattle.php_spellings.specs.declared.table.Spot.TheVariants.{Begin, Whole, WholeGap, LeadPoint, Point, Part, PartGap, Mark, Sign, Power, PowerGap, FirstLabel, Backslash, LaterLabel, OpenedLabel, QuotedLabel, ClosedLabel, Return, Line, Stuck}
+use Rattle.php_spellings.specs.declared.table.Spot.TheVariants.{
+  Begin,
+  Whole,
+  WholeGap,
+  LeadPoint,
+  Point,
+  Part,
+  PartGap,
+  Mark,
+  Sign,
+  Power,
+  PowerGap,
+  FirstLabel,
+  Backslash,
+  LaterLabel,
+  OpenedLabel,
+  QuotedLabel,
+  ClosedLabel,
+  Return,
+  Line,
+  Stuck,
+}
 use Rattle.php_spellings.specs.Bytes.{is_space, is_letter, is_label_byte, begins}
 use Rattle.php_lexer.specs.Tails.{is_run}
 use Rattle.php_lexer.specs.Rules.{is_b, begins_text}
@@ -129,7 +150,9 @@ space_run st (b ∷ text) rest h =
     let (here, more) = and_parts (is_space b) (is_run Spaces [] Plain text rest) h in
     rw (here, space_run Plain text rest more) refl
 
-space_by : (v w : Version) (b : ℕ) (a r s : List ℕ) → begins is_space s ≡ false → (is_space b && is_run Spaces [] Plain a r || false) ≡ true → IsLongest w code (b ∷ a ++ s) Space (suc (length a))
+space_by : (v w : Version) (b : ℕ) (a r s : List ℕ) → begins is_space s ≡ false
+    → (is_space b && is_run Spaces [] Plain a r || false) ≡ true
+    → IsLongest w code (b ∷ a ++ s) Space (suc (length a))
 space_by v w b a r s stop h =
     let (first, more) = and_parts (is_space b) (is_run Spaces [] Plain a r) (or_none _ h) in
     space_is w b a s first (space_run Plain a r more) stop

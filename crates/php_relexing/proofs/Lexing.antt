@@ -16,7 +16,9 @@ use Rattle.php_relexing.proofs.Spaces.{all_space, space_is}
 abbrev pub plain : Stack
 plain = record { top = code; below = []; depth = 0 }
 
-module _ (v : Version) (kind : Kind) (b : ℕ) (a s : List ℕ) (longest : IsLongest v code (b ∷ a ++ s) kind (suc (length a))) (stays : code_turn kind (b ∷ a) ≡ stay code) (ts : List Lexeme) where
+module _ (v : Version) (kind : Kind) (b : ℕ) (a s : List ℕ)
+    (longest : IsLongest v code (b ∷ a ++ s) kind (suc (length a))) (stays : code_turn kind (b ∷ a) ≡ stay code)
+    (ts : List Lexeme) where
   text : b ∷ take (length a) (a ++ s) ≡ b ∷ a
   text = ap (λ (u : List ℕ). b ∷ u) (take-append_seam a s)
 
@@ -29,7 +31,8 @@ module _ (v : Version) (kind : Kind) (b : ℕ) (a s : List ℕ) (longest : IsLon
       (subst (λ (u : List ℕ). Lexed v plain lead u ts) (sym (drop-append_seam a s)) rest)
 
   -- a token of code and those behind it
-  pub token_before : (k : TokenKind) (lead : List ℕ) → token_of kind (b ∷ a) ≡ Some k → Lexed v plain [] s ts → Lexed v plain lead (b ∷ a ++ s) (record { kind = k; lead = lead; text = b ∷ a } ∷ ts)
+  pub token_before : (k : TokenKind) (lead : List ℕ) → token_of kind (b ∷ a) ≡ Some k → Lexed v plain [] s ts
+      → Lexed v plain lead (b ∷ a ++ s) (record { kind = k; lead = lead; text = b ∷ a } ∷ ts)
   token_before k lead is rest =
       subst (λ (u : List ℕ). Lexed v plain lead (b ∷ a ++ s) (record { kind = k; lead = lead; text = u } ∷ ts)) text
       (token kind (suc (length a)) k longest (ap (λ (u : List ℕ). token_of kind u) text ∙ is) (behind [] rest))

@@ -1,5 +1,32 @@
 -- How far a name with `\` goes, and which rows of 7.4 may begin where it does.
-use Rattle.std.proofs.Common.{◌≡◌, ℕ, suc, ◌+◌, ◌≤◌, Bool, true, false, cond, not, ◌&&◌, ◌||◌, nat_eq, nat_le, List, [], ◌∷◌, ◌++◌, length, drop, codes, Some, None, refl, ◌∙◌, arith}
+use Rattle.std.proofs.Common.{
+  ◌≡◌,
+  ℕ,
+  suc,
+  ◌+◌,
+  ◌≤◌,
+  Bool,
+  true,
+  false,
+  cond,
+  not,
+  ◌&&◌,
+  ◌||◌,
+  nat_eq,
+  nat_le,
+  List,
+  [],
+  ◌∷◌,
+  ◌++◌,
+  length,
+  drop,
+  codes,
+  Some,
+  None,
+  refl,
+  ◌∙◌,
+  arith,
+}
 use Rattle.std.proofs.lemmas.Bool.{and_parts}
 use Rattle.std.proofs.lemmas.Bool.Decides.{nat_tests}
 use Rattle.php_spellings.specs.declared.table.Kind.TheVariants.{Word}
@@ -8,7 +35,28 @@ use Rattle.php_spellings.specs.declared.table.Run.TheVariants.{Labels}
 use Rattle.php_spellings.specs.declared.table.Until.TheVariants.{From}
 use Rattle.php_spellings.specs.declared.table.Shape.TheVariants as shape
 use Rattle.php_spellings.specs.declared.table.Spot.{Spot}
-use Rattle.php_spellings.specs.declared.table.Spot.TheVariants.{Begin, Whole, WholeGap, LeadPoint, Point, Part, PartGap, Mark, Sign, Power, PowerGap, FirstLabel, Backslash, LaterLabel, OpenedLabel, QuotedLabel, ClosedLabel, Return, Line, Stuck}
+use Rattle.php_spellings.specs.declared.table.Spot.TheVariants.{
+  Begin,
+  Whole,
+  WholeGap,
+  LeadPoint,
+  Point,
+  Part,
+  PartGap,
+  Mark,
+  Sign,
+  Power,
+  PowerGap,
+  FirstLabel,
+  Backslash,
+  LaterLabel,
+  OpenedLabel,
+  QuotedLabel,
+  ClosedLabel,
+  Return,
+  Line,
+  Stuck,
+}
 use Rattle.php_spellings.specs.Bytes.{is_space, is_letter, is_label_byte, lower, begins, starts_word}
 use Rattle.php_lexer.specs.Shapes.{step, may_end, is_stuck, has_shape}
 use Rattle.php_lexer.specs.RulesCode.{common_rows}
@@ -21,7 +69,8 @@ use Rattle.php_relexing.proofs.Newer.{backslash_none}
 
 -- ---- how far a name goes
 
-end_by : (c : ℕ) (cs : List ℕ) (x y : Bool) → is_label_byte c ≡ x → nat_eq c 92 ≡ y → (not x && not (y && begins is_letter cs)) ≡ true → shape_len shape.Name LaterLabel (c ∷ cs) ≡ Some 0
+end_by : (c : ℕ) (cs : List ℕ) (x y : Bool) → is_label_byte c ≡ x → nat_eq c 92 ≡ y
+    → (not x && not (y && begins is_letter cs)) ≡ true → shape_len shape.Name LaterLabel (c ∷ cs) ≡ Some 0
 end_by c cs true y p q h = absurd cc
 end_by c cs false true p q h = rw (p, q, backslash_none cs (not_it (begins is_letter cs) h)) refl
 end_by c cs false false p q h = rw (p, q) refl
@@ -66,7 +115,10 @@ abbrev goes_on : List ℕ → Bool
 goes_on [] = false
 goes_on (b ∷ bs) = nat_eq b 92 || is_label_byte b && goes_on bs
 
-shape_by : (b : ℕ) (t s : List ℕ) (x y : Bool) → is_label_byte b ≡ x → nat_eq b 92 ≡ y → (has_shape shape.Name FirstLabel t ≡ true → goes_on (t ++ s) ≡ true) → (not (is_stuck (cond x FirstLabel (cond y Backslash Stuck))) && has_shape shape.Name (cond x FirstLabel (cond y Backslash Stuck)) t) ≡ true → goes_on (b ∷ t ++ s) ≡ true
+shape_by : (b : ℕ) (t s : List ℕ) (x y : Bool) → is_label_byte b ≡ x → nat_eq b 92 ≡ y
+    → (has_shape shape.Name FirstLabel t ≡ true → goes_on (t ++ s) ≡ true)
+    → (not (is_stuck (cond x FirstLabel (cond y Backslash Stuck)))
+    && has_shape shape.Name (cond x FirstLabel (cond y Backslash Stuck)) t) ≡ true → goes_on (b ∷ t ++ s) ≡ true
 shape_by b t s x true p q ih h = rw q refl
 shape_by b t s true false p q ih h = rw (q, p, ih h) refl
 shape_by b t s false false p q ih h = absurd cc
@@ -76,7 +128,11 @@ name_goes [] s h = absurd cc
 name_goes (b ∷ t) s h = shape_by b t s (is_label_byte b) (nat_eq b 92) refl refl (name_goes t s) h
 
 -- the first label is shorter than the name
-short_by : (b : ℕ) (t s : List ℕ) (x : Bool) → is_label_byte b ≡ x → (has_shape shape.Name FirstLabel t ≡ true → run_len Labels [] Plain (t ++ s) ≤ length t) → (not (is_stuck (cond x FirstLabel (cond (nat_eq b 92) Backslash Stuck))) && has_shape shape.Name (cond x FirstLabel (cond (nat_eq b 92) Backslash Stuck)) t) ≡ true → run_len Labels [] Plain (b ∷ t ++ s) ≤ suc (length t)
+short_by : (b : ℕ) (t s : List ℕ) (x : Bool) → is_label_byte b ≡ x
+    → (has_shape shape.Name FirstLabel t ≡ true → run_len Labels [] Plain (t ++ s) ≤ length t)
+    → (not (is_stuck (cond x FirstLabel (cond (nat_eq b 92) Backslash Stuck)))
+    && has_shape shape.Name (cond x FirstLabel (cond (nat_eq b 92) Backslash Stuck)) t) ≡ true
+    → run_len Labels [] Plain (b ∷ t ++ s) ≤ suc (length t)
 short_by b t s true p ih h = let le = ih h in rw p (omega arith)
 short_by b t s false p ih h = rw p (omega arith)
 
@@ -105,7 +161,9 @@ drop_goes (a ∷ w) (b ∷ bs) h e g =
     let further : (nat_eq b 92 || is_label_byte b && goes_on bs) ≡ true = g in
     drop_goes w bs more rest (rw (other, label) at further)
 
-goes_first : (b : ℕ) (bs : List ℕ) (y x : Bool) → nat_eq b 92 ≡ y → is_label_byte b ≡ x → (y || x && goes_on bs) ≡ true → (is_space b ≡ false) × ((nat_eq 39 (lower b) ≡ false) × ((nat_eq 34 (lower b) ≡ false) × (nat_eq 60 (lower b) ≡ false)))
+goes_first : (b : ℕ) (bs : List ℕ) (y x : Bool) → nat_eq b 92 ≡ y → is_label_byte b ≡ x
+    → (y || x && goes_on bs) ≡ true → (is_space b ≡ false) ×
+    ((nat_eq 39 (lower b) ≡ false) × ((nat_eq 34 (lower b) ≡ false) × (nat_eq 60 (lower b) ≡ false)))
 goes_first b bs true x p q h = (grind (arith, nat_tests), (grind (arith, nat_tests), (grind (arith, nat_tests), grind (arith, nat_tests))))
 goes_first b bs false true p q h = (grind (arith, nat_tests), (grind (arith, nat_tests), (grind (arith, nat_tests), grind (arith, nat_tests))))
 goes_first b bs false false p q h = absurd cc
@@ -114,15 +172,20 @@ no_from : (bs : List ℕ) → goes_on bs ≡ true → until_len From First bs �
 no_from [] h = refl
 no_from (b ∷ bs) h = rw (goes_first b bs (nat_eq b 92) (is_label_byte b) refl refl h).0 refl
 
-no_yield : (w bs : List ℕ) → all_small w ≡ true → goes_on bs ≡ true → (t : Bool) → starts_word w bs ≡ t → cond t (add_to (length w) (until_len From First (drop (length w) bs))) None ≡ None
+no_yield : (w bs : List ℕ) → all_small w ≡ true → goes_on bs ≡ true → (t : Bool) → starts_word w bs ≡ t
+    → cond t (add_to (length w) (until_len From First (drop (length w) bs))) None ≡ None
 no_yield w bs h g false e = refl
 no_yield w bs h g true e = rw (no_from (drop (length w) bs) (drop_goes w bs h e g)) refl
 
-letter_by : (b c : ℕ) (bs : List ℕ) → nat_eq 39 (lower c) ≡ false → nat_eq 34 (lower c) ≡ false → nat_eq 60 (lower c) ≡ false → cond (nat_eq 121 (lower b) && starts_word (codes "ield") (c ∷ bs)) (add_to 5 (until_len From First (drop 4 (c ∷ bs)))) None ≡ None → (t : Bool) → nat_eq 98 (lower b) ≡ t → scan_by [] letter_rows (b ∷ c ∷ bs) ≡ longer Word (add_to 0 (word_len (b ∷ c ∷ bs))) None
+letter_by : (b c : ℕ) (bs : List ℕ) → nat_eq 39 (lower c) ≡ false → nat_eq 34 (lower c) ≡ false
+    → nat_eq 60 (lower c) ≡ false → cond (nat_eq 121 (lower b) && starts_word (codes "ield") (c ∷ bs))
+    (add_to 5 (until_len From First (drop 4 (c ∷ bs)))) None ≡ None → (t : Bool) → nat_eq 98 (lower b) ≡ t
+    → scan_by [] letter_rows (b ∷ c ∷ bs) ≡ longer Word (add_to 0 (word_len (b ∷ c ∷ bs))) None
 letter_by b c bs p q r y true e = rw (y, e, p, q, r) refl
 letter_by b c bs p q r y false e = rw (y, e) refl
 
-yield_by : (b : ℕ) (bs : List ℕ) → goes_on bs ≡ true → (t : Bool) → nat_eq 121 (lower b) ≡ t → cond (t && starts_word (codes "ield") bs) (add_to 5 (until_len From First (drop 4 bs))) None ≡ None
+yield_by : (b : ℕ) (bs : List ℕ) → goes_on bs ≡ true → (t : Bool) → nat_eq 121 (lower b) ≡ t
+    → cond (t && starts_word (codes "ield") bs) (add_to 5 (until_len From First (drop 4 bs))) None ≡ None
 yield_by b bs g false e = refl
 yield_by b bs g true e = by_word (starts_word (codes "ield") bs) refl
   where

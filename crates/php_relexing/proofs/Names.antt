@@ -1,5 +1,33 @@
 -- Names with `\` are one token of 8.3.
-use Rattle.std.proofs.Common.{◌≡◌, ℕ, suc, ◌+◌, ◌≤◌, Bool, true, false, cond, not, ◌&&◌, nat_eq, nat_lt, List, [], ◌∷◌, ◌++◌, length, take, drop, Some, None, refl, sym, ◌∙◌, subst, arith}
+use Rattle.std.proofs.Common.{
+  ◌≡◌,
+  ℕ,
+  suc,
+  ◌+◌,
+  ◌≤◌,
+  Bool,
+  true,
+  false,
+  cond,
+  not,
+  ◌&&◌,
+  nat_eq,
+  nat_lt,
+  List,
+  [],
+  ◌∷◌,
+  ◌++◌,
+  length,
+  take,
+  drop,
+  Some,
+  None,
+  refl,
+  sym,
+  ◌∙◌,
+  subst,
+  arith,
+}
 use Rattle.std.proofs.lemmas.Bool.{eqb-true}
 use Rattle.std.proofs.lemmas.Bool.Decides.{nat_tests}
 use Rattle.php_tree.specs.declared.version.Version.TheVariants.{V83}
@@ -34,13 +62,17 @@ letter_hash b h = grind (arith, nat_tests)
 
 -- ---- a name that a label begins
 
-letter_word : (b : ℕ) (t s : List ℕ) → is_letter b ≡ true → has_shape shape.Name FirstLabel t ≡ true → longer Name (add_to 0 (Some (suc (length t)))) (longer Word (add_to 0 (word_len (b ∷ t ++ s))) None) ≡ Some (Name, suc (length t))
+letter_word : (b : ℕ) (t s : List ℕ) → is_letter b ≡ true → has_shape shape.Name FirstLabel t ≡ true
+    → longer Name (add_to 0 (Some (suc (length t)))) (longer Word (add_to 0 (word_len (b ∷ t ++ s))) None) ≡ Some
+    (Name, suc (length t))
 letter_word b t s h shaped =
     let le = label_short t s shaped in
     let n = 1 + run_len Labels [] Plain (t ++ s) in
     rw h (over_by (suc (length t)) n (omega arith) (is_b (take n (b ∷ t ++ s)) && begins_text (drop n (b ∷ t ++ s))) (nat_eq n 0) refl)
 
-letter_name : (b : ℕ) (t s : List ℕ) → is_letter b ≡ true → has_shape shape.Name FirstLabel t ≡ true → shape_len shape.Name Begin (b ∷ t ++ s) ≡ Some (suc (length t)) → scan V83 code (b ∷ t ++ s) ≡ Some (Name, suc (length t))
+letter_name : (b : ℕ) (t s : List ℕ) → is_letter b ≡ true → has_shape shape.Name FirstLabel t ≡ true
+    → shape_len shape.Name Begin (b ∷ t ++ s) ≡ Some (suc (length t))
+    → scan V83 code (b ∷ t ++ s) ≡ Some (Name, suc (length t))
 letter_name b t s h shaped len =
     newer_scan b (t ++ s) (letter_hash b h)
     ∙ rw (len, word_alone b (t ++ s) h (name_goes t s shaped)) (letter_word b t s h shaped)
@@ -58,7 +90,11 @@ mark_name t s len = newer_scan 92 (t ++ s) refl ∙ rw len (mark_over (length t)
 
 -- ---- any name
 
-by_first : (b : ℕ) (t s : List ℕ) (x y : Bool) → is_letter b ≡ x → nat_eq b 92 ≡ y → shape_len shape.Name Begin (b ∷ t ++ s) ≡ Some (suc (length t)) → (not (is_stuck (cond x FirstLabel (cond y Backslash Stuck))) && has_shape shape.Name (cond x FirstLabel (cond y Backslash Stuck)) t) ≡ true → scan V83 code (b ∷ t ++ s) ≡ Some (Name, suc (length t))
+by_first : (b : ℕ) (t s : List ℕ) (x y : Bool) → is_letter b ≡ x → nat_eq b 92 ≡ y
+    → shape_len shape.Name Begin (b ∷ t ++ s) ≡ Some (suc (length t))
+    → (not (is_stuck (cond x FirstLabel (cond y Backslash Stuck)))
+    && has_shape shape.Name (cond x FirstLabel (cond y Backslash Stuck)) t) ≡ true
+    → scan V83 code (b ∷ t ++ s) ≡ Some (Name, suc (length t))
 by_first b t s true y p q len h = letter_name b t s p h len
 by_first b t s false true p q len h =
     let same : b ≡ 92 = eqb-true b 92 q in

@@ -87,7 +87,8 @@ clash x p q = let e : true ≡ false = sym p ∙ q in absurd cc
 
 -- ---- texts that go over a bracket
 
-run_cross : (r : Run) (label : List ℕ) (c : ℕ) → ((s : State) (bs : List ℕ) → goes r label s c bs ≡ false) → (s : State) (a more rest : List ℕ) → is_run r label s (a ++ c ∷ more) rest ≡ false
+run_cross : (r : Run) (label : List ℕ) (c : ℕ) → ((s : State) (bs : List ℕ) → goes r label s c bs ≡ false)
+    → (s : State) (a more rest : List ℕ) → is_run r label s (a ++ c ∷ more) rest ≡ false
 run_cross r label c h s [] more rest = rw (h s (more ++ rest)) refl
 run_cross r label c h s (b ∷ a) more rest = rw (run_cross r label c h (moved r s b) a more rest) (and_false (goes r label s b ((a ++ c ∷ more) ++ rest)))
 
@@ -100,7 +101,8 @@ filled : (a more : List ℕ) (c : ℕ) → is_empty (a ++ c ∷ more) ≡ false
 filled [] more c = refl
 filled (b ∷ a) more c = refl
 
-pub some_cross : (r : Run) (label : List ℕ) (c : ℕ) → ((s : State) (bs : List ℕ) → goes r label s c bs ≡ false) → (s : State) (a more rest : List ℕ) → some_run r label s (a ++ c ∷ more) rest ≡ false
+pub some_cross : (r : Run) (label : List ℕ) (c : ℕ) → ((s : State) (bs : List ℕ) → goes r label s c bs ≡ false)
+    → (s : State) (a more rest : List ℕ) → some_run r label s (a ++ c ∷ more) rest ≡ false
 some_cross r label c h s a more rest = rw (run_cross r label c h s a more rest) (and_false (not (is_empty (a ++ c ∷ more))))
 
 pub tail_cross : (label : List ℕ) (c : ℕ) (tail : Tail) → is_bracket c ≡ true → stops_tail tail ≡ true → (a more rest : List ℕ) → is_tail label tail (a ++ c ∷ more) rest ≡ false
@@ -127,7 +129,8 @@ tail_cross label c NowdocRest e h a more rest = absurd cc
 bracket_lower : (x c : ℕ) → is_bracket c ≡ true → nat_eq x c ≡ false → nat_eq x (lower c) ≡ false
 bracket_lower x c e h = grind (arith, nat_tests)
 
-pub led_cross : (label : List ℕ) (c : ℕ) (tail : Tail) → is_bracket c ≡ true → stops_tail tail ≡ true → (w : List ℕ) → has c w ≡ false → (a more rest : List ℕ) → led lower w (is_tail label tail) (a ++ c ∷ more) rest ≡ false
+pub led_cross : (label : List ℕ) (c : ℕ) (tail : Tail) → is_bracket c ≡ true → stops_tail tail ≡ true → (w : List ℕ)
+    → has c w ≡ false → (a more rest : List ℕ) → led lower w (is_tail label tail) (a ++ c ∷ more) rest ≡ false
 led_cross label c tail e h [] n a more rest = tail_cross label c tail e h a more rest
 led_cross label c tail e h (x ∷ w) n [] more rest = rw (bracket_lower x c e (or_left (nat_eq x c) (has c w) n)) refl
 led_cross label c tail e h (x ∷ w) n (b ∷ a) more rest = rw (led_cross label c tail e h w (or_right (nat_eq x c) (has c w) n) a more rest) (and_false (nat_eq x (lower b)))
@@ -142,7 +145,9 @@ abbrev pub GoesOn : ℕ → List ℕ → List ℕ → Type 0
 GoesOn b [] rest = (begins_words b ≡ false) ⊎ (begins (leaves_words b) rest ≡ true)
 GoesOn b (z ∷ t) rest = (begins_words b ≡ false) ⊎ (leaves_words b z ≡ true)
 
-lettered_no : (label : List ℕ) (tail : Tail) (x y : ℕ) (w : List ℕ) (b z : ℕ) (t rest : List ℕ) → is_lettered (x ∷ y ∷ w) ≡ true → (begins_words b ≡ false) ⊎ (leaves_words b z ≡ true) → (nat_eq x (lower b) && (nat_eq y (lower z) && led lower w (is_tail label tail) t rest)) ≡ false
+lettered_no : (label : List ℕ) (tail : Tail) (x y : ℕ) (w : List ℕ) (b z : ℕ) (t rest : List ℕ)
+    → is_lettered (x ∷ y ∷ w) ≡ true → (begins_words b ≡ false) ⊎ (leaves_words b z ≡ true)
+    → (nat_eq x (lower b) && (nat_eq y (lower z) && led lower w (is_tail label tail) t rest)) ≡ false
 lettered_no label tail x y w b z t rest h (inl no_words) = let e : nat_eq x (lower b) ≡ false = grind (arith, nat_tests) in rw e refl
 lettered_no label tail x y w b z t rest h (inr leaves) = both (nat_eq x (lower b)) refl
   where
@@ -150,7 +155,8 @@ lettered_no label tail x y w b z t rest h (inr leaves) = both (nat_eq x (lower b
     both false p = refl
     both true p = let e : nat_eq y (lower z) ≡ false = grind (arith, nat_tests) in rw e refl
 
-pub row_lettered : (label : List ℕ) (tail : Tail) (x : ℕ) (w : List ℕ) (b : ℕ) (t rest : List ℕ) → is_lettered (x ∷ w) ≡ true → GoesOn b t rest → led lower (x ∷ w) (is_tail label tail) (b ∷ t) rest ≡ false
+pub row_lettered : (label : List ℕ) (tail : Tail) (x : ℕ) (w : List ℕ) (b : ℕ) (t rest : List ℕ)
+    → is_lettered (x ∷ w) ≡ true → GoesOn b t rest → led lower (x ∷ w) (is_tail label tail) (b ∷ t) rest ≡ false
 row_lettered label tail x [] b t rest h g = absurd cc
 row_lettered label tail x (y ∷ w) b [] rest h g = and_false (nat_eq x (lower b))
 row_lettered label tail x (y ∷ w) b (z ∷ t) rest h g = lettered_no label tail x y w b z t rest h g
@@ -169,23 +175,37 @@ spread b (z ∷ a) c more rest near = by_words (begins_words b) refl (snd (not (
     by_words true p q = inr q
     by_words false p q = inl p
 
-row_cross : (label : List ℕ) (c : ℕ) (kind : Kind) (w : List ℕ) (tail : Tail) → is_bracket c ≡ true → stops_row c (rule kind w tail) ≡ true → (b : ℕ) (a : List ℕ) → is_near b a ≡ true → (more rest : List ℕ) → led lower w (is_tail label tail) (b ∷ a ++ c ∷ more) rest ≡ false
+row_cross : (label : List ℕ) (c : ℕ) (kind : Kind) (w : List ℕ) (tail : Tail) → is_bracket c ≡ true
+    → stops_row c (rule kind w tail) ≡ true → (b : ℕ) (a : List ℕ) → is_near b a ≡ true → (more rest : List ℕ)
+    → led lower w (is_tail label tail) (b ∷ a ++ c ∷ more) rest ≡ false
 row_cross label c kind [] tail e h b a near more rest = tail_cross label c tail e h (b ∷ a) more rest
 row_cross label c kind (x ∷ w) tail e h b a near more rest = by_far (is_far x) refl (is_lettered (x ∷ w)) refl h
   where
-    by_far : (t : Bool) → is_far x ≡ t → (l : Bool) → is_lettered (x ∷ w) ≡ l → (t || (l || not (has c w) && stops_tail tail && not (is_word_tail tail))) ≡ true → led lower (x ∷ w) (is_tail label tail) (b ∷ a ++ c ∷ more) rest ≡ false
+    by_far : (t : Bool) → is_far x ≡ t → (l : Bool) → is_lettered (x ∷ w) ≡ l
+        → (t || (l || not (has c w) && stops_tail tail && not (is_word_tail tail))) ≡ true
+        → led lower (x ∷ w) (is_tail label tail) (b ∷ a ++ c ∷ more) rest ≡ false
     by_far true p l q k = rw (far_lower x b p (not_not (is_far b) (fst (not (is_far b)) (not (begins_words b) || begins (leaves_words b) a) near))) refl
     by_far false p true q k = row_lettered label tail x w b (a ++ c ∷ more) rest q (spread b a c more rest near)
-    by_far false p false q k = rw (led_cross label c tail e (snd (not (has c w)) (stops_tail tail) (fst (not (has c w) && stops_tail tail) (not (is_word_tail tail)) k)) w (not_not (has c w) (fst (not (has c w)) (stops_tail tail) (fst (not (has c w) && stops_tail tail) (not (is_word_tail tail)) k))) a more rest) (and_false (nat_eq x (lower b)))
+    by_far false p false q k = rw (led_cross label c tail e (snd (not (has c w)) (stops_tail tail)
+        (fst (not (has c w) && stops_tail tail) (not (is_word_tail tail)) k)) w
+        (not_not (has c w) (fst (not (has c w)) (stops_tail tail)
+        (fst (not (has c w) && stops_tail tail) (not (is_word_tail tail)) k))) a more rest)
+        (and_false (nat_eq x (lower b)))
 
 -- No token that looks near has a bracket behind its first byte.
-pub rows_cross : (label : List ℕ) (c : ℕ) (rows : List Row) → is_bracket c ≡ true → stops_rows c rows ≡ true → (b : ℕ) (a : List ℕ) → is_near b a ≡ true → (more rest : List ℕ) → kind_by label rows (b ∷ a ++ c ∷ more) rest ≡ None
+pub rows_cross : (label : List ℕ) (c : ℕ) (rows : List Row) → is_bracket c ≡ true → stops_rows c rows ≡ true
+    → (b : ℕ) (a : List ℕ) → is_near b a ≡ true → (more rest : List ℕ)
+    → kind_by label rows (b ∷ a ++ c ∷ more) rest ≡ None
 rows_cross label c [] e h b a near more rest = refl
-rows_cross label c (rule kind w tail ∷ rows) e h b a near more rest = rw (row_cross label c kind w tail e (fst (stops_row c (rule kind w tail)) (stops_rows c rows) h) b a near more rest) (rows_cross label c rows e (snd (stops_row c (rule kind w tail)) (stops_rows c rows) h) b a near more rest)
+rows_cross label c (rule kind w tail ∷ rows) e h b a near more rest =
+    rw (row_cross label c kind w tail e (fst (stops_row c (rule kind w tail)) (stops_rows c rows) h) b a near more
+    rest) (rows_cross label c rows e (snd (stops_row c (rule kind w tail)) (stops_rows c rows) h) b a near more rest)
 
 -- ---- what follows is not asked
 
-run_blind : (r : Run) (label : List ℕ) → ((s : State) (b : ℕ) (u v : List ℕ) → goes r label s b u ≡ goes r label s b v) → (s : State) (text u v : List ℕ) → is_run r label s text u ≡ is_run r label s text v
+run_blind : (r : Run) (label : List ℕ) → ((s : State) (b : ℕ) (u v : List ℕ)
+    → goes r label s b u ≡ goes r label s b v) → (s : State) (text u v : List ℕ)
+    → is_run r label s text u ≡ is_run r label s text v
 run_blind r label h s [] u v = refl
 run_blind r label h s (b ∷ bs) u v = rw (h s b (bs ++ u) (bs ++ v), run_blind r label h (moved r s b) bs u v) refl
 
@@ -238,12 +258,15 @@ tail_blind label BracedName h k text u v = absurd cc
 tail_blind label EndLine h k text u v = absurd cc
 tail_blind label NowdocRest h k text u v = absurd cc
 
-pub led_blind : (label : List ℕ) (tail : Tail) → stops_tail tail ≡ true → is_word_tail tail ≡ false → (w text u v : List ℕ) → led lower w (is_tail label tail) text u ≡ led lower w (is_tail label tail) text v
+pub led_blind : (label : List ℕ) (tail : Tail) → stops_tail tail ≡ true → is_word_tail tail ≡ false
+    → (w text u v : List ℕ) → led lower w (is_tail label tail) text u ≡ led lower w (is_tail label tail) text v
 led_blind label tail h k [] text u v = tail_blind label tail h k text u v
 led_blind label tail h k (x ∷ w) [] u v = refl
 led_blind label tail h k (x ∷ w) (b ∷ bs) u v = ap (λ (y : Bool). nat_eq x (lower b) && y) (led_blind label tail h k w bs u v)
 
-row_blind : (label : List ℕ) (c : ℕ) (kind : Kind) (w : List ℕ) (tail : Tail) → stops_row c (rule kind w tail) ≡ true → (b : ℕ) → is_far b ≡ false → (t u v : List ℕ) → GoesOn b t u → GoesOn b t v → led lower w (is_tail label tail) (b ∷ t) u ≡ led lower w (is_tail label tail) (b ∷ t) v
+row_blind : (label : List ℕ) (c : ℕ) (kind : Kind) (w : List ℕ) (tail : Tail) → stops_row c (rule kind w tail) ≡ true
+    → (b : ℕ) → is_far b ≡ false → (t u v : List ℕ) → GoesOn b t u → GoesOn b t v
+    → led lower w (is_tail label tail) (b ∷ t) u ≡ led lower w (is_tail label tail) (b ∷ t) v
 row_blind label c kind [] tail h b q t u v g k = by_word tail h (is_word_tail tail) refl
   where
     by_word : (tail : Tail) → stops_tail tail ≡ true → (x : Bool) → is_word_tail tail ≡ x → is_tail label tail (b ∷ t) u ≡ is_tail label tail (b ∷ t) v
@@ -258,13 +281,20 @@ row_blind label c kind [] tail h b q t u v g k = by_word tail h (is_word_tail ta
     by_word NowdocRest h x p = absurd cc
 row_blind label c kind (x ∷ w) tail h b q t u v g k = by_far (is_far x) refl (is_lettered (x ∷ w)) refl h
   where
-    by_far : (y : Bool) → is_far x ≡ y → (l : Bool) → is_lettered (x ∷ w) ≡ l → (y || (l || not (has c w) && stops_tail tail && not (is_word_tail tail))) ≡ true → led lower (x ∷ w) (is_tail label tail) (b ∷ t) u ≡ led lower (x ∷ w) (is_tail label tail) (b ∷ t) v
+    by_far : (y : Bool) → is_far x ≡ y → (l : Bool) → is_lettered (x ∷ w) ≡ l
+        → (y || (l || not (has c w) && stops_tail tail && not (is_word_tail tail))) ≡ true
+        → led lower (x ∷ w) (is_tail label tail) (b ∷ t) u ≡ led lower (x ∷ w) (is_tail label tail) (b ∷ t) v
     by_far true p l m n = rw (far_lower x b p q) refl
     by_far false p true m n = row_lettered label tail x w b t u m g ∙ sym (row_lettered label tail x w b t v m k)
-    by_far false p false m n = led_blind label tail (snd (not (has c w)) (stops_tail tail) (fst (not (has c w) && stops_tail tail) (not (is_word_tail tail)) n)) (not_not (is_word_tail tail) (snd (not (has c w) && stops_tail tail) (not (is_word_tail tail)) n)) (x ∷ w) (b ∷ t) u v
+    by_far false p false m n =
+        led_blind label tail (snd (not (has c w)) (stops_tail tail)
+        (fst (not (has c w) && stops_tail tail) (not (is_word_tail tail)) n))
+        (not_not (is_word_tail tail) (snd (not (has c w) && stops_tail tail) (not (is_word_tail tail)) n)) (x ∷ w)
+        (b ∷ t) u v
 
 -- A text that looks near is a token or none whatever follows it.
-pub rows_blind : (label : List ℕ) (c : ℕ) (rows : List Row) → stops_rows c rows ≡ true → (b : ℕ) → is_far b ≡ false → (t u v : List ℕ) → GoesOn b t u → GoesOn b t v → kind_by label rows (b ∷ t) u ≡ kind_by label rows (b ∷ t) v
+pub rows_blind : (label : List ℕ) (c : ℕ) (rows : List Row) → stops_rows c rows ≡ true → (b : ℕ) → is_far b ≡ false
+    → (t u v : List ℕ) → GoesOn b t u → GoesOn b t v → kind_by label rows (b ∷ t) u ≡ kind_by label rows (b ∷ t) v
 rows_blind label c [] h b q t u v g k = refl
 rows_blind label c (rule kind w tail ∷ rows) h b q t u v g k =
     let first = row_blind label c kind w tail (fst (stops_row c (rule kind w tail)) (stops_rows c rows) h) b q t u v g k in

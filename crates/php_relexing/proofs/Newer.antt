@@ -19,7 +19,9 @@ pub backslash_none : (bs : List ℕ) → begins is_letter bs ≡ false → shape
 backslash_none [] h = refl
 backslash_none (b ∷ bs) h = rw h refl
 
-label_by : (b : ℕ) (bs : List ℕ) (x y : Bool) → is_label_byte b ≡ x → nat_eq b 92 ≡ y → (goes_deeper bs ≡ false → shape_len shape.Name FirstLabel bs ≡ None) → cond x (goes_deeper bs) (y && begins is_letter bs) ≡ false → shape_len shape.Name FirstLabel (b ∷ bs) ≡ None
+label_by : (b : ℕ) (bs : List ℕ) (x y : Bool) → is_label_byte b ≡ x → nat_eq b 92 ≡ y
+    → (goes_deeper bs ≡ false → shape_len shape.Name FirstLabel bs ≡ None)
+    → cond x (goes_deeper bs) (y && begins is_letter bs) ≡ false → shape_len shape.Name FirstLabel (b ∷ bs) ≡ None
 label_by b bs true y p q ih e = rw (p, ih e) refl
 label_by b bs false true p q ih e = rw (p, q, backslash_none bs e) refl
 label_by b bs false false p q ih e = rw (p, q) refl

@@ -4,7 +4,28 @@ use Rattle.std.proofs.lemmas.Bool.Decides.{nat_tests}
 use Rattle.php_spellings.specs.declared.table.Shape.{Shape}
 use Rattle.php_spellings.specs.declared.table.Shape.TheVariants as shape
 use Rattle.php_spellings.specs.declared.table.Spot.{Spot}
-use Rattle.php_spellings.specs.declared.table.Spot.TheVariants.{Begin, Whole, WholeGap, LeadPoint, Point, Part, PartGap, Mark, Sign, Power, PowerGap, FirstLabel, Backslash, LaterLabel, OpenedLabel, QuotedLabel, ClosedLabel, Return, Line, Stuck}
+use Rattle.php_spellings.specs.declared.table.Spot.TheVariants.{
+  Begin,
+  Whole,
+  WholeGap,
+  LeadPoint,
+  Point,
+  Part,
+  PartGap,
+  Mark,
+  Sign,
+  Power,
+  PowerGap,
+  FirstLabel,
+  Backslash,
+  LaterLabel,
+  OpenedLabel,
+  QuotedLabel,
+  ClosedLabel,
+  Return,
+  Line,
+  Stuck,
+}
 use Rattle.php_spellings.specs.Bytes.{is_blank_byte, is_space, is_digit, is_letter, is_label_byte, lower}
 use Rattle.php_lexer.specs.Shapes.{is_octal_digit, is_binary_digit, is_hex_digit, is_exponent, is_sign, step, is_stuck, has_shape}
 use Rattle.php_relexing.specs.Tiles.{is_bracket}

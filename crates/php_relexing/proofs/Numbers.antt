@@ -3,7 +3,28 @@ use Rattle.std.proofs.Common.{◌≡◌, ℕ, Bool, true, false, not, List, [], 
 use Rattle.php_spellings.specs.declared.table.Shape.{Shape}
 use Rattle.php_spellings.specs.declared.table.Shape.TheVariants as shape
 use Rattle.php_spellings.specs.declared.table.Spot.{Spot}
-use Rattle.php_spellings.specs.declared.table.Spot.TheVariants.{Begin, Whole, WholeGap, LeadPoint, Point, Part, PartGap, Mark, Sign, Power, PowerGap, FirstLabel, Backslash, LaterLabel, OpenedLabel, QuotedLabel, ClosedLabel, Return, Line, Stuck}
+use Rattle.php_spellings.specs.declared.table.Spot.TheVariants.{
+  Begin,
+  Whole,
+  WholeGap,
+  LeadPoint,
+  Point,
+  Part,
+  PartGap,
+  Mark,
+  Sign,
+  Power,
+  PowerGap,
+  FirstLabel,
+  Backslash,
+  LaterLabel,
+  OpenedLabel,
+  QuotedLabel,
+  ClosedLabel,
+  Return,
+  Line,
+  Stuck,
+}
 use Rattle.php_lexer.specs.Shapes.{step, is_stuck, has_shape}
 use Rattle.php_relexing.specs.Alike.{breaks, is_break}
 use Rattle.php_relexing.proofs.Bools.{and_false}

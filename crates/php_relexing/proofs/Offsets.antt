@@ -1,5 +1,37 @@
 -- The token of a simple offset stays before its `]`.
-use Rattle.std.proofs.Common.{◌≡◌, ℕ, zero, suc, ◌+◌, ◌-◌, ◌<◌, ◌≤◌, Bool, true, false, not, ◌&&◌, nat_eq, List, [], ◌∷◌, ◌++◌, length, take, drop, ◌⊎◌, inl, inr, None, refl, sym, ap, ◌∙◌, subst, arith}
+use Rattle.std.proofs.Common.{
+  ◌≡◌,
+  ℕ,
+  zero,
+  suc,
+  ◌+◌,
+  ◌-◌,
+  ◌<◌,
+  ◌≤◌,
+  Bool,
+  true,
+  false,
+  not,
+  ◌&&◌,
+  nat_eq,
+  List,
+  [],
+  ◌∷◌,
+  ◌++◌,
+  length,
+  take,
+  drop,
+  ◌⊎◌,
+  inl,
+  inr,
+  None,
+  refl,
+  sym,
+  ap,
+  ◌∙◌,
+  subst,
+  arith,
+}
 use Rattle.std.proofs.lemmas.Bool.{cases_lt, and_parts}
 use Rattle.std.proofs.lemmas.List.{take-append-le, length-append}
 use Rattle.std.proofs.Math.Seq.{take-append-add}
@@ -24,7 +56,8 @@ abbrev all_fit : List Row → Bool
 all_fit [] = true
 all_fit (row ∷ rows) = fits row && all_fit rows
 
-row_blind : (kind : Kind) (w : List ℕ) (tail : Tail) → fits (rule kind w tail) ≡ true → (text u v : List ℕ) → led lower w (is_tail [] tail) text u ≡ led lower w (is_tail [] tail) text v
+row_blind : (kind : Kind) (w : List ℕ) (tail : Tail) → fits (rule kind w tail) ≡ true → (text u v : List ℕ)
+    → led lower w (is_tail [] tail) text u ≡ led lower w (is_tail [] tail) text v
 row_blind kind [] tail h text u v =
     let (stops, plain) = and_parts (stops_tail tail) (not (is_word_tail tail)) h in
     led_blind [] tail stops (not_it (is_word_tail tail) plain) [] text u v
@@ -39,7 +72,8 @@ rows_blind (rule kind w tail ∷ rows) h text u v =
     let (first, more) = and_parts (fits (rule kind w tail)) (all_fit rows) h in
     rw (row_blind kind w tail first text u v, rows_blind rows more text u v) refl
 
-row_cross : (kind : Kind) (w : List ℕ) (tail : Tail) → fits (rule kind w tail) ≡ true → (b : ℕ) (a more rest : List ℕ) → led lower w (is_tail [] tail) (b ∷ a ++ 93 ∷ more) rest ≡ false
+row_cross : (kind : Kind) (w : List ℕ) (tail : Tail) → fits (rule kind w tail) ≡ true → (b : ℕ) (a more rest : List ℕ)
+    → led lower w (is_tail [] tail) (b ∷ a ++ 93 ∷ more) rest ≡ false
 row_cross kind [] tail h b a more rest =
     let (stops, plain) = and_parts (stops_tail tail) (not (is_word_tail tail)) h in
     tail_cross [] 93 tail refl stops (b ∷ a) more rest

@@ -25,7 +25,8 @@ some_more (Some n) = refl
 abbrev byte_step : Bool → Bool → Option ℕ → Option ℕ
 byte_step bar close x = cond bar None (cond close (Some 1) (add_to 1 x))
 
-end_by : (blank bracket : Bool) (x : Option ℕ) (more : Bool) → is_some x ≡ more → (blank && bracket) ≡ false → is_some (byte_step (not (blank || bracket)) bracket x) ≡ cond blank more bracket
+end_by : (blank bracket : Bool) (x : Option ℕ) (more : Bool) → is_some x ≡ more → (blank && bracket) ≡ false
+    → is_some (byte_step (not (blank || bracket)) bracket x) ≡ cond blank more bracket
 end_by true true x more e h = absurd cc
 end_by true false x more e h = some_more x ∙ e
 end_by false true x more e h = refl
@@ -45,7 +46,9 @@ ends_len (b ∷ bs) = end_by (is_blank_byte b) (nat_eq b 41) (until_len CastWord
 letter_apart : (b : ℕ) → is_letter b ≡ true → (is_blank_byte b ≡ false) × (nat_eq b 41 ≡ false)
 letter_apart b h = (grind (arith, nat_tests), grind (arith, nat_tests))
 
-word_by : (b : ℕ) (bs : List ℕ) (t : Bool) → is_letter b ≡ t → is_some (until_len CastWord Plain bs) ≡ goes_cast bs → (u : Bool) → is_blank_byte b ≡ u → is_some (until_len CastWord Plain (b ∷ bs)) ≡ cond t (goes_cast bs) (ends_cast (b ∷ bs))
+word_by : (b : ℕ) (bs : List ℕ) (t : Bool) → is_letter b ≡ t → is_some (until_len CastWord Plain bs) ≡ goes_cast bs
+    → (u : Bool) → is_blank_byte b ≡ u → is_some (until_len CastWord Plain (b ∷ bs)) ≡ cond t (goes_cast bs)
+    (ends_cast (b ∷ bs))
 word_by b bs true e ih u f = let no = letter_apart b e in rw (e, no.0, no.1) (some_more (until_len CastWord Plain bs) ∙ ih)
 word_by b bs false e ih true f = let no = blank_bracket b in by_bracket (nat_eq b 41) refl
   where
@@ -62,7 +65,9 @@ goes_len : (bs : List ℕ) → is_some (until_len CastWord Plain bs) ≡ goes_ca
 goes_len [] = refl
 goes_len (b ∷ bs) = word_by b bs (is_letter b) refl (goes_len bs) (is_blank_byte b) refl
 
-first_by : (b : ℕ) (bs : List ℕ) (t y : Bool) → is_blank_byte b ≡ t → begins_type (b ∷ bs) ≡ y → is_some (until_len CastWord First bs) ≡ begins_cast bs → is_some (until_len CastWord First (b ∷ bs)) ≡ cond t (begins_cast bs) (y && goes_cast bs)
+first_by : (b : ℕ) (bs : List ℕ) (t y : Bool) → is_blank_byte b ≡ t → begins_type (b ∷ bs) ≡ y
+    → is_some (until_len CastWord First bs) ≡ begins_cast bs
+    → is_some (until_len CastWord First (b ∷ bs)) ≡ cond t (begins_cast bs) (y && goes_cast bs)
 first_by b bs true y e f ih = rw e (some_more (until_len CastWord First bs) ∙ ih)
 first_by b bs false true e f ih = rw (e, f) (some_more (until_len CastWord Plain bs) ∙ goes_len bs)
 first_by b bs false false e f ih = rw (e, f) refl
@@ -84,6 +89,8 @@ op_alone (Some n) e = absurd (by_kind (add_to 1 (Some n)) e)
 
 pub openings_are_uncast : OpeningsAreUncast
 openings_are_uncast = record {
-  opens = λ v s h. longest_of v code (40 ∷ s) Op 1 (cast_scan v s ∙ ap (λ (o : Option ℕ). longer Cast (add_to 1 o) (Some (Op, 1))) (none_is (until_len CastWord First s) (cast_len s ∙ h)));
+  opens = λ v s h. longest_of v code (40 ∷ s) Op 1
+      (cast_scan v s ∙ ap (λ (o : Option ℕ). longer Cast (add_to 1 o) (Some (Op, 1)))
+      (none_is (until_len CastWord First s) (cast_len s ∙ h)));
   none = λ v r h. sym (cast_len r) ∙ op_alone (until_len CastWord First r) (sym (cast_scan v r) ∙ scan_of v code (40 ∷ r) Op 1 h);
 }

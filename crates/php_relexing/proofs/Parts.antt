@@ -1,5 +1,32 @@
 -- The tokens of the parts of quoted texts.
-use Rattle.std.proofs.Common.{◌≡◌, ℕ, suc, ◌+◌, Bool, true, false, not, ◌&&◌, ◌||◌, nat_eq, List, [], ◌∷◌, ◌++◌, length, codes, Option, Some, None, refl, sym, ap, ◌∙◌, subst, arith}
+use Rattle.std.proofs.Common.{
+  ◌≡◌,
+  ℕ,
+  suc,
+  ◌+◌,
+  Bool,
+  true,
+  false,
+  not,
+  ◌&&◌,
+  ◌||◌,
+  nat_eq,
+  List,
+  [],
+  ◌∷◌,
+  ◌++◌,
+  length,
+  codes,
+  Option,
+  Some,
+  None,
+  refl,
+  sym,
+  ap,
+  ◌∙◌,
+  subst,
+  arith,
+}
 use Rattle.std.proofs.lemmas.Bool.{and_parts}
 use Rattle.std.proofs.lemmas.Bool.Decides.{nat_tests}
 use Rattle.php_tree.specs.declared.version.Version.{Version}
@@ -98,11 +125,14 @@ counted n =
     let size : 1 + (1 + n) ≡ suc (suc n) = omega arith in
     rw (some, size) refl
 
-variable_front : (label : List ℕ) (c : ℕ) (l s : List ℕ) → is_letter c ≡ true → all_label l ≡ true → begins is_label_byte s ≡ false → front_rows label (36 ∷ c ∷ l ++ s) None ≡ found Variable (suc (suc (length l)))
+variable_front : (label : List ℕ) (c : ℕ) (l s : List ℕ) → is_letter c ≡ true → all_label l ≡ true
+    → begins is_label_byte s ≡ false → front_rows label (36 ∷ c ∷ l ++ s) None ≡ found Variable (suc (suc (length l)))
 unfolding front_rows
 variable_front label c l s h k e = rw (h, label_run label l s k e, counted (length l), no_brace c h) refl
 
-variable_scan : (v : Version) (mark : Mark) (label : List ℕ) (fresh : Bool) (c : ℕ) (l s : List ℕ) → is_labelled mark label ≡ true → is_letter c ≡ true → all_label l ≡ true → begins is_label_byte s ≡ false → scan v (quoted mark label fresh) (36 ∷ c ∷ l ++ s) ≡ found Variable (suc (suc (length l)))
+variable_scan : (v : Version) (mark : Mark) (label : List ℕ) (fresh : Bool) (c : ℕ) (l s : List ℕ)
+    → is_labelled mark label ≡ true → is_letter c ≡ true → all_label l ≡ true → begins is_label_byte s ≡ false
+    → scan v (quoted mark label fresh) (36 ∷ c ∷ l ++ s) ≡ found Variable (suc (suc (length l)))
 variable_scan v mark label fresh c l s m h k e =
     let part : begins_part 36 (c ∷ l ++ s) ≡ true = rw h refl in
     by_rows v mark label fresh (36 ∷ c ∷ l ++ s)
@@ -113,7 +143,8 @@ curly_front : (label s : List ℕ) → begins_by 36 s ≡ true → front_rows la
 unfolding front_rows
 curly_front label s h = rw h refl
 
-curly_scan : (v : Version) (mark : Mark) (label : List ℕ) (fresh : Bool) (s : List ℕ) → is_labelled mark label ≡ true → begins_by 36 s ≡ true → scan v (quoted mark label fresh) (123 ∷ s) ≡ found CurlyOpen 1
+curly_scan : (v : Version) (mark : Mark) (label : List ℕ) (fresh : Bool) (s : List ℕ) → is_labelled mark label ≡ true
+    → begins_by 36 s ≡ true → scan v (quoted mark label fresh) (123 ∷ s) ≡ found CurlyOpen 1
 curly_scan v mark label fresh s m h =
     by_rows v mark label fresh (123 ∷ s) ∙ ap (front_rows label (123 ∷ s)) (at_brace mark label fresh s m h) ∙ curly_front label s h
 
@@ -123,7 +154,9 @@ abbrev is_variable_kind : Kind → Bool
 is_variable_kind Variable = true
 is_variable_kind _ = false
 
-variable_meets : (v : Version) (mark : Mark) (label : List ℕ) (fresh : Bool) (b : ℕ) (a r : List ℕ) → IsLongest v (quoted mark label fresh) (b ∷ a ++ r) Variable (suc (length a)) → (nat_eq 36 (lower b) && (not (is_empty a) && is_run Labels label First a r) || false) ≡ true
+variable_meets : (v : Version) (mark : Mark) (label : List ℕ) (fresh : Bool) (b : ℕ) (a r : List ℕ)
+    → IsLongest v (quoted mark label fresh) (b ∷ a ++ r) Variable (suc (length a))
+    → (nat_eq 36 (lower b) && (not (is_empty a) && is_run Labels label First a r) || false) ≡ true
 variable_meets v Double label true b a r h = longest_meets is_variable_kind v (quoted Double label true) (b ∷ a) r Variable refl h
 variable_meets v Double label false b a r h = longest_meets is_variable_kind v (quoted Double label false) (b ∷ a) r Variable refl h
 variable_meets v Back label true b a r h = longest_meets is_variable_kind v (quoted Back label true) (b ∷ a) r Variable refl h
@@ -131,11 +164,15 @@ variable_meets v Back label false b a r h = longest_meets is_variable_kind v (qu
 variable_meets v Here label true b a r h = longest_meets is_variable_kind v (quoted Here label true) (b ∷ a) r Variable refl h
 variable_meets v Here label false b a r h = longest_meets is_variable_kind v (quoted Here label false) (b ∷ a) r Variable refl h
 
-variable_by : (w : Version) (mark : Mark) (label : List ℕ) (fresh : Bool) (b : ℕ) (a r s : List ℕ) → is_labelled mark label ≡ true → begins is_label_byte s ≡ false → nat_eq 36 (lower b) ≡ true → (not (is_empty a) && is_run Labels label First a r) ≡ true → IsLongest w (quoted mark label fresh) (b ∷ a ++ s) Variable (suc (length a))
+variable_by : (w : Version) (mark : Mark) (label : List ℕ) (fresh : Bool) (b : ℕ) (a r s : List ℕ)
+    → is_labelled mark label ≡ true → begins is_label_byte s ≡ false → nat_eq 36 (lower b) ≡ true
+    → (not (is_empty a) && is_run Labels label First a r) ≡ true
+    → IsLongest w (quoted mark label fresh) (b ∷ a ++ s) Variable (suc (length a))
 variable_by w mark label fresh b [] r s m e first h = absurd cc
 variable_by w mark label fresh b (c ∷ l) r s m e first h =
     let (letter, more) = and_parts (is_letter c) (is_run Labels label Plain l r) h in
-    let there = longest_of w (quoted mark label fresh) (36 ∷ c ∷ l ++ s) Variable (suc (suc (length l))) (variable_scan w mark label fresh c l s m letter (plain_run l label r more) e) in
+    let there = longest_of w (quoted mark label fresh) (36 ∷ c ∷ l ++ s) Variable (suc (suc (length l)))
+    (variable_scan w mark label fresh c l s m letter (plain_run l label r more) e) in
     subst (λ (x : ℕ). IsLongest w (quoted mark label fresh) (x ∷ c ∷ l ++ s) Variable (suc (suc (length l)))) (sym (mark_same 36 b refl first)) there
 
 pub text_variables_stay : TextVariablesStay
@@ -175,11 +212,14 @@ label_row n =
 no_arrow : (b : ℕ) → is_letter b ≡ true → (nat_eq 45 (lower b) ≡ false) × (nat_eq 63 (lower b) ≡ false)
 no_arrow b h = (grind (arith, nat_tests), grind (arith, nat_tests))
 
-label_scan : (w : Version) (b : ℕ) (a s : List ℕ) → is_letter b ≡ true → all_label a ≡ true → begins is_label_byte s ≡ false → scan w property (b ∷ a ++ s) ≡ found Label (suc (length a))
+label_scan : (w : Version) (b : ℕ) (a s : List ℕ) → is_letter b ≡ true → all_label a ≡ true
+    → begins is_label_byte s ≡ false → scan w property (b ∷ a ++ s) ≡ found Label (suc (length a))
 label_scan V74 b a s h k e = let no = no_arrow b h in rw (no.0, h, label_run [] a s k e, label_row (length a)) refl
 label_scan V83 b a s h k e = let no = no_arrow b h in rw (no.0, no.1, h, label_run [] a s k e, label_row (length a)) refl
 
-label_by : (w : Version) (b : ℕ) (a r s : List ℕ) → begins is_label_byte s ≡ false → (is_letter b && is_run Labels [] Plain a r || false) ≡ true → IsLongest w property (b ∷ a ++ s) Label (suc (length a))
+label_by : (w : Version) (b : ℕ) (a r s : List ℕ) → begins is_label_byte s ≡ false
+    → (is_letter b && is_run Labels [] Plain a r || false) ≡ true
+    → IsLongest w property (b ∷ a ++ s) Label (suc (length a))
 label_by w b a r s e h =
     let (letter, more) = and_parts (is_letter b) (is_run Labels [] Plain a r) (or_none _ h) in
     longest_of w property (b ∷ a ++ s) Label (suc (length a)) (label_scan w b a s letter (plain_run a [] r more) e)
@@ -197,6 +237,8 @@ simple_parts_stay = record {
     arrows V74 s = longest_of V74 property (45 ∷ 62 ∷ s) Op 2 refl
     arrows V83 s = longest_of V83 property (45 ∷ 62 ∷ s) Op 2 refl
 
-    labels : (v w : Version) (b : ℕ) (a r s : List ℕ) → begins is_label_byte s ≡ false → IsLongest v property (b ∷ a ++ r) Label (suc (length a)) → IsLongest w property (b ∷ a ++ s) Label (suc (length a))
+    labels : (v w : Version) (b : ℕ) (a r s : List ℕ) → begins is_label_byte s ≡ false
+        → IsLongest v property (b ∷ a ++ r) Label (suc (length a))
+        → IsLongest w property (b ∷ a ++ s) Label (suc (length a))
     labels V74 w b a r s e h = label_by w b a r s e (longest_meets is_label_kind V74 property (b ∷ a) r Label refl h)
     labels V83 w b a r s e h = label_by w b a r s e (longest_meets is_label_kind V83 property (b ∷ a) r Label refl h)

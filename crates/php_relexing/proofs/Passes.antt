@@ -4,7 +4,38 @@ use Rattle.std.proofs.Math.Seq.{take-append_seam, drop-append_seam}
 use Rattle.php_tree.specs.declared.version.Version.{Version}
 use Rattle.php_tree.specs.declared.version.Version.TheVariants.{V74, V83}
 use Rattle.php_spellings.specs.declared.table.Kind.{Kind}
-use Rattle.php_spellings.specs.declared.table.Kind.TheVariants.{Space, Comment, Tag, OpenEcho, InlineHtml, Variable, Word, Label, Keyword, Name, Decimal, Octal, Hexadecimal, Binary, Digits, Float, Text, Quote, Backtick, HeredocStart, Cast, Op, AttributeOpen, Semi, Close, Piece, CurlyOpen, DollarBrace, VarName, QuotedEnd}
+use Rattle.php_spellings.specs.declared.table.Kind.TheVariants.{
+  Space,
+  Comment,
+  Tag,
+  OpenEcho,
+  InlineHtml,
+  Variable,
+  Word,
+  Label,
+  Keyword,
+  Name,
+  Decimal,
+  Octal,
+  Hexadecimal,
+  Binary,
+  Digits,
+  Float,
+  Text,
+  Quote,
+  Backtick,
+  HeredocStart,
+  Cast,
+  Op,
+  AttributeOpen,
+  Semi,
+  Close,
+  Piece,
+  CurlyOpen,
+  DollarBrace,
+  VarName,
+  QuotedEnd,
+}
 use Rattle.php_spellings.specs.declared.table.Mark.{Mark}
 use Rattle.php_lexer.specs.Modes.{Mode, html, code, named, quoted, offset, property, IsLongest, turn_of, part_turn, begins_arrow}
 use Rattle.php_lexer.specs.Lexed.{Stack, after, turned_by}
@@ -18,7 +49,8 @@ joined_append (tile kind b a ∷ ts) us rest =
     ap (λ (u : List ℕ). b ∷ u)
     (append_assoc a (joined (ts ++ us)) rest ∙ ap (λ (u : List ℕ). a ++ u) (joined_append ts us rest) ∙ sym (append_assoc a (joined ts) (joined us ++ rest)))
 
-join : {v : Version} {k m n : Stack} {ts us : List Tile} {between : List ℕ} (rest : List ℕ) → between ≡ joined us ++ rest → Pass v between k ts m → Pass v rest m us n → Pass v rest k (ts ++ us) n
+join : {v : Version} {k m n : Stack} {ts us : List Tile} {between : List ℕ} (rest : List ℕ) → between ≡ joined us
+    ++ rest → Pass v between k ts m → Pass v rest m us n → Pass v rest k (ts ++ us) n
 join rest e nothing q = q
 join {v = v} {n = n} {us = us} {between = between} rest e (then {stack = stack} kind b a ts h p) q =
     let same : joined ts ++ between ≡ joined (ts ++ us) ++ rest = ap (λ (u : List ℕ). joined ts ++ u) e ∙ sym (joined_append ts us rest) in
@@ -56,7 +88,9 @@ or_false false y h = sym h
 part_agrees : (mode : Mode) (rest : List ℕ) → begins_nullsafe rest ≡ false → part_turn V74 mode rest ≡ part_turn V83 mode rest
 part_agrees m rest h = rw (h, sym (or_false (begins_arrow rest) false refl)) refl
 
-quoted_agrees : (mark : Mark) (label : List ℕ) (fresh : Bool) (kind : Kind) (text rest : List ℕ) → begins_nullsafe rest ≡ false → turn_of V74 (quoted mark label fresh) kind text rest ≡ turn_of V83 (quoted mark label fresh) kind text rest
+quoted_agrees : (mark : Mark) (label : List ℕ) (fresh : Bool) (kind : Kind) (text rest : List ℕ)
+    → begins_nullsafe rest ≡ false → turn_of V74 (quoted mark label fresh) kind text rest ≡ turn_of V83
+    (quoted mark label fresh) kind text rest
 quoted_agrees mark label fresh Space text rest h = refl
 quoted_agrees mark label fresh Comment text rest h = refl
 quoted_agrees mark label fresh Tag text rest h = refl

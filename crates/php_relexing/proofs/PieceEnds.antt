@@ -33,7 +33,9 @@ no_ends Double label u v h y = tt
 no_ends Back label u v h y = tt
 no_ends Here label u v h y = absurd cc
 
-last_closing : (mark : Mark) (label : List ℕ) (s : State) (x u v : List ℕ) → ((y : List ℕ) → SameEnds mark label (closing mark ∷ u) (closing mark ∷ v) y) → LastFits mark label s x (closing mark ∷ u) (closing mark ∷ v)
+last_closing : (mark : Mark) (label : List ℕ) (s : State) (x u v : List ℕ)
+    → ((y : List ℕ) → SameEnds mark label (closing mark ∷ u) (closing mark ∷ v) y)
+    → LastFits mark label s x (closing mark ∷ u) (closing mark ∷ v)
 last_closing mark label s [] u v ends = tt
 last_closing mark label s (b ∷ []) u v ends = in_by mark label s b (closing mark ∷ u) (closing mark ∷ v) (ends (b ∷ [])) (λ e l. closing_fits mark b u v l)
 last_closing mark label s (b ∷ c ∷ x) u v ends = last_closing mark label (moved (Body mark) s b) (c ∷ x) u v ends
@@ -53,7 +55,9 @@ pieces_stay_before_ends v w mark label fresh a r s other h =
     let ends = no_ends mark label (closing mark ∷ r) (closing mark ∷ s) other in
     let open_ = not_escaped mark label (state_behind mark (from_line fresh) a) (closing mark) r is.stops in
     piece_is w mark label fresh a (closing mark ∷ s) (piece_some v mark label fresh a (closing mark ∷ r) h) (record {
-      run = over mark label (from_line fresh) a (closing mark ∷ r) (closing mark ∷ s) (each_end (SameEnds mark label (closing mark ∷ r) (closing mark ∷ s)) ends a) (last_closing mark label (from_line fresh) a r s ends) is.run;
+      run = over mark label (from_line fresh) a (closing mark ∷ r) (closing mark ∷ s)
+          (each_end (SameEnds mark label (closing mark ∷ r) (closing mark ∷ s)) ends a)
+          (last_closing mark label (from_line fresh) a r s ends) is.run;
       stops = closing_stops mark label (state_behind mark (from_line fresh) a) s other open_;
     })
 
@@ -78,7 +82,9 @@ bare_more mark s b c x is = record { front = b ∷ is.front; same = ap (λ (u : 
 bare_end : (mark : Mark) (s : State) (a : List ℕ) → ends_dollar (is_escaped s) a ≡ true → BareEnd mark s a
 bare_end mark s [] h = absurd cc
 bare_end mark s (b ∷ []) h = bare_one mark s b h
-bare_end mark s (b ∷ c ∷ x) h = bare_more mark s b c x (bare_end mark (moved (Body mark) s b) (c ∷ x) (subst (λ (t : Bool). ends_dollar t (c ∷ x) ≡ true) (sym (moved_escaped mark s b)) h))
+bare_end mark s (b ∷ c ∷ x) h =
+    bare_more mark s b c x (bare_end mark (moved (Body mark) s b) (c ∷ x)
+    (subst (λ (t : Bool). ends_dollar t (c ∷ x) ≡ true) (sym (moved_escaped mark s b)) h))
 
 -- runs over two texts
 run_front : (mark : Mark) (label : List ℕ) (s : State) (x y r : List ℕ) → is_run (Body mark) label s (x ++ y) r ≡ true → is_run (Body mark) label s x (y ++ r) ≡ true
@@ -87,7 +93,8 @@ run_front mark label s (b ∷ x) y r h =
     let (here, more) = and_parts (in_piece mark label s b ((x ++ y) ++ r)) (is_run (Body mark) label (moved (Body mark) s b) (x ++ y) r) h in
     rw (sym (append_assoc x y r), here, run_front mark label (moved (Body mark) s b) x y r more) refl
 
-run_join : (mark : Mark) (label : List ℕ) (s : State) (x y r : List ℕ) → is_run (Body mark) label s x (y ++ r) ≡ true → is_run (Body mark) label (state_behind mark s x) y r ≡ true → is_run (Body mark) label s (x ++ y) r ≡ true
+run_join : (mark : Mark) (label : List ℕ) (s : State) (x y r : List ℕ) → is_run (Body mark) label s x (y ++ r) ≡ true
+    → is_run (Body mark) label (state_behind mark s x) y r ≡ true → is_run (Body mark) label s (x ++ y) r ≡ true
 run_join mark label s [] y r h k = k
 run_join mark label s (b ∷ x) y r h k =
     let (here, more) = and_parts (in_piece mark label s b (x ++ (y ++ r))) (is_run (Body mark) label (moved (Body mark) s b) x (y ++ r)) h in
@@ -118,7 +125,9 @@ no_heredoc (l ∷ label) v h =
     stopper_ends label l 92 v byte backslash_stops
 
 -- `\` and `$` are of a piece, and no byte behind them is escaped
-slash_run : (mark : Mark) (label : List ℕ) (s : State) (r : List ℕ) → is_labelled mark label ≡ true → is_escaped s ≡ false → (is_run (Body mark) label s (92 ∷ 36 ∷ []) r ≡ true) × (is_escaped (state_behind mark s (92 ∷ 36 ∷ [])) ≡ false)
+slash_run : (mark : Mark) (label : List ℕ) (s : State) (r : List ℕ) → is_labelled mark label ≡ true
+    → is_escaped s ≡ false → (is_run (Body mark) label s (92 ∷ 36 ∷ []) r ≡ true)
+    × (is_escaped (state_behind mark s (92 ∷ 36 ∷ [])) ≡ false)
 slash_run Double label First r h e = (refl, refl)
 slash_run Double label Plain r h e = (refl, refl)
 slash_run Double label Escaped r h e = absurd cc
@@ -133,12 +142,16 @@ filled : (x : List ℕ) (b : ℕ) (y : List ℕ) → is_empty (x ++ b ∷ y) ≡
 filled [] b y = refl
 filled (c ∷ x) b y = refl
 
-escaped_piece : (mark : Mark) (label : List ℕ) (s : State) (a r w : List ℕ) → is_labelled mark label ≡ true → part_begins w ≡ true → (is : BareEnd mark s a) → is_run (Body mark) label s a r ≡ true → IsPiece mark label s (is.front ++ 92 ∷ 36 ∷ []) w
+escaped_piece : (mark : Mark) (label : List ℕ) (s : State) (a r w : List ℕ) → is_labelled mark label ≡ true
+    → part_begins w ≡ true → (is : BareEnd mark s a) → is_run (Body mark) label s a r ≡ true
+    → IsPiece mark label s (is.front ++ 92 ∷ 36 ∷ []) w
 escaped_piece mark label s a r w labelled new is run =
     let split : is_run (Body mark) label s (is.front ++ 36 ∷ []) r ≡ true = subst (λ (t : List ℕ). is_run (Body mark) label s t r ≡ true) is.same run in
     let front : is_run (Body mark) label s is.front (36 ∷ r) ≡ true = run_front mark label s is.front (36 ∷ []) r split in
     let ends = slash_ends_by mark label r (36 ∷ w) labelled in
-    let there = over mark label s is.front (36 ∷ r) (92 ∷ 36 ∷ w) (each_end (SameEnds mark label (36 ∷ r) (92 ∷ 36 ∷ w)) ends is.front) (last_slash mark label s is.front r (36 ∷ w) ends) front in
+    let there = over mark label s is.front (36 ∷ r) (92 ∷ 36 ∷ w)
+    (each_end (SameEnds mark label (36 ∷ r) (92 ∷ 36 ∷ w)) ends is.front)
+    (last_slash mark label s is.front r (36 ∷ w) ends) front in
     let two = slash_run mark label (state_behind mark s is.front) w labelled is.open_ in
     record {
       run = run_join mark label s is.front (92 ∷ 36 ∷ []) w there two.0;

@@ -77,7 +77,9 @@ ends_by Here label u v h p q y =
 
 -- ---- the last byte
 
-pub in_by : (mark : Mark) (label : List ℕ) (s : State) (b : ℕ) (u v : List ℕ) → SameEnds mark label u v (b ∷ []) → (is_escaped s ≡ false → begins_part b u ≡ false → begins_part b v ≡ false) → in_piece mark label s b u ≡ true → in_piece mark label s b v ≡ true
+pub in_by : (mark : Mark) (label : List ℕ) (s : State) (b : ℕ) (u v : List ℕ) → SameEnds mark label u v (b ∷ [])
+    → (is_escaped s ≡ false → begins_part b u ≡ false → begins_part b v ≡ false) → in_piece mark label s b u ≡ true
+    → in_piece mark label s b v ≡ true
 in_by mark label Escaped b u v e f h = refl
 in_by Double label First b u v e f h = let (x, y) = and_parts (not (nat_eq b 34)) (not (begins_part b u)) h in rw (x, f refl (not_it (begins_part b u) y)) refl
 in_by Double label Plain b u v e f h = let (x, y) = and_parts (not (nat_eq b 34)) (not (begins_part b u)) h in rw (x, f refl (not_it (begins_part b u) y)) refl
@@ -93,7 +95,9 @@ dollar_fits b u v = refl
 brace_fits : (b : ℕ) (v : List ℕ) → nat_eq b 36 ≡ false → begins_part b (123 ∷ v) ≡ false
 brace_fits b v h = rw h (and_false (nat_eq b 123))
 
-fits_by : (b c d : ℕ) (u v : List ℕ) (x y z : Bool) → nat_eq c 36 ≡ x → nat_eq d 36 ≡ y → nat_eq d 123 ≡ z → (x && y || (nat_eq c 123 || x) && z) ≡ true → (z && nat_eq b 36) ≡ false → begins_part b (c ∷ u) ≡ false → begins_part b (d ∷ v) ≡ false
+fits_by : (b c d : ℕ) (u v : List ℕ) (x y z : Bool) → nat_eq c 36 ≡ x → nat_eq d 36 ≡ y → nat_eq d 123 ≡ z
+    → (x && y || (nat_eq c 123 || x) && z) ≡ true → (z && nat_eq b 36) ≡ false → begins_part b (c ∷ u) ≡ false
+    → begins_part b (d ∷ v) ≡ false
 fits_by b c d u v x y true p q r h k l = subst (λ (t : ℕ). begins_part b (t ∷ v) ≡ false) (sym (eqb-true d 123 r)) (brace_fits b v k)
 fits_by b c d u v true true false p q r h k l =
     subst (λ (t : ℕ). begins_part b (t ∷ v) ≡ false) (sym (eqb-true d 36 q))
@@ -111,7 +115,8 @@ bare : (e t : Bool) (b : ℕ) → (t && (not e && nat_eq b 36)) ≡ false → e 
 bare true t b h p = absurd cc
 bare false t b h p = h
 
-last_fits : (mark : Mark) (label : List ℕ) (s : State) (x u v : List ℕ) → ((y : List ℕ) → SameEnds mark label u v y) → fronts u v ≡ true → (begins_by 123 v && ends_dollar (is_escaped s) x) ≡ false → LastFits mark label s x u v
+last_fits : (mark : Mark) (label : List ℕ) (s : State) (x u v : List ℕ) → ((y : List ℕ) → SameEnds mark label u v y)
+    → fronts u v ≡ true → (begins_by 123 v && ends_dollar (is_escaped s) x) ≡ false → LastFits mark label s x u v
 last_fits mark label s [] u v ends h k = tt
 last_fits mark label s (b ∷ []) u v ends h k = in_by mark label s b u v (ends (b ∷ [])) (λ e l. part_fits b u v h (bare (is_escaped s) (begins_by 123 v) b k e) l)
 last_fits mark label s (b ∷ c ∷ x) u v ends h k =
@@ -146,7 +151,8 @@ pub pieces_stay_before_parts : PiecesStayBeforeParts
 pieces_stay_before_parts v w mark label fresh a r s labelled old new front bare_end h =
     let is = piece_of v mark label fresh a r h in
     let ends = ends_by mark label r s labelled (part_front r old) (part_front s new) in
-    let dollar : (begins_by 123 s && ends_dollar (is_escaped (from_line fresh)) a) ≡ false = subst (λ (t : Bool). (begins_by 123 s && ends_dollar t a) ≡ false) (sym (line_state fresh)) bare_end in
+    let dollar : (begins_by 123 s && ends_dollar (is_escaped (from_line fresh)) a) ≡ false =
+    subst (λ (t : Bool). (begins_by 123 s && ends_dollar t a) ≡ false) (sym (line_state fresh)) bare_end in
     let fits = last_fits mark label (from_line fresh) a r s ends front dollar in
     piece_is w mark label fresh a s (piece_some v mark label fresh a r h) (record {
       run = over mark label (from_line fresh) a r s (each_end (SameEnds mark label r s) ends a) fits is.run;

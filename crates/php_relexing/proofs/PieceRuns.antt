@@ -56,8 +56,10 @@ at_other : (b : ℕ) (bs : List ℕ) (o : Option (Kind × ℕ)) → nat_eq b 36 
 unfolding others
 at_other b bs o p q = rw (other_head 36 b refl p, other_head 123 b refl q) refl
 
-others_by : (b : ℕ) (bs : List ℕ) (o : Option (Kind × ℕ)) (x y : Bool) → nat_eq b 36 ≡ x → nat_eq b 123 ≡ y → (x && begins (λ c. is_letter c || nat_eq c 123) bs || y && begins_by 36 bs) ≡ false → others (b ∷ bs) o ≡ o
-others_by b bs o true y p q h = subst (λ (x : ℕ). others (x ∷ bs) o ≡ o) (sym (eqb-true b 36 p)) (at_dollar bs o (or_false (begins (λ c. is_letter c || nat_eq c 123) bs) (y && begins_by 36 bs) h).0)
+others_by : (b : ℕ) (bs : List ℕ) (o : Option (Kind × ℕ)) (x y : Bool) → nat_eq b 36 ≡ x → nat_eq b 123 ≡ y
+    → (x && begins (λ c. is_letter c || nat_eq c 123) bs || y && begins_by 36 bs) ≡ false → others (b ∷ bs) o ≡ o
+others_by b bs o true y p q h = subst (λ (x : ℕ). others (x ∷ bs) o ≡ o) (sym (eqb-true b 36 p))
+    (at_dollar bs o (or_false (begins (λ c. is_letter c || nat_eq c 123) bs) (y && begins_by 36 bs) h).0)
 others_by b bs o false true p q h = subst (λ (x : ℕ). others (x ∷ bs) o ≡ o) (sym (eqb-true b 123 q)) (at_brace bs o h)
 others_by b bs o false false p q h = at_other b bs o p q
 
@@ -89,7 +91,8 @@ in_piece_is Double label true b bs h = let is = not_two (nat_eq b 34) (begins_pa
 in_piece_is Double label false b bs h = let is = not_two (nat_eq b 34) (begins_part b bs) h in record { plain = is.1; inside = rw (other_head 34 b refl is.0) refl }
 in_piece_is Back label true b bs h = let is = not_two (nat_eq b 96) (begins_part b bs) h in record { plain = is.1; inside = rw (other_head 96 b refl is.0) refl }
 in_piece_is Back label false b bs h = let is = not_two (nat_eq b 96) (begins_part b bs) h in record { plain = is.1; inside = rw (other_head 96 b refl is.0) refl }
-in_piece_is Here label true b bs h = let is = not_two (ends_heredoc label (b ∷ bs)) (begins_part b bs) h in record { plain = is.1; inside = rw (no_end_line label (b ∷ bs) is.0) refl }
+in_piece_is Here label true b bs h = let is = not_two (ends_heredoc label (b ∷ bs)) (begins_part b bs) h
+    in record { plain = is.1; inside = rw (no_end_line label (b ∷ bs) is.0) refl }
 in_piece_is Here label false b bs h = record { plain = not_it (begins_part b bs) h; inside = refl }
 
 -- ---- what is scanned
@@ -100,10 +103,14 @@ piece_row n =
     let same : 0 + (1 + n) ≡ 1 + n = omega arith in
     rw (some, same) refl
 
-some_piece : (mark : Mark) (label : List ℕ) (s : State) (b : ℕ) (bs : List ℕ) → in_piece mark label s b bs ≡ true → longer Piece (add_to 0 (some_len (piece_len mark label s (b ∷ bs)))) None ≡ found Piece (piece_len mark label s (b ∷ bs))
+some_piece : (mark : Mark) (label : List ℕ) (s : State) (b : ℕ) (bs : List ℕ) → in_piece mark label s b bs ≡ true
+    → longer Piece (add_to 0 (some_len (piece_len mark label s (b ∷ bs)))) None ≡ found Piece
+    (piece_len mark label s (b ∷ bs))
 some_piece mark label s b bs h = rw h (piece_row (piece_len mark label (moved (Body mark) s b) bs))
 
-pub piece_scan : (v : Version) (mark : Mark) (label : List ℕ) (fresh : Bool) (b : ℕ) (bs : List ℕ) → in_piece mark label (from_line fresh) b bs ≡ true → scan v (quoted mark label fresh) (b ∷ bs) ≡ found Piece (piece_len mark label (from_line fresh) (b ∷ bs))
+pub piece_scan : (v : Version) (mark : Mark) (label : List ℕ) (fresh : Bool) (b : ℕ) (bs : List ℕ)
+    → in_piece mark label (from_line fresh) b bs ≡ true → scan v (quoted mark label fresh) (b ∷ bs) ≡ found Piece
+    (piece_len mark label (from_line fresh) (b ∷ bs))
 unfolding others
 piece_scan v mark label fresh b bs h =
     let is = in_piece_is mark label fresh b bs h in

@@ -31,5 +31,6 @@ pub longest_of : (v : Version) (m : Mode) (bytes : List ℕ) (kind : Kind) (n : 
 longest_of v m bytes kind n e = scanned_longest v m bytes (found kind n) e
 
 -- what is scanned alike has the same longest token
-pub rescanned : (v w : Version) (m m' : Mode) (bytes bytes' : List ℕ) (kind : Kind) (n : ℕ) → scan v m bytes ≡ scan w m' bytes' → IsLongest v m bytes kind n → IsLongest w m' bytes' kind n
+pub rescanned : (v w : Version) (m m' : Mode) (bytes bytes' : List ℕ) (kind : Kind) (n : ℕ)
+    → scan v m bytes ≡ scan w m' bytes' → IsLongest v m bytes kind n → IsLongest w m' bytes' kind n
 rescanned v w m m' bytes bytes' kind n e h = longest_of w m' bytes' kind n (sym e ∙ scan_of v m bytes kind n h)

@@ -62,7 +62,8 @@ no_name b h = grind (arith, nat_tests)
 no_letter : (b : ℕ) → is_space b ≡ true → is_letter b ≡ false
 no_letter b h = grind (arith, nat_tests)
 
-row_is : (b : ℕ) (bs : List ℕ) (n : ℕ) → is_space b ≡ true → run_len Spaces [] Plain bs ≡ n → longer Space (behind lower [] (tail_len [] (SomeOf Spaces First)) (b ∷ bs)) None ≡ Some (Space, suc n)
+row_is : (b : ℕ) (bs : List ℕ) (n : ℕ) → is_space b ≡ true → run_len Spaces [] Plain bs ≡ n
+    → longer Space (behind lower [] (tail_len [] (SomeOf Spaces First)) (b ∷ bs)) None ≡ Some (Space, suc n)
 row_is b bs n h e = rw (h, e, counted n) refl
 
 scan_is : (v : Version) (b : ℕ) (bs : List ℕ) (n : ℕ) → is_space b ≡ true → run_len Spaces [] Plain bs ≡ n → scan v code (b ∷ bs) ≡ Some (Space, suc n)

@@ -10,7 +10,10 @@ use Rattle.php_lexer.specs.Lexed.{Stack, Lexed, ends, trivia, token, after}
 use Rattle.php_relexing.specs.Tiles.{Tile, joined}
 use Rattle.php_relexing.specs.Spelled.{Steps, done, step, lexeme_with, spelled, TilesAreTokens}
 
-module _ (v : Version) (stack : Stack) (lead : List ℕ) (kind : Kind) (b : ℕ) (a : List ℕ) (ts : List Tile) (h : IsLongest v stack.top (b ∷ a ++ joined ts) kind (suc (length a))) (rest : (l : List ℕ) → Lexed v (after v stack kind (suc (length a)) (b ∷ a ++ joined ts)) l (joined ts) (spelled l ts)) where
+module _ (v : Version) (stack : Stack) (lead : List ℕ) (kind : Kind) (b : ℕ) (a : List ℕ) (ts : List Tile)
+    (h : IsLongest v stack.top (b ∷ a ++ joined ts) kind (suc (length a)))
+    (rest : (l : List ℕ) → Lexed v (after v stack kind (suc (length a)) (b ∷ a ++ joined ts)) l (joined ts)
+    (spelled l ts)) where
   next : Stack
   next = after v stack kind (suc (length a)) (b ∷ a ++ joined ts)
 
@@ -23,7 +26,11 @@ module _ (v : Version) (stack : Stack) (lead : List ℕ) (kind : Kind) (b : ℕ)
   by_kind : (o : Option TokenKind) → token_of kind (b ∷ a) ≡ o → Lexed v stack lead (b ∷ a ++ joined ts) (lexeme_with o lead (b ∷ a) (λ l. spelled l ts))
   by_kind None e =
       let none : token_of kind (b ∷ take (length a) (a ++ joined ts)) ≡ None = ap (λ (u : List ℕ). token_of kind u) front ∙ e in
-      trivia kind (suc (length a)) h none (subst (λ (u : List ℕ). Lexed v (after v stack kind (suc (length a)) (b ∷ a ++ joined ts)) (lead ++ u) (drop (length a) (a ++ joined ts)) (spelled (lead ++ b ∷ a) ts)) (sym front) (subst (λ (u : List ℕ). Lexed v (after v stack kind (suc (length a)) (b ∷ a ++ joined ts)) (lead ++ b ∷ a) u (spelled (lead ++ b ∷ a) ts)) (sym back) (rest (lead ++ b ∷ a))))
+      trivia kind (suc (length a)) h none (subst (λ (u : List ℕ). Lexed v
+      (after v stack kind (suc (length a)) (b ∷ a ++ joined ts)) (lead ++ u) (drop (length a) (a ++ joined ts))
+      (spelled (lead ++ b ∷ a) ts)) (sym front)
+      (subst (λ (u : List ℕ). Lexed v (after v stack kind (suc (length a)) (b ∷ a ++ joined ts)) (lead ++ b ∷ a) u
+      (spelled (lead ++ b ∷ a) ts)) (sym back) (rest (lead ++ b ∷ a))))
   by_kind (Some k) e =
       let some : token_of kind (b ∷ take (length a) (a ++ joined ts)) ≡ Some k = ap (λ (u : List ℕ). token_of kind u) front ∙ e in
       subst (λ (u : List ℕ). Lexed v stack lead (b ∷ a ++ joined ts) (record { kind = k; lead = lead; text = u } ∷ spelled [] ts)) front

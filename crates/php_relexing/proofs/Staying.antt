@@ -1,5 +1,38 @@
 -- A near token of 7.4 stays where the bytes behind it go on alike.
-use Rattle.std.proofs.Common.{◌≡◌, ℕ, zero, suc, ◌+◌, ◌-◌, ◌<◌, ◌≤◌, Bool, true, false, not, ◌||◌, List, [], ◌∷◌, ◌++◌, length, take, drop, ◌⊎◌, inl, inr, None, refl, sym, ap, ◌∙◌, subst, append_assoc, append-nil, arith}
+use Rattle.std.proofs.Common.{
+  ◌≡◌,
+  ℕ,
+  zero,
+  suc,
+  ◌+◌,
+  ◌-◌,
+  ◌<◌,
+  ◌≤◌,
+  Bool,
+  true,
+  false,
+  not,
+  ◌||◌,
+  List,
+  [],
+  ◌∷◌,
+  ◌++◌,
+  length,
+  take,
+  drop,
+  ◌⊎◌,
+  inl,
+  inr,
+  None,
+  refl,
+  sym,
+  ap,
+  ◌∙◌,
+  subst,
+  append_assoc,
+  append-nil,
+  arith,
+}
 use Rattle.std.proofs.lemmas.Bool.{cases_lt, and_parts}
 use Rattle.std.proofs.lemmas.List.{take-append-le, length-append}
 use Rattle.std.proofs.Math.Seq.{take-append-add}
@@ -67,33 +100,51 @@ module _ (b : ℕ) (s r w : List ℕ) (old_near : is_near b (s ++ r) ≡ true) (
 
 -- ---- at a break, and at the end
 
-crossed : (b : ℕ) (s : List ℕ) (c : ℕ) (w : List ℕ) → is_break c ≡ true → IsTight b (s ++ c ∷ w) → (k : ℕ) (rest : List ℕ) → rest ≡ drop (length s + suc k) (s ++ c ∷ w) → kind_of V74 code (b ∷ take (length s + suc k) (s ++ c ∷ w)) rest ≡ None
+crossed : (b : ℕ) (s : List ℕ) (c : ℕ) (w : List ℕ) → is_break c ≡ true → IsTight b (s ++ c ∷ w)
+    → (k : ℕ) (rest : List ℕ) → rest ≡ drop (length s + suc k) (s ++ c ∷ w)
+    → kind_of V74 code (b ∷ take (length s + suc k) (s ++ c ∷ w)) rest ≡ None
 crossed b s c w e tight k rest is =
     let front : take (length s + suc k) (s ++ c ∷ w) ≡ s ++ c ∷ take k w = take-append-add s (c ∷ w) (suc k) in
     let goes = goes_on b (s ++ c ∷ w) (length s + suc k) tight.near in
-    let there : GoesOn b (s ++ c ∷ take k w) rest = subst (λ (t : List ℕ). GoesOn b t rest) front (subst (λ (u : List ℕ). GoesOn b (take (length s + suc k) (s ++ c ∷ w)) u) (sym is) goes) in
-    subst (λ (t : List ℕ). kind_of V74 code (b ∷ t) rest ≡ None) (sym front) (code_cross c e b s (take k w) rest (record { far = near_far b (s ++ c ∷ w) tight.near; solid = tight.solid; off = same_start b s c w (take k w) tight.open_; goes = there }))
+    let there : GoesOn b (s ++ c ∷ take k w) rest = subst (λ (t : List ℕ). GoesOn b t rest) front
+    (subst (λ (u : List ℕ). GoesOn b (take (length s + suc k) (s ++ c ∷ w)) u) (sym is) goes) in
+    subst (λ (t : List ℕ). kind_of V74 code (b ∷ t) rest ≡ None) (sym front)
+    (code_cross c e b s (take k w) rest (record {
+      far = near_far b (s ++ c ∷ w) tight.near;
+      solid =
+          tight.solid;
+      off = same_start b s c w (take k w) tight.open_;
+      goes = there;
+    }))
 
-none_past : (b : ℕ) (s : List ℕ) (c : ℕ) (w : List ℕ) → is_break c ≡ true → IsTight b (s ++ c ∷ w) → (j : ℕ) → length s < j → kind_of V74 code (b ∷ take j (s ++ c ∷ w)) (drop j (s ++ c ∷ w)) ≡ None
+none_past : (b : ℕ) (s : List ℕ) (c : ℕ) (w : List ℕ) → is_break c ≡ true → IsTight b (s ++ c ∷ w) → (j : ℕ)
+    → length s < j → kind_of V74 code (b ∷ take j (s ++ c ∷ w)) (drop j (s ++ c ∷ w)) ≡ None
 none_past b s c w e tight j lt =
     let k = j - length s - 1 in
     let size : j ≡ length s + suc k = omega arith in
     subst (λ (i : ℕ). kind_of V74 code (b ∷ take i (s ++ c ∷ w)) (drop i (s ++ c ∷ w)) ≡ None) (sym size) (crossed b s c w e tight k (drop (length s + suc k) (s ++ c ∷ w)) refl)
 
-at_break : (kind : Kind) (n b : ℕ) (s r : List ℕ) (c : ℕ) (w : List ℕ) → is_break c ≡ true → n ≤ length s → is_tight b (s ++ r) ≡ true → is_tight b (s ++ c ∷ w) ≡ true → IsLongest V74 code (b ∷ s ++ r) kind (suc n) → IsLongest V74 code (b ∷ s ++ c ∷ w) kind (suc n)
+at_break : (kind : Kind) (n b : ℕ) (s r : List ℕ) (c : ℕ) (w : List ℕ) → is_break c ≡ true → n ≤ length s
+    → is_tight b (s ++ r) ≡ true → is_tight b (s ++ c ∷ w) ≡ true → IsLongest V74 code (b ∷ s ++ r) kind (suc n)
+    → IsLongest V74 code (b ∷ s ++ c ∷ w) kind (suc n)
 at_break kind n b s r c w e le old new h =
     stays b s r (c ∷ w) (tight_is b (s ++ r) old).near (tight_is b (s ++ c ∷ w) new) kind n le h (λ j lt within. none_past b s c w e (tight_is b (s ++ c ∷ w) new) j lt)
 
-at_end : (kind : Kind) (n b : ℕ) (s r : List ℕ) → n ≤ length s → is_tight b (s ++ r) ≡ true → is_tight b (s ++ []) ≡ true → IsLongest V74 code (b ∷ s ++ r) kind (suc n) → IsLongest V74 code (b ∷ s ++ []) kind (suc n)
+at_end : (kind : Kind) (n b : ℕ) (s r : List ℕ) → n ≤ length s → is_tight b (s ++ r) ≡ true
+    → is_tight b (s ++ []) ≡ true → IsLongest V74 code (b ∷ s ++ r) kind (suc n)
+    → IsLongest V74 code (b ∷ s ++ []) kind (suc n)
 at_end kind n b s r le old new h =
-    stays b s r [] (tight_is b (s ++ r) old).near (tight_is b (s ++ []) new) kind n le h (λ j lt within. absurd (let l : length (s ++ []) ≡ length s = ap length (append-nil s) in omega arith))
+    stays b s r [] (tight_is b (s ++ r) old).near (tight_is b (s ++ []) new) kind n le h
+    (λ j lt within. absurd (let l : length (s ++ []) ≡ length s = ap length (append-nil s) in omega arith))
 
 -- ---- bytes that go on alike
 
 front_of : (s r : List ℕ) (x : ℕ) → s ++ x ∷ r ≡ (s ++ x ∷ []) ++ r
 front_of s r x = sym (append_assoc s (x ∷ []) r)
 
-alike_by : {r w : List ℕ} → Alike r w → (kind : Kind) (n b : ℕ) (s : List ℕ) → n ≤ length s → is_tight b (s ++ r) ≡ true → is_tight b (s ++ w) ≡ true → IsLongest V74 code (b ∷ s ++ r) kind (suc n) → IsLongest V74 code (b ∷ s ++ w) kind (suc n)
+alike_by : {r w : List ℕ} → Alike r w → (kind : Kind) (n b : ℕ) (s : List ℕ) → n ≤ length s
+    → is_tight b (s ++ r) ≡ true → is_tight b (s ++ w) ≡ true → IsLongest V74 code (b ∷ s ++ r) kind (suc n)
+    → IsLongest V74 code (b ∷ s ++ w) kind (suc n)
 alike_by (ended {r = r}) kind n b s le old new h = at_end kind n b s r le old new h
 alike_by (broken {r = r} {s = w} c e) kind n b s le old new h = at_break kind n b s r c w e le old new h
 alike_by (same {r = r} {s = w} x alike) kind n b s le old new h =

@@ -54,21 +54,29 @@ or_none false h = absurd cc
 tagged_is : (v : Version) (t r : List ℕ) → IsLongest v html (t ++ r) Tag (length t) → Tagged t r
 tagged_is v t r h =
     let row : (w : List ℕ) (f : Follow) → Bool = λ w f. led lower w (no_more (follows f)) t r in
-    elim (or_case (row (codes "<?php ") Anything) (row (codes "<?php\t") Anything || (row (codes "<?php\n") Anything || (row (codes "<?php\r") Anything || (row (codes "<?php\r\n") Anything || (row (codes "<?php") Nothing || false))))) (longest_meets is_tag v html t r Tag refl h)) [
+    elim (or_case (row (codes "<?php ") Anything)
+    (row (codes "<?php\t") Anything || (row (codes "<?php\n") Anything
+    || (row (codes "<?php\r") Anything
+    || (row (codes "<?php\r\n") Anything || (row (codes "<?php") Nothing || false)))))
+    (longest_meets is_tag v html t r Tag refl h)) [
       | inl e ↦ inl (spelled_is (codes "<?php ") t r Anything e)
-      | inr k ↦ elim (or_case (row (codes "<?php\t") Anything) (row (codes "<?php\n") Anything || (row (codes "<?php\r") Anything || (row (codes "<?php\r\n") Anything || (row (codes "<?php") Nothing || false)))) k) [
-        | inl e ↦ inr (inl (spelled_is (codes "<?php\t") t r Anything e))
-        | inr l ↦ elim (or_case (row (codes "<?php\n") Anything) (row (codes "<?php\r") Anything || (row (codes "<?php\r\n") Anything || (row (codes "<?php") Nothing || false))) l) [
-          | inl e ↦ inr (inr (inl (spelled_is (codes "<?php\n") t r Anything e)))
-          | inr m ↦ elim (or_case (row (codes "<?php\r") Anything) (row (codes "<?php\r\n") Anything || (row (codes "<?php") Nothing || false)) m) [
-            | inl e ↦ inr (inr (inr (inl (spelled_is (codes "<?php\r") t r Anything e))))
-            | inr n ↦ elim (or_case (row (codes "<?php\r\n") Anything) (row (codes "<?php") Nothing || false) n) [
-              | inl e ↦ inr (inr (inr (inr (inl (spelled_is (codes "<?php\r\n") t r Anything e)))))
-              | inr o ↦ inr (inr (inr (inr (inr (spelled_is (codes "<?php") t r Nothing (or_none _ o))))))
-            ]
+      | inr k ↦ elim (or_case (row (codes "<?php\t") Anything)
+          (row (codes "<?php\n") Anything || (row (codes "<?php\r") Anything
+          || (row (codes "<?php\r\n") Anything || (row (codes "<?php") Nothing || false)))) k) [
+            | inl e ↦ inr (inl (spelled_is (codes "<?php\t") t r Anything e))
+            | inr l ↦ elim (or_case (row (codes "<?php\n") Anything)
+                (row (codes "<?php\r") Anything
+                || (row (codes "<?php\r\n") Anything || (row (codes "<?php") Nothing || false))) l) [
+                  | inl e ↦ inr (inr (inl (spelled_is (codes "<?php\n") t r Anything e)))
+                  | inr m ↦ elim (or_case (row (codes "<?php\r") Anything) (row (codes "<?php\r\n") Anything || (row (codes "<?php") Nothing || false)) m) [
+                    | inl e ↦ inr (inr (inr (inl (spelled_is (codes "<?php\r") t r Anything e))))
+                    | inr n ↦ elim (or_case (row (codes "<?php\r\n") Anything) (row (codes "<?php") Nothing || false) n) [
+                      | inl e ↦ inr (inr (inr (inr (inl (spelled_is (codes "<?php\r\n") t r Anything e)))))
+                      | inr o ↦ inr (inr (inr (inr (inr (spelled_is (codes "<?php") t r Nothing (or_none _ o))))))
+                    ]
+                  ]
+                ]
           ]
-        ]
-      ]
     ]
 
 -- ---- their bytes
@@ -118,7 +126,9 @@ opening_of t w e =
     let f4 = front_of f3.more 112 w f3.rest in
     let less = same_mark 60 f0.byte refl f0.first in
     let question = same_mark 63 f1.byte refl f1.first in
-    let tail : f0.more ≡ 63 ∷ f2.byte ∷ f3.byte ∷ f4.byte ∷ f4.more = f1.same ∙ ap (λ (x : ℕ). x ∷ f1.more) question ∙ ap (λ (u : List ℕ). 63 ∷ u) (f2.same ∙ ap (λ (u : List ℕ). f2.byte ∷ u) (f3.same ∙ ap (λ (u : List ℕ). f3.byte ∷ u) f4.same)) in
+    let tail : f0.more ≡ 63 ∷ f2.byte ∷ f3.byte ∷ f4.byte ∷ f4.more = f1.same ∙ ap (λ (x : ℕ). x ∷ f1.more) question
+    ∙ ap (λ (u : List ℕ). 63 ∷ u) (f2.same ∙ ap (λ (u : List ℕ). f2.byte ∷ u)
+    (f3.same ∙ ap (λ (u : List ℕ). f3.byte ∷ u) f4.same)) in
     record {
       p = f2.byte;
       h = f3.byte;
@@ -147,7 +157,8 @@ abbrev Stays : Version → List ℕ → List ℕ → Type 0
 Stays w t s = IsLongest w html (t ++ s) Tag (length t)
 
 -- a tag with one byte of white space
-spaced : (w : Version) (t s : List ℕ) (c : ℕ) → is_mark c ≡ true → is_space c ≡ true → (nat_eq c 13 && begins_by 10 s) ≡ false → map lower t ≡ 60 ∷ 63 ∷ 112 ∷ 104 ∷ 112 ∷ c ∷ [] → Stays w t s
+spaced : (w : Version) (t s : List ℕ) (c : ℕ) → is_mark c ≡ true → is_space c ≡ true
+    → (nat_eq c 13 && begins_by 10 s) ≡ false → map lower t ≡ 60 ∷ 63 ∷ 112 ∷ 104 ∷ 112 ∷ c ∷ [] → Stays w t s
 spaced w t s c m space e is =
     let o = opening_of t (c ∷ []) is in
     let same : t ≡ tagged o.p o.h o.q (c ∷ []) = o.same ∙ ap (tagged o.p o.h o.q) (one_of o.more c m o.rest) in
@@ -169,7 +180,9 @@ at_end : (w : Version) (t s : List ℕ) → s ≡ [] → map lower t ≡ codes "
 at_end w t s e is =
     let o = opening_of t [] is in
     let same : t ≡ tagged o.p o.h o.q [] = o.same ∙ ap (tagged o.p o.h o.q) (nothing_of o.more o.rest) in
-    subst (λ (u : List ℕ). Stays w t u) (sym e) (subst (λ (u : List ℕ). Stays w u []) (sym same) (longest_of w html (tagged o.p o.h o.q []) Tag 5 (last_scan w o.p o.h o.q o.is_p o.is_h o.is_q)))
+    subst (λ (u : List ℕ). Stays w t u) (sym e)
+    (subst (λ (u : List ℕ). Stays w u []) (sym same)
+    (longest_of w html (tagged o.p o.h o.q []) Tag 5 (last_scan w o.p o.h o.q o.is_p o.is_h o.is_q)))
 
 empty_is : (r : List ℕ) → is_empty r ≡ true → r ≡ []
 empty_is [] h = refl

@@ -42,17 +42,22 @@ module _ (v : Version) (p h q : ℕ) (is_p : lower p ≡ 112) (is_h : lower h �
   pub long_scan : (rest : List ℕ) → scan v html (tagged p h q (13 ∷ 10 ∷ rest)) ≡ Some (Tag, 7)
   long_scan rest = rw (is_p, is_h, is_q) refl
 
-  short : (b : ℕ) (a s : List ℕ) (ts : List Lexeme) → is_space b ≡ true → (nat_eq b 13 && begins is_feed (a ++ s)) ≡ false → all_space a ≡ true → begins is_space s ≡ false → Lexed v plain (tagged p h q (b ∷ a)) s ts → Lexed v start [] (tagged p h q (b ∷ a ++ s)) ts
+  short : (b : ℕ) (a s : List ℕ) (ts : List Lexeme) → is_space b ≡ true
+      → (nat_eq b 13 && begins is_feed (a ++ s)) ≡ false → all_space a ≡ true → begins is_space s ≡ false
+      → Lexed v plain (tagged p h q (b ∷ a)) s ts → Lexed v start [] (tagged p h q (b ∷ a ++ s)) ts
   short b a s ts space e all stop rest =
       let tag : IsLongest v html (tagged p h q (b ∷ a ++ s)) Tag 6 = scanned_longest v html (tagged p h q (b ∷ a ++ s)) (Some (Tag, 6)) (short_scan b (a ++ s) space e) in
       trivia Tag 6 tag refl (spaced v (tagged p h q (b ∷ [])) a s ts all stop rest)
 
-  long : (a s : List ℕ) (ts : List Lexeme) → all_space a ≡ true → begins is_space s ≡ false → Lexed v plain (tagged p h q (13 ∷ 10 ∷ a)) s ts → Lexed v start [] (tagged p h q (13 ∷ 10 ∷ a ++ s)) ts
+  long : (a s : List ℕ) (ts : List Lexeme) → all_space a ≡ true → begins is_space s ≡ false
+      → Lexed v plain (tagged p h q (13 ∷ 10 ∷ a)) s ts → Lexed v start [] (tagged p h q (13 ∷ 10 ∷ a ++ s)) ts
   long a s ts all stop rest =
       let tag : IsLongest v html (tagged p h q (13 ∷ 10 ∷ a ++ s)) Tag 7 = scanned_longest v html (tagged p h q (13 ∷ 10 ∷ a ++ s)) (Some (Tag, 7)) (long_scan (a ++ s)) in
       trivia Tag 7 tag refl (spaced v (tagged p h q (13 ∷ 10 ∷ [])) a s ts all stop rest)
 
-  by_return : (b c : ℕ) (a s : List ℕ) (ts : List Lexeme) → is_space b ≡ true → all_space (c ∷ a) ≡ true → begins is_space s ≡ false → Lexed v plain (tagged p h q (b ∷ c ∷ a)) s ts → (t u : Bool) → nat_eq b 13 ≡ t → nat_eq c 10 ≡ u → Lexed v start [] (tagged p h q (b ∷ c ∷ a ++ s)) ts
+  by_return : (b c : ℕ) (a s : List ℕ) (ts : List Lexeme) → is_space b ≡ true → all_space (c ∷ a) ≡ true
+      → begins is_space s ≡ false → Lexed v plain (tagged p h q (b ∷ c ∷ a)) s ts → (t u : Bool) → nat_eq b 13 ≡ t
+      → nat_eq c 10 ≡ u → Lexed v start [] (tagged p h q (b ∷ c ∷ a ++ s)) ts
   by_return b c a s ts space all stop rest true true e f =
       let more = and_parts (is_space c) (all_space a) all in
       let b_is = eqb-true b 13 e in
@@ -70,6 +75,8 @@ module _ (v : Version) (p h q : ℕ) (is_p : lower p ≡ 112) (is_h : lower h �
   no_feed b (c ∷ s) stop = let other : nat_eq c 10 ≡ false = grind (arith, nat_tests) in rw other (and_false (nat_eq b 13))
 
   -- The tag and the white space behind it go to the lead of the first token of code.
-  pub opened : (b : ℕ) (a s : List ℕ) (ts : List Lexeme) → is_space b ≡ true → all_space a ≡ true → begins is_space s ≡ false → Lexed v plain (tagged p h q (b ∷ a)) s ts → Lexed v start [] (tagged p h q (b ∷ a ++ s)) ts
+  pub opened : (b : ℕ) (a s : List ℕ) (ts : List Lexeme) → is_space b ≡ true → all_space a ≡ true
+      → begins is_space s ≡ false → Lexed v plain (tagged p h q (b ∷ a)) s ts
+      → Lexed v start [] (tagged p h q (b ∷ a ++ s)) ts
   opened b [] s ts space all stop rest = short b [] s ts space (no_feed b s stop) all stop rest
   opened b (c ∷ a) s ts space all stop rest = by_return b c a s ts space all stop rest (nat_eq b 13) (nat_eq c 10) refl refl

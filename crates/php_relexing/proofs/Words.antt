@@ -21,7 +21,9 @@ use Rattle.php_relexing.proofs.Scanned.{found, longest_of}
 
 -- ---- no `from`
 
-comes_by : (b : ℕ) (bs : List ℕ) (t u : Bool) → is_space b ≡ t → word_alone (codes "from") (b ∷ bs) ≡ u → (comes_from bs ≡ false → until_len From Plain bs ≡ None) → cond t (comes_from bs) u ≡ false → until_len From Plain (b ∷ bs) ≡ None
+comes_by : (b : ℕ) (bs : List ℕ) (t u : Bool) → is_space b ≡ t → word_alone (codes "from") (b ∷ bs) ≡ u
+    → (comes_from bs ≡ false → until_len From Plain bs ≡ None) → cond t (comes_from bs) u ≡ false
+    → until_len From Plain (b ∷ bs) ≡ None
 comes_by b bs true u e f ih h = rw (e, ih h) refl
 comes_by b bs false true e f ih h = absurd cc
 comes_by b bs false false e f ih h = rw (e, f) refl
@@ -57,7 +59,8 @@ out_of x w (c ∷ s) small e h =
     let clash : true ≡ false = sym label ∙ e in cc
 
 -- behind a word of letters that begins a label, no `from` follows
-behind_word : (w a s : List ℕ) → all_small w ≡ true → all_label a ≡ true → begins is_label_byte s ≡ false → begins_from s ≡ false → starts_word w (a ++ s) ≡ true → until_len From First (drop (length w) (a ++ s)) ≡ None
+behind_word : (w a s : List ℕ) → all_small w ≡ true → all_label a ≡ true → begins is_label_byte s ≡ false
+    → begins_from s ≡ false → starts_word w (a ++ s) ≡ true → until_len From First (drop (length w) (a ++ s)) ≡ None
 behind_word [] a s small h e f g = label_from a s h f
 behind_word (x ∷ w) [] s small h e f g = absurd (out_of x w s (and_parts (is_small x) (all_small w) small).0 e g)
 behind_word (x ∷ w) (b ∷ a) s small h e f g =
@@ -66,12 +69,16 @@ behind_word (x ∷ w) (b ∷ a) s small h e f g =
     let rest = (and_parts (nat_eq x (lower b)) (starts_word w (a ++ s)) g).1 in
     behind_word w a s letters labels e f rest
 
-yield_by : (b : ℕ) (a s : List ℕ) (t : Bool) → starts_word (codes "ield") (a ++ s) ≡ t → (t ≡ true → until_len From First (drop 4 (a ++ s)) ≡ None) → (y : Bool) → cond (y && t) (add_to 5 (until_len From First (drop 4 (a ++ s)))) None ≡ None
+yield_by : (b : ℕ) (a s : List ℕ) (t : Bool) → starts_word (codes "ield") (a ++ s) ≡ t
+    → (t ≡ true → until_len From First (drop 4 (a ++ s)) ≡ None) → (y : Bool)
+    → cond (y && t) (add_to 5 (until_len From First (drop 4 (a ++ s)))) None ≡ None
 yield_by b a s t e f false = refl
 yield_by b a s false e f true = refl
 yield_by b a s true e f true = rw (f refl) refl
 
-no_yield : (b : ℕ) (a s : List ℕ) → all_label a ≡ true → begins is_label_byte s ≡ false → begins_from s ≡ false → cond (nat_eq 121 (lower b) && starts_word (codes "ield") (a ++ s)) (add_to 5 (until_len From First (drop 4 (a ++ s)))) None ≡ None
+no_yield : (b : ℕ) (a s : List ℕ) → all_label a ≡ true → begins is_label_byte s ≡ false → begins_from s ≡ false
+    → cond (nat_eq 121 (lower b) && starts_word (codes "ield") (a ++ s))
+    (add_to 5 (until_len From First (drop 4 (a ++ s)))) None ≡ None
 no_yield b a s h e f = yield_by b a s (starts_word (codes "ield") (a ++ s)) refl (λ g. behind_word (codes "ield") a s refl h e f g) (nat_eq 121 (lower b))
 
 -- ---- the scan
@@ -82,17 +89,24 @@ turn_round a k e = grind (arith, nat_tests)
 pub letter_hash : (b : ℕ) → is_letter b ≡ true → nat_eq b 35 ≡ false
 letter_hash b h = grind (arith, nat_tests)
 
-pub rows_are : (b : ℕ) (bs : List ℕ) → nat_eq 98 (lower b) ≡ false → scan_by [] letter_rows (b ∷ bs) ≡ longer Keyword (cond (nat_eq 121 (lower b) && starts_word (codes "ield") bs) (add_to 5 (until_len From First (drop 4 bs))) None) (longer Word (add_to 0 (word_len (b ∷ bs))) None)
+pub rows_are : (b : ℕ) (bs : List ℕ) → nat_eq 98 (lower b) ≡ false
+    → scan_by [] letter_rows (b ∷ bs) ≡ longer Keyword
+    (cond (nat_eq 121 (lower b) && starts_word (codes "ield") bs) (add_to 5 (until_len From First (drop 4 bs))) None)
+    (longer Word (add_to 0 (word_len (b ∷ bs))) None)
 rows_are b bs e = rw e refl
 
-word_row : (b : ℕ) (a s : List ℕ) → is_letter b ≡ true → nat_eq (lower b) 98 ≡ false → all_label a ≡ true → begins is_label_byte s ≡ false → longer Word (add_to 0 (word_len (b ∷ a ++ s))) None ≡ found Word (suc (length a))
+word_row : (b : ℕ) (a s : List ℕ) → is_letter b ≡ true → nat_eq (lower b) 98 ≡ false → all_label a ≡ true
+    → begins is_label_byte s ≡ false → longer Word (add_to 0 (word_len (b ∷ a ++ s))) None ≡ found Word
+    (suc (length a))
 word_row b a s h p k e =
     let one : 1 + length a ≡ suc (length a) = omega arith in
     let some : nat_eq (suc (length a)) 0 ≡ false = grind (arith, nat_tests) in
     let none : 0 + suc (length a) ≡ suc (length a) = omega arith in
     rw (h, label_run [] a s k e, one, p, some, none) refl
 
-word_scan : (b : ℕ) (a s : List ℕ) → is_letter b ≡ true → nat_eq (lower b) 98 ≡ false → all_label a ≡ true → begins is_label_byte s ≡ false → begins_from s ≡ false → scan V74 code (b ∷ a ++ s) ≡ found Word (suc (length a))
+word_scan : (b : ℕ) (a s : List ℕ) → is_letter b ≡ true → nat_eq (lower b) 98 ≡ false → all_label a ≡ true
+    → begins is_label_byte s ≡ false → begins_from s ≡ false
+    → scan V74 code (b ∷ a ++ s) ≡ found Word (suc (length a))
 word_scan b a s h p k e f =
     older_scan b (a ++ s) (letter_hash b h)
     ∙ letter_scan b (a ++ s) h

@@ -45,7 +45,9 @@ opening_before v b bs p q = opening_is v (b ∷ bs) (no_cast b bs p q)
 
 -- ---- a text in single quotes looks no further than its end
 
-stay_step : (bar close : Bool) (x y : Option ℕ) (n l : ℕ) → ((k : ℕ) → x ≡ Some k → k ≤ l → y ≡ Some k) → cond bar None (cond close (Some 1) (add_to 1 x)) ≡ Some n → n ≤ suc l → cond bar None (cond close (Some 1) (add_to 1 y)) ≡ Some n
+stay_step : (bar close : Bool) (x y : Option ℕ) (n l : ℕ) → ((k : ℕ) → x ≡ Some k → k ≤ l → y ≡ Some k)
+    → cond bar None (cond close (Some 1) (add_to 1 x)) ≡ Some n → n ≤ suc l
+    → cond bar None (cond close (Some 1) (add_to 1 y)) ≡ Some n
 stay_step true close x y n l ih e le = absurd cc
 stay_step false true x y n l ih e le = e
 stay_step false false None y n l ih e le = absurd cc
@@ -65,13 +67,16 @@ not_0 u s (b ∷ bs) n e le = none_at_0 (bars u s b bs) (closes u s b) (until_le
 
 simple_stays : (s : State) (a v w : List ℕ) (n : ℕ) → until_len Simple s (a ++ v) ≡ Some n → n ≤ length a → until_len Simple s (a ++ w) ≡ Some n
 simple_stays s [] v w n e le = absurd (not_0 Simple s v n e le)
-simple_stays s (b ∷ a) v w n e le = stay_step false (closes Simple s b) (until_len Simple (turned Simple s b) (a ++ v)) (until_len Simple (turned Simple s b) (a ++ w)) n (length a) (λ k p q. simple_stays (turned Simple s b) a v w k p q) e le
+simple_stays s (b ∷ a) v w n e le = stay_step false (closes Simple s b)
+    (until_len Simple (turned Simple s b) (a ++ v)) (until_len Simple (turned Simple s b) (a ++ w)) n (length a)
+    (λ k p q. simple_stays (turned Simple s b) a v w k p q) e le
 
 text_scan : (v : Version) (s : List ℕ) (o : Option ℕ) → until_len Simple First s ≡ o → scan v code (39 ∷ s) ≡ longer Text (add_to 1 o) None
 text_scan V74 s o e = rw e refl
 text_scan V83 s o e = rw e refl
 
-text_by : (x : Version) (a v w : List ℕ) (o : Option ℕ) → until_len Simple First (a ++ v) ≡ o → IsLongest x code (39 ∷ a ++ v) Text (suc (length a)) → IsLongest x code (39 ∷ a ++ w) Text (suc (length a))
+text_by : (x : Version) (a v w : List ℕ) (o : Option ℕ) → until_len Simple First (a ++ v) ≡ o
+    → IsLongest x code (39 ∷ a ++ v) Text (suc (length a)) → IsLongest x code (39 ∷ a ++ w) Text (suc (length a))
 text_by x a v w None e h = absurd (let none = scanned_none x code (39 ∷ a ++ v) None (text_scan x (a ++ v) None e) in clash h.is (none (suc (length a)) h.within))
 text_by x a v w (Some k) e h =
     let found = scanned_longest x code (39 ∷ a ++ v) (Some (Text, 1 + k)) (text_scan x (a ++ v) (Some k) e) in

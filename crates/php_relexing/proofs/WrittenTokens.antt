@@ -1,5 +1,32 @@
 -- The tokens that edits write.
-use Rattle.std.proofs.Common.{◌≡◌, ℕ, suc, ◌+◌, Bool, true, false, cond, not, ◌&&◌, ◌||◌, nat_eq, nat_lt, List, [], ◌∷◌, ◌++◌, length, codes, Option, Some, None, refl, ap, ◌∙◌, arith}
+use Rattle.std.proofs.Common.{
+  ◌≡◌,
+  ℕ,
+  suc,
+  ◌+◌,
+  Bool,
+  true,
+  false,
+  cond,
+  not,
+  ◌&&◌,
+  ◌||◌,
+  nat_eq,
+  nat_lt,
+  List,
+  [],
+  ◌∷◌,
+  ◌++◌,
+  length,
+  codes,
+  Option,
+  Some,
+  None,
+  refl,
+  ap,
+  ◌∙◌,
+  arith,
+}
 use Rattle.std.proofs.lemmas.Bool.{and_parts}
 use Rattle.std.proofs.lemmas.Bool.Decides.{nat_tests}
 use Rattle.php_tree.specs.declared.version.Version.{Version}
@@ -68,7 +95,8 @@ counted n =
 more_than_one : (n : ℕ) → nat_lt (suc (suc n)) 1 ≡ false
 more_than_one n = grind (arith, nat_tests)
 
-variable_scan : (v : Version) (c : ℕ) (l s : List ℕ) → is_letter c ≡ true → all_label l ≡ true → begins is_label_byte s ≡ false → scan v code (36 ∷ c ∷ l ++ s) ≡ found Variable (suc (suc (length l)))
+variable_scan : (v : Version) (c : ℕ) (l s : List ℕ) → is_letter c ≡ true → all_label l ≡ true
+    → begins is_label_byte s ≡ false → scan v code (36 ∷ c ∷ l ++ s) ≡ found Variable (suc (suc (length l)))
 variable_scan V74 c l s h k e = rw (h, label_run [] l s k e, counted (length l), more_than_one (length l)) refl
 variable_scan V83 c l s h k e = rw (h, label_run [] l s k e, counted (length l), more_than_one (length l)) refl
 
@@ -102,7 +130,8 @@ named_found (Some x) = is_var_name x.0
 clash : {A : Type 0} (kind : Kind) (m n : ℕ) → is_var_name kind ≡ false → found VarName m ≡ found kind n → A
 clash kind m n h e = let f : true ≡ is_var_name kind = ap named_found e in let g : true ≡ false = f ∙ h in absurd cc
 
-longer_by : (n m : ℕ) (k kind : Kind) (i : ℕ) → is_var_name kind ≡ false → (t : Bool) → nat_lt n m ≡ t → cond t (found k m) (found VarName n) ≡ found kind i → found k m ≡ found kind i
+longer_by : (n m : ℕ) (k kind : Kind) (i : ℕ) → is_var_name kind ≡ false → (t : Bool) → nat_lt n m ≡ t
+    → cond t (found k m) (found VarName n) ≡ found kind i → found k m ≡ found kind i
 longer_by n m k kind i h true p e = e
 longer_by n m k kind i h false p e = clash kind n i h e
 

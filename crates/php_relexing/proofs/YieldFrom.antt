@@ -1,5 +1,35 @@
 -- The words `yield from` before other bytes.
-use Rattle.std.proofs.Common.{◌≡◌, ℕ, suc, ◌+◌, ◌≤◌, Bool, true, false, cond, not, ◌&&◌, ◌||◌, nat_eq, nat_lt, List, [], ◌∷◌, ◌++◌, length, take, drop, codes, Option, Some, None, refl, ap, ◌∙◌, arith}
+use Rattle.std.proofs.Common.{
+  ◌≡◌,
+  ℕ,
+  suc,
+  ◌+◌,
+  ◌≤◌,
+  Bool,
+  true,
+  false,
+  cond,
+  not,
+  ◌&&◌,
+  ◌||◌,
+  nat_eq,
+  nat_lt,
+  List,
+  [],
+  ◌∷◌,
+  ◌++◌,
+  length,
+  take,
+  drop,
+  codes,
+  Option,
+  Some,
+  None,
+  refl,
+  ap,
+  ◌∙◌,
+  arith,
+}
 use Rattle.std.proofs.lemmas.Bool.{and_parts}
 use Rattle.std.proofs.lemmas.Bool.Decides.{nat_tests}
 use Rattle.php_tree.specs.declared.version.Version.TheVariants.{V74}
@@ -47,7 +77,8 @@ third_of true true false x n h = absurd cc
 third_of true false o x n h = absurd cc
 third_of false r o x n h = absurd cc
 
-alone_same : (b : ℕ) (t r s : List ℕ) → begins is_label_byte s ≡ false → is_until From Escaped t r ≡ true → word_alone (codes "from") (b ∷ t ++ r) ≡ true → word_alone (codes "from") (b ∷ t ++ s) ≡ true
+alone_same : (b : ℕ) (t r s : List ℕ) → begins is_label_byte s ≡ false → is_until From Escaped t r ≡ true
+    → word_alone (codes "from") (b ∷ t ++ r) ≡ true → word_alone (codes "from") (b ∷ t ++ s) ≡ true
 alone_same b [] r s e h k = absurd cc
 alone_same b (c ∷ []) r s e h k =
     let second = second_of (nat_eq 102 (lower b)) (nat_eq 114 (lower c)) (starts_word (codes "om") r) (no_label (drop 2 r)) k in
@@ -66,7 +97,11 @@ alone_same b (c ∷ d ∷ f ∷ g ∷ t) r s e h k = k
 
 -- ---- how far it goes
 
-from_plain : (b : ℕ) (t r s : List ℕ) → begins is_label_byte s ≡ false → ((st : State) → is_until From st t r ≡ true → until_len From st (t ++ s) ≡ Some (length t)) → (x y : Bool) → is_space b ≡ x → word_alone (codes "from") (b ∷ t ++ r) ≡ y → (not (not (x || y)) && is_until From (cond x Plain Escaped) t r) ≡ true → until_len From Plain (b ∷ t ++ s) ≡ Some (suc (length t))
+from_plain : (b : ℕ) (t r s : List ℕ) → begins is_label_byte s ≡ false
+    → ((st : State) → is_until From st t r ≡ true → until_len From st (t ++ s) ≡ Some (length t)) → (x y : Bool)
+    → is_space b ≡ x → word_alone (codes "from") (b ∷ t ++ r) ≡ y
+    → (not (not (x || y)) && is_until From (cond x Plain Escaped) t r) ≡ true
+    → until_len From Plain (b ∷ t ++ s) ≡ Some (suc (length t))
 from_plain b t r s e ih true y p q h =
     let one : 1 + length t ≡ suc (length t) = omega arith in
     rw (p, ih Plain h, one) refl
@@ -75,7 +110,10 @@ from_plain b t r s e ih false true p q h =
     rw (p, alone_same b t r s e h q, ih Escaped h, one) refl
 from_plain b t r s e ih false false p q h = absurd cc
 
-from_escaped : (b : ℕ) (t r s : List ℕ) → (is_until From Escaped t r ≡ true → until_len From Escaped (t ++ s) ≡ Some (length t)) → (x : Bool) → nat_eq (lower b) 109 ≡ x → cond x (is_empty t) (is_until From Escaped t r) ≡ true → until_len From Escaped (b ∷ t ++ s) ≡ Some (suc (length t))
+from_escaped : (b : ℕ) (t r s : List ℕ) → (is_until From Escaped t r ≡ true
+    → until_len From Escaped (t ++ s) ≡ Some (length t)) → (x : Bool) → nat_eq (lower b) 109 ≡ x
+    → cond x (is_empty t) (is_until From Escaped t r) ≡ true
+    → until_len From Escaped (b ∷ t ++ s) ≡ Some (suc (length t))
 from_escaped b [] r s ih true p h = rw p refl
 from_escaped b (c ∷ t) r s ih true p h = absurd cc
 from_escaped b t r s ih false p h =
@@ -156,7 +194,9 @@ or_none false h = absurd cc
 y_letter : (b : ℕ) → nat_eq 121 (lower b) ≡ true → (is_letter b ≡ true) × (nat_eq 98 (lower b) ≡ false)
 y_letter b h = (grind (arith, nat_tests), grind (arith, nat_tests))
 
-word_over : (b : ℕ) (a s : List ℕ) → is_letter b ≡ true → run_len Labels [] Plain (a ++ s) ≤ length a → longer Keyword (Some (suc (length a))) (longer Word (add_to 0 (word_len (b ∷ a ++ s))) None) ≡ found Keyword (suc (length a))
+word_over : (b : ℕ) (a s : List ℕ) → is_letter b ≡ true → run_len Labels [] Plain (a ++ s) ≤ length a
+    → longer Keyword (Some (suc (length a))) (longer Word (add_to 0 (word_len (b ∷ a ++ s))) None) ≡ found Keyword
+    (suc (length a))
 word_over b a s h le =
     let n = 1 + run_len Labels [] Plain (a ++ s) in
     rw h (over_by (suc (length a)) n (omega arith) (is_b (take n (b ∷ a ++ s)) && begins_text (drop n (b ∷ a ++ s))) (nat_eq n 0) refl)
@@ -166,7 +206,9 @@ yield_from_stays b a r s e h =
     let is : led lower (codes "yield") (is_until From First) (b ∷ a) r ≡ true = or_none _ (longest_meets is_keyword_kind V74 code (b ∷ a) r Keyword refl h) in
     let (first, rest) = and_parts (nat_eq 121 (lower b)) (led lower (codes "ield") (is_until From First) a r) is in
     let letter = y_letter b first in
-    let len : cond (nat_eq 121 (lower b) && starts_word (codes "ield") (a ++ s)) (add_to 5 (until_len From First (drop 4 (a ++ s)))) None ≡ Some (suc (length a)) = led_len (codes "yield") (b ∷ a) r s e is in
+    let len : cond (nat_eq 121 (lower b) && starts_word (codes "ield") (a ++ s))
+    (add_to 5 (until_len From First (drop 4 (a ++ s)))) None ≡ Some (suc (length a)) =
+    led_len (codes "yield") (b ∷ a) r s e is in
     longest_of V74 code (b ∷ a ++ s) Keyword (suc (length a)) (
     older_scan b (a ++ s) (letter_hash b letter.0)
     ∙ letter_scan b (a ++ s) letter.0

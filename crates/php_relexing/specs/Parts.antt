@@ -19,7 +19,8 @@ TextVariablesStay =
 
 -- `{` opens code before `$`, and closing bytes close.
 pub record BracesOpen : Type 0 where
-  pub curly : (v : Version) (mark : Mark) (label : List ℕ) (fresh : Bool) (s : List ℕ) → is_labelled mark label ≡ true → begins_by 36 s ≡ true → IsLongest v (quoted mark label fresh) (123 ∷ s) CurlyOpen 1
+  pub curly : (v : Version) (mark : Mark) (label : List ℕ) (fresh : Bool) (s : List ℕ) → is_labelled mark label ≡ true
+      → begins_by 36 s ≡ true → IsLongest v (quoted mark label fresh) (123 ∷ s) CurlyOpen 1
   pub double : (v : Version) (label : List ℕ) (fresh : Bool) (s : List ℕ) → IsLongest v (quoted Double label fresh) (34 ∷ s) QuotedEnd 1
   pub back : (v : Version) (label : List ℕ) (fresh : Bool) (s : List ℕ) → IsLongest v (quoted Back label fresh) (96 ∷ s) QuotedEnd 1
 
@@ -31,7 +32,8 @@ pub record QuotesOpen : Type 0 where
 -- So does `b"`.
 pub record BinaryQuotesOpen : Type 0 where
   pub part : (v : Version) (b : ℕ) (s : List ℕ) → lower b ≡ 98 → part_begins s ≡ true → IsLongest v code (b ∷ 34 ∷ s) Quote 2
-  pub piece : (v w : Version) (b : ℕ) (a s : List ℕ) → lower b ≡ 98 → begins_by 34 s ≡ false → IsLongest v (quoted Double [] false) (a ++ s) Piece (length a) → IsLongest w code (b ∷ 34 ∷ a ++ s) Quote 2
+  pub piece : (v w : Version) (b : ℕ) (a s : List ℕ) → lower b ≡ 98 → begins_by 34 s ≡ false
+      → IsLongest v (quoted Double [] false) (a ++ s) Piece (length a) → IsLongest w code (b ∷ 34 ∷ a ++ s) Quote 2
 
 -- The marks of a simple offset and of a simple property, and the label of a property where it doesn't go on.
 pub record SimplePartsStay : Type 0 where
@@ -39,4 +41,6 @@ pub record SimplePartsStay : Type 0 where
   pub ending : (v : Version) (s : List ℕ) → IsLongest v offset (93 ∷ s) Op 1
   pub minus : (v : Version) (s : List ℕ) → IsLongest v offset (45 ∷ s) Op 1
   pub arrow : (v : Version) (s : List ℕ) → IsLongest v property (45 ∷ 62 ∷ s) Op 2
-  pub label : (v w : Version) (b : ℕ) (a r s : List ℕ) → begins is_label_byte s ≡ false → IsLongest v property (b ∷ a ++ r) Label (suc (length a)) → IsLongest w property (b ∷ a ++ s) Label (suc (length a))
+  pub label : (v w : Version) (b : ℕ) (a r s : List ℕ) → begins is_label_byte s ≡ false
+      → IsLongest v property (b ∷ a ++ r) Label (suc (length a))
+      → IsLongest w property (b ∷ a ++ s) Label (suc (length a))

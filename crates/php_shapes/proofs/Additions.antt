@@ -36,7 +36,9 @@ pub record Adds (v : Version) (j : NodeKind) (b : Forest) (fm : Form) : Type 0 w
   pub adds : (f : Forest) (rest : List Token) → Meet v (entries v fm.1) f rest → Headed v fm.0 (node j b f) rest
 
 module _ (v : Version) (j : NodeKind) (b : Forest) (n : IsNode v j b) where
-  added : (k : NodeKind) (is : List Item) (a r : Rule) → is_operand k ≡ true → is_closed k ≡ true → ((c : Forest) → level v (k, c) ≡ 0) → Fits v a (node j b none) → ((c : Forest) → Fits v (a ~ r) c → Fits v (form v k) c) → Gives v (entries v is) r → Adds v j b (k, is)
+  added : (k : NodeKind) (is : List Item) (a r : Rule) → is_operand k ≡ true → is_closed k ≡ true
+      → ((c : Forest) → level v (k, c) ≡ 0) → Fits v a (node j b none)
+      → ((c : Forest) → Fits v (a ~ r) c → Fits v (form v k) c) → Gives v (entries v is) r → Adds v j b (k, is)
   added k is a r o e low w into gives = record {
     adds = λ f rest m.
         record {
@@ -56,23 +58,29 @@ module _ (v : Version) (j : NodeKind) (b : Forest) (n : IsNode v j b) where
   member_adds : is_member_base j ≡ true → (ts : List Token) → Adds v j b (ta.member_tail ts)
   member_adds w ts =
       cond_form (Adds v j b) (is_called ts) _ _
-      (added k.MethodCall _ (place MemberBase) (word t.Arrow ~ po.member ~ po.called) refl refl (λ c. refl) (is_place w n) (λ c p. p) (whole v (word t.Arrow ~ po.member ~ po.called)))
+      (added k.MethodCall _ (place MemberBase) (word t.Arrow ~ po.member ~ po.called) refl refl (λ c. refl)
+      (is_place w n) (λ c p. p) (whole v (word t.Arrow ~ po.member ~ po.called)))
       (added k.Prop _ (place MemberBase) (word t.Arrow ~ po.member) refl refl (λ c. refl) (is_place w n) (λ c p. p) (whole v (word t.Arrow ~ po.member)))
 
   static_adds : is_class_base j ≡ true → (ts : List Token) → Adds v j b (ta.static_tail ts)
   static_adds w ts =
       cond_form (Adds v j b) (is_called ts) _ _
-      (added k.StaticCall _ (po.class_before v) (word t.DoubleColon ~ po.member ~ po.called) refl refl (λ c. refl) (class_base w) (λ c p. p) (whole v (word t.DoubleColon ~ po.member ~ po.called)))
+      (added k.StaticCall _ (po.class_before v) (word t.DoubleColon ~ po.member ~ po.called) refl refl (λ c. refl)
+      (class_base w) (λ c p. p) (whole v (word t.DoubleColon ~ po.member ~ po.called)))
       (cond_form (Adds v j b) (is_variable_start (first_of ts)) _ _
-      (added k.StaticProp _ (po.class_before v) (word t.DoubleColon ~ po.static_member) refl refl (λ c. refl) (class_base w) (λ c p. p) (whole v (word t.DoubleColon ~ po.static_member)))
-      (added k.ClassConstant _ (po.class_before v) (word t.DoubleColon ~ word t.AnyWord) refl refl (λ c. refl) (class_base w) (λ c p. p) (whole v (word t.DoubleColon ~ word t.AnyWord))))
+      (added k.StaticProp _ (po.class_before v) (word t.DoubleColon ~ po.static_member) refl refl (λ c. refl)
+      (class_base w) (λ c p. p) (whole v (word t.DoubleColon ~ po.static_member)))
+      (added k.ClassConstant _ (po.class_before v) (word t.DoubleColon ~ word t.AnyWord) refl refl (λ c. refl)
+      (class_base w) (λ c p. p) (whole v (word t.DoubleColon ~ word t.AnyWord))))
 
   call_adds : is_callee j ≡ true → Adds v j b (k.Call, Word t.OpenParen ∷ Node s.Args ∷ Word t.CloseParen ∷ [])
   call_adds w = added k.Call _ (na.called_name v ||| place Callee) po.called refl refl (λ c. refl) (is_second (is_place w n)) (λ c p. p) (whole v po.called)
 
 pub brace_adds : (v : Version) (j : NodeKind) (b : Forest) → IsNode v j b → IfSome (ta.brace_tail v j) (Adds v j b)
 brace_adds V74 j b n =
-    when_form (Adds V74 j b) (is_offset_base j) _ (λ w. added V74 j b n k.BraceOffset _ (place OffsetBase) (braces expr) refl refl (λ c. refl) (is_place w n) (λ c p. p) (whole V74 (braces expr)))
+    when_form (Adds V74 j b) (is_offset_base j) _
+    (λ w. added V74 j b n k.BraceOffset _ (place OffsetBase) (braces expr) refl refl (λ c. refl) (is_place w n)
+    (λ c p. p) (whole V74 (braces expr)))
 brace_adds V83 j b n = tt
 
 pub postfix_by_adds : (v : Version) (j : NodeKind) (b : Forest) → IsNode v j b → (x : Terminal) (ts : List Token) → IfSome (ta.postfix_by v j x ts) (Adds v j b)

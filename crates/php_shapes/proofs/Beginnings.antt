@@ -25,7 +25,22 @@ use Rattle.php_shapes.proofs.Entries.{entries, flat}
 use Rattle.php_shapes.proofs.Sequences.{Gives, one, second, whole}
 use Rattle.php_shapes.proofs.Told.{first_as}
 use Rattle.php_shapes.proofs.Standing.{cond_form, cond_option, or_else_form}
-use Rattle.php_shapes.proofs.Heads.{Heads, arrow_rule, atom, before, cast_rule, clone_rule, closure_rule, not_rule, sign_rule, step_rule, withal, without, yield_from_heads, yield_heads}
+use Rattle.php_shapes.proofs.Heads.{
+  Heads,
+  arrow_rule,
+  atom,
+  before,
+  cast_rule,
+  clone_rule,
+  closure_rule,
+  not_rule,
+  sign_rule,
+  step_rule,
+  withal,
+  without,
+  yield_from_heads,
+  yield_heads,
+}
 
 -- ---- expressions that their first token settles
 

@@ -61,7 +61,8 @@ add_operand v limit j b ts fm a = record {
       record { fits = x.fits; operand = x.operand; tight = x.tight limit; shut = x.shut };
 }
 
-pub operand_grows : (v : Version) (limit : ℕ) (j : NodeKind) (b : Forest) → IsNode v j b → is_operand j ≡ true → (ts : List Token) → IfSome (ta.operand_tail v limit (j, b) ts) (GrowsOn v limit j b ts)
+pub operand_grows : (v : Version) (limit : ℕ) (j : NodeKind) (b : Forest) → IsNode v j b → is_operand j ≡ true
+    → (ts : List Token) → IfSome (ta.operand_tail v limit (j, b) ts) (GrowsOn v limit j b ts)
 operand_grows v limit j b n o ts =
     or_else_form (GrowsOn v limit j b ts) (ta.postfix_tail v j ts) (ta.operator_tail v limit (ta.left_edge v (j, b)) j ts)
     (each (Adds v j b) (GrowsOn v limit j b ts) (add_operand v limit j b ts) (ta.postfix_tail v j ts) (postfix_adds v j b n ts))
@@ -79,7 +80,9 @@ as_place v j b ts fm a = record { goes = λ f rest same m. let x = a.adds f rest
 pub as_target : (v : Version) (j : NodeKind) (b : Forest) (ts : List Token) (fm : Form) → Adds v j b fm → GoesOn v s.Target j b ts fm
 as_target v j b ts fm a = record { goes = λ f rest same m. let x = a.adds f rest m in (x.fits, x.shut) }
 
-pub read_goes : (v : Version) (limit : ℕ) (j : NodeKind) (b : Forest) (ts : List Token) → Fits v (form v j) b → is_nearest b ≡ true → is_operand j ≡ true → IfSome (ta.read_tail v limit (j, b) ts) (GoesOn v (s.Operand limit) j b ts)
+pub read_goes : (v : Version) (limit : ℕ) (j : NodeKind) (b : Forest) (ts : List Token) → Fits v (form v j) b
+    → is_nearest b ≡ true → is_operand j ≡ true → IfSome (ta.read_tail v limit (j, b) ts)
+    (GoesOn v (s.Operand limit) j b ts)
 read_goes v limit j b ts p near o =
     let P = GoesOn v (s.Operand limit) j b ts in
     cond_option P (is_misindented (j, b)) refused (or_else (ta.operand_tail v limit (j, b) ts) (ta.refused_unless (not (is_list j))))
@@ -93,7 +96,8 @@ entry_end_goes v j b ts x =
     cond_option (GoesOn v s.Entry j b ts) (is_double_arrow x) (ta.refused_unless (not (is_list j))) (ta.refused_unless (is_target j || is_list j))
     (λ e. refused_unless_goes v s.Entry j b ts (not (is_list j))) (λ e. refused_unless_goes v s.Entry j b ts (is_target j || is_list j))
 
-pub entry_goes : (v : Version) (j : NodeKind) (b : Forest) (ts : List Token) → Fits v (form v j) b → is_nearest b ≡ true → is_operand j ≡ true → IfSome (ta.entry_tail v (j, b) ts) (GoesOn v s.Entry j b ts)
+pub entry_goes : (v : Version) (j : NodeKind) (b : Forest) (ts : List Token) → Fits v (form v j) b
+    → is_nearest b ≡ true → is_operand j ≡ true → IfSome (ta.entry_tail v (j, b) ts) (GoesOn v s.Entry j b ts)
 entry_goes v j b ts p near o =
     let P = GoesOn v s.Entry j b ts in
     cond_option P (is_misindented (j, b)) refused (or_else (ta.operand_tail v 24 (j, b) ts) (ta.entry_end j (first_of ts)))
@@ -102,7 +106,9 @@ entry_goes v j b ts p near o =
     (each (GrowsOn v 24 j b ts) P (as_entry v j b ts) (ta.operand_tail v 24 (j, b) ts) (operand_grows v 24 j b (is_node p near e) o ts))
     (entry_end_goes v j b ts (first_of ts)))
 
-pub place_goes : (v : Version) (s : Sort) (j : NodeKind) (b : Forest) (ts : List Token) → ((fm : Form) → Adds v j b fm → GoesOn v s j b ts fm) → Fits v (form v j) b → is_nearest b ≡ true → IfSome (ta.place_tail v (j, b) ts) (GoesOn v s j b ts)
+pub place_goes : (v : Version) (s : Sort) (j : NodeKind) (b : Forest) (ts : List Token)
+    → ((fm : Form) → Adds v j b fm → GoesOn v s j b ts fm) → Fits v (form v j) b → is_nearest b ≡ true
+    → IfSome (ta.place_tail v (j, b) ts) (GoesOn v s j b ts)
 place_goes v s j b ts into p near =
     let P = GoesOn v s j b ts in
     cond_option P (is_misindented (j, b)) refused (or_else (ta.postfix_tail v j ts) (ta.refused_unless (is_target j)))
@@ -142,7 +148,9 @@ first_true true c e = refl
 first_true false c e = false_is e
 
 module _ (v : Version) (j : NodeKind) (b : Forest) (ts : List Token) (n : IsNode v j b) (w : is_class_name j && begins_with_class_name b ≡ true) where
-  named : (k : NodeKind) (is : List Item) (a r : Rule) → is_quiet k ≡ true → is_class_name k ≡ true → Fits v a (node j b none) → ((c : Forest) → Fits v (a ~ r) c → Fits v (form v k) c) → Gives v (entries v is) r → GoesOn v s.ClassRef j b ts (k, is)
+  named : (k : NodeKind) (is : List Item) (a r : Rule) → is_quiet k ≡ true → is_class_name k ≡ true
+      → Fits v a (node j b none) → ((c : Forest) → Fits v (a ~ r) c → Fits v (form v k) c) → Gives v (entries v is) r
+      → GoesOn v s.ClassRef j b ts (k, is)
   named k is a r q d p into gives = record {
     goes = λ f rest same m. (
       (
@@ -163,14 +171,21 @@ module _ (v : Version) (j : NodeKind) (b : Forest) (ts : List Token) (n : IsNode
   class_prop_goes = named k.Prop _ (place MemberBase) (word t.Arrow ~ po.member) refl refl (is_place (class_member j is_class) n) (λ c p. p) (whole v (word t.Arrow ~ po.member))
 
   class_static_goes : GoesOn v s.ClassRef j b ts ta.static_prop_form
-  class_static_goes = named k.StaticProp _ (po.class_before v) (word t.DoubleColon ~ po.static_member) refl refl (is_second (is_second (is_place (class_static j is_class) n))) (λ c p. p) (whole v (word t.DoubleColon ~ po.static_member))
+  class_static_goes = named k.StaticProp _ (po.class_before v) (word t.DoubleColon ~ po.static_member) refl refl
+      (is_second (is_second (is_place (class_static j is_class) n))) (λ c p. p)
+      (whole v (word t.DoubleColon ~ po.static_member))
 
-pub class_brace_goes : (v : Version) (j : NodeKind) (b : Forest) (ts : List Token) → IsNode v j b → is_class_name j && begins_with_class_name b ≡ true → IfSome (ta.brace_tail v j) (GoesOn v s.ClassRef j b ts)
+pub class_brace_goes : (v : Version) (j : NodeKind) (b : Forest) (ts : List Token) → IsNode v j b → is_class_name j
+    && begins_with_class_name b ≡ true → IfSome (ta.brace_tail v j) (GoesOn v s.ClassRef j b ts)
 class_brace_goes V74 j b ts n w =
-    when_form (GoesOn V74 s.ClassRef j b ts) (is_offset_base j) _ (λ d. named V74 j b ts n w k.BraceOffset _ (place OffsetBase) (braces expr) refl refl (is_place d n) (λ c p. p) (whole V74 (braces expr)))
+    when_form (GoesOn V74 s.ClassRef j b ts) (is_offset_base j) _
+    (λ d. named V74 j b ts n w k.BraceOffset _ (place OffsetBase) (braces expr) refl refl (is_place d n)
+    (λ c p. p) (whole V74 (braces expr)))
 class_brace_goes V83 j b ts n w = tt
 
-pub class_goes : (v : Version) (j : NodeKind) (b : Forest) (ts : List Token) → IsNode v j b → is_class_name j && begins_with_class_name b ≡ true → (x : Terminal) (us : List Token) → IfSome (ta.class_ref_by v j x us) (GoesOn v s.ClassRef j b ts)
+pub class_goes : (v : Version) (j : NodeKind) (b : Forest) (ts : List Token) → IsNode v j b → is_class_name j
+    && begins_with_class_name b ≡ true → (x : Terminal) (us : List Token)
+    → IfSome (ta.class_ref_by v j x us) (GoesOn v s.ClassRef j b ts)
 class_goes v j b ts n w t.OpenBracket us = class_offset_goes v j b ts n w
 class_goes v j b ts n w t.OpenBrace us = class_brace_goes v j b ts n w
 class_goes v j b ts n w t.Arrow us = class_prop_goes v j b ts n w
@@ -182,18 +197,32 @@ class_goes v j b ts n w _ us = tt
 pub plain_is : (v : Version) (j : NodeKind) (b : Forest) → (j ≡ k.Variable) × Fits v (word t.Variable) b → is_nearest b ≡ true → Fits v qu.plain_variable (node j b none)
 plain_is v j b p near = subst (λ (i : NodeKind). Fits v qu.plain_variable (node i b none)) (sym p.0) (is_inside p.1 near)
 
-pub interpolated_goes : (v : Version) (j : NodeKind) (b : Forest) (ts : List Token) → (is_variable j ≡ true → (j ≡ k.Variable) × Fits v (word t.Variable) b) → is_nearest b ≡ true → (x : Terminal) → IfSome (ta.interpolated_by j x) (GoesOn v s.Interpolated j b ts)
+pub interpolated_goes : (v : Version) (j : NodeKind) (b : Forest) (ts : List Token)
+    → (is_variable j ≡ true → (j ≡ k.Variable) × Fits v (word t.Variable) b) → is_nearest b ≡ true → (x : Terminal)
+    → IfSome (ta.interpolated_by j x) (GoesOn v s.Interpolated j b ts)
 interpolated_goes v j b ts p near t.OpenBracket =
     when_form (GoesOn v s.Interpolated j b ts) (is_variable j) _ (λ w.
     record {
-      goes = λ f rest same m.
-          ((λ d. is_second (is_first (is_inside (is_both (plain_is v j b (p w) near) (whole v (brackets qu.simple_key) f rest m) refl) d)), λ d. false_is d), quiet k.Offset (node j b f) rest refl);
+      goes = λ f rest same m. (
+        (
+          λ d. is_second (is_first (is_inside (is_both (plain_is v j b (p w) near)
+              (whole v (brackets qu.simple_key) f rest m) refl) d)),
+          λ d. false_is d,
+        ),
+        quiet k.Offset (node j b f) rest refl,
+      );
     })
 interpolated_goes v j b ts p near t.Arrow =
     when_form (GoesOn v s.Interpolated j b ts) (is_variable j) _ (λ w.
     record {
-      goes = λ f rest same m.
-          ((λ d. is_second (is_second (is_inside (is_both (plain_is v j b (p w) near) (whole v (word t.Arrow ~ word t.AnyLabel) f rest m) refl) d)), λ d. false_is d), quiet k.Prop (node j b f) rest refl);
+      goes = λ f rest same m. (
+        (
+          λ d. is_second (is_second (is_inside (is_both (plain_is v j b (p w) near)
+              (whole v (word t.Arrow ~ word t.AnyLabel) f rest m) refl) d)),
+          λ d. false_is d,
+        ),
+        quiet k.Prop (node j b f) rest refl,
+      );
     })
 interpolated_goes v j b ts p near _ = tt
 
@@ -201,7 +230,8 @@ interpolated_goes v j b ts p near _ = tt
 pub goes_good : (v : Version) (s : Sort) (j : NodeKind) (b : Forest) (ts : List Token) → Stands v s j b → is_nearest b ≡ true → IfSome (ft.tail v s (j, b) ts) (GoesOn v s j b ts)
 goes_good v (s.Operand limit) j b ts p near = read_goes v limit j b ts p.0 near p.1
 goes_good v s.Entry j b ts p near = entry_goes v j b ts p.0 near p.1
-goes_good v s.Target j b ts p near = cond_option (GoesOn v s.Target j b ts) (is_list j) None (ta.place_tail v (j, b) ts) (λ e. tt) (λ e. place_goes v s.Target j b ts (as_target v j b ts) p near)
+goes_good v s.Target j b ts p near = cond_option (GoesOn v s.Target j b ts) (is_list j) None
+    (ta.place_tail v (j, b) ts) (λ e. tt) (λ e. place_goes v s.Target j b ts (as_target v j b ts) p near)
 goes_good v s.Place j b ts p near = place_goes v s.Place j b ts (as_place v j b ts) p near
 goes_good v s.ClassRef j b ts p near = class_goes v j b ts (is_node p.0.fits near p.0.fine) p.1 (first_of ts) ts
 goes_good v s.Interpolated j b ts p near = interpolated_goes v j b ts p.1 near (first_of ts)

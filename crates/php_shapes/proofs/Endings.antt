@@ -53,11 +53,14 @@ list_quiet k.Text e = false_is e
 list_quiet k.Quoted e = false_is e
 list_quiet _ e = refl
 
-pub operand_ends : (v : Version) (limit : ℕ) (j : NodeKind) (b : Forest) → Fits v (form v j) b → is_nearest b ≡ true → is_operand j ≡ true → is_tight v limit j b ≡ true → is_misindented (j, b) ≡ false → is_list j ≡ false → Fits v (place (Operand limit)) (node j b none)
+pub operand_ends : (v : Version) (limit : ℕ) (j : NodeKind) (b : Forest) → Fits v (form v j) b → is_nearest b ≡ true
+    → is_operand j ≡ true → is_tight v limit j b ≡ true → is_misindented (j, b) ≡ false → is_list j ≡ false
+    → Fits v (place (Operand limit)) (node j b none)
 operand_ends v limit j b p near o tight fine list =
     is_place (ap (λ (y : Bool). y && is_tight v limit j b) (is_no_list (is_expression j) (is_list j) o list) ∙ tight) (is_node p near fine)
 
-pub target_ends : (v : Version) (j : NodeKind) (b : Forest) (ts : List Token) → Fits v (form v j) b → is_nearest b ≡ true → ta.place_tail v (j, b) ts ≡ None → Fits v (place Target) (node j b none)
+pub target_ends : (v : Version) (j : NodeKind) (b : Forest) (ts : List Token) → Fits v (form v j) b
+    → is_nearest b ≡ true → ta.place_tail v (j, b) ts ≡ None → Fits v (place Target) (node j b none)
 target_ends v j b ts p near e =
     let a = cond_none (is_misindented (j, b)) (or_else (ta.postfix_tail v j ts) (ta.refused_unless (is_target j))) e in
     is_place (test_holds (is_target j) (or_none (ta.postfix_tail v j ts) (ta.refused_unless (is_target j)) a.1)) (is_node p near a.0)
@@ -76,19 +79,23 @@ target_or_list v j b (is_place w n) = is_place (or_true_left (is_target j) (is_l
 pub list_or_target : (v : Version) (j : NodeKind) (b : Forest) → Fits v (form v j) b → is_nearest b ≡ true → is_list j ≡ true → Fits v (place TargetOrList) (node j b none)
 list_or_target v j b p near e = is_place (or_true_right (is_target j) (is_list j) e) (is_node p near (quiet_fine j b (list_quiet j e)))
 
-pub any_target_ends : (v : Version) (j : NodeKind) (b : Forest) (ts : List Token) → Fits v (form v j) b → is_nearest b ≡ true → ta.target_tail v (j, b) ts ≡ None → Fits v (place TargetOrList) (node j b none)
+pub any_target_ends : (v : Version) (j : NodeKind) (b : Forest) (ts : List Token) → Fits v (form v j) b
+    → is_nearest b ≡ true → ta.target_tail v (j, b) ts ≡ None → Fits v (place TargetOrList) (node j b none)
 any_target_ends v j b ts p near e = go (is_list j) refl e
   where
     go : (l : Bool) → is_list j ≡ l → cond l None (ta.place_tail v (j, b) ts) ≡ None → Fits v (place TargetOrList) (node j b none)
     go true d e = list_or_target v j b p near d
     go false d e = target_or_list v j b (target_ends v j b ts p near e)
 
-pub entry_ends : (v : Version) (j : NodeKind) (b : Forest) (ts : List Token) → Fits v (form v j) b → is_nearest b ≡ true → is_operand j ≡ true → is_tight v 24 j b ≡ true → ta.entry_tail v (j, b) ts ≡ None → Fits v (entry_rule (is_double_arrow (first_of ts))) (node j b none)
+pub entry_ends : (v : Version) (j : NodeKind) (b : Forest) (ts : List Token) → Fits v (form v j) b
+    → is_nearest b ≡ true → is_operand j ≡ true → is_tight v 24 j b ≡ true → ta.entry_tail v (j, b) ts ≡ None
+    → Fits v (entry_rule (is_double_arrow (first_of ts))) (node j b none)
 entry_ends v j b ts p near o tight e =
     let a = cond_none (is_misindented (j, b)) (or_else (ta.operand_tail v 24 (j, b) ts) (ta.entry_end j (first_of ts))) e in
     go a.0 (is_double_arrow (first_of ts)) (or_none (ta.operand_tail v 24 (j, b) ts) (ta.entry_end j (first_of ts)) a.1)
   where
-    go : is_misindented (j, b) ≡ false → (l : Bool) → cond l (ta.refused_unless (not (is_list j))) (ta.refused_unless (is_target j || is_list j)) ≡ None → Fits v (entry_rule l) (node j b none)
+    go : is_misindented (j, b) ≡ false → (l : Bool) → cond l (ta.refused_unless (not (is_list j)))
+        (ta.refused_unless (is_target j || is_list j)) ≡ None → Fits v (entry_rule l) (node j b none)
     go fine true d = operand_ends v 24 j b p near o tight fine (not_true (is_list j) (test_holds (not (is_list j)) d))
     go fine false d = is_place (test_holds (is_target j || is_list j) d) (is_node p near fine)
 
@@ -99,7 +106,8 @@ pub place_ends : (v : Version) (p : Place) (j : NodeKind) (b : Forest) → Made 
 place_ends v p j b m near e = is_place e (is_node m.fits near m.fine)
 
 -- A node of each sort ends as one that may stand there.
-pub ends_good : (v : Version) (s : Sort) (j : NodeKind) (b : Forest) (ts : List Token) → Stands v s j b → is_nearest b ≡ true → ft.tail v s (j, b) ts ≡ None → Meets v (sorted s) (node j b none) ts
+pub ends_good : (v : Version) (s : Sort) (j : NodeKind) (b : Forest) (ts : List Token) → Stands v s j b
+    → is_nearest b ≡ true → ft.tail v s (j, b) ts ≡ None → Meets v (sorted s) (node j b none) ts
 ends_good v s.Statement j b ts p near e = place_ends v Statement j b p.0 near p.1
 ends_good v s.Block j b ts p near e = kind_ends v k.Block j b p.0 near p.1
 ends_good v s.Case j b ts p near e = kind_ends v k.Case j b p.0 near p.1

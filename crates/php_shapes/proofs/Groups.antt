@@ -52,8 +52,12 @@ grouped_class_once V74 = whole V74 (na.grouped_class V74)
 grouped_class_once V83 = whole V83 (na.grouped_class V83)
 
 pub name_lead_once : (v : Version) (x : Terminal) → Gives v (entries v (fn.name_lead x)) (nothing ||| word t.Backslash ||| word t.Namespace ~ word t.Backslash)
-name_lead_once v t.Backslash = other v (flat (word t.Backslash) []) (nothing) (word t.Backslash ||| word t.Namespace ~ word t.Backslash) (one v (word t.Backslash) (word t.Namespace ~ word t.Backslash))
-name_lead_once v t.Namespace = other v (flat (word t.Namespace ~ word t.Backslash) []) (nothing) (word t.Backslash ||| word t.Namespace ~ word t.Backslash) (second v (word t.Backslash) (word t.Namespace ~ word t.Backslash))
+name_lead_once v t.Backslash = other v (flat (word t.Backslash) []) (nothing)
+    (word t.Backslash ||| word t.Namespace ~ word t.Backslash)
+    (one v (word t.Backslash) (word t.Namespace ~ word t.Backslash))
+name_lead_once v t.Namespace = other v (flat (word t.Namespace ~ word t.Backslash) []) (nothing)
+    (word t.Backslash ||| word t.Namespace ~ word t.Backslash)
+    (second v (word t.Backslash) (word t.Namespace ~ word t.Backslash))
 name_lead_once v _ = absent v (word t.Backslash ||| word t.Namespace ~ word t.Backslash)
 
 pub root_lead_once : (v : Version) (x : Terminal) → Gives v (entries v (fn.root_lead x)) (maybe (word t.Backslash))
@@ -103,7 +107,9 @@ exprs_once v t.Semi = absent v (commas expr)
 exprs_once v t.CloseParen = absent v (commas expr)
 exprs_once v _ = present v (commas expr)
 
-pub foreach_target_once : (v : Version) (x : Terminal) → Gives v (entries v (fs.foreach_target x)) (word t.Ampersand ~ place TargetOrList ||| place TargetOrList ~ maybe (word t.DoubleArrow ~ at.by_ref ~ place TargetOrList))
+pub foreach_target_once : (v : Version) (x : Terminal) → Gives v (entries v (fs.foreach_target x))
+    (word t.Ampersand ~ place TargetOrList ||| place TargetOrList ~ maybe
+    (word t.DoubleArrow ~ at.by_ref ~ place TargetOrList))
 foreach_target_once v t.Ampersand = one v (word t.Ampersand ~ place TargetOrList) (place TargetOrList ~ maybe (word t.DoubleArrow ~ at.by_ref ~ place TargetOrList))
 foreach_target_once v _ = second v (word t.Ampersand ~ place TargetOrList) (place TargetOrList ~ maybe (word t.DoubleArrow ~ at.by_ref ~ place TargetOrList))
 
@@ -180,7 +186,8 @@ pub method_body_once : (v : Version) (x : Terminal) → Gives v (entries v (fd.m
 method_body_once v t.OpenBrace = one v (kind k.Block) (word t.Semi)
 method_body_once v _ = second v (kind k.Block) (word t.Semi)
 
-pub namespace_body_once : (v : Version) (x : Terminal) → Gives v (entries v (fd.namespace_body x)) (braces st.statements ||| na.namespace_name v ~ (braces st.statements ||| word t.Semi))
+pub namespace_body_once : (v : Version) (x : Terminal) → Gives v (entries v (fd.namespace_body x))
+    (braces st.statements ||| na.namespace_name v ~ (braces st.statements ||| word t.Semi))
 namespace_body_once v t.OpenBrace = one v (braces st.statements) (na.namespace_name v ~ (braces st.statements ||| word t.Semi))
 namespace_body_once v _ = second v (braces st.statements) (na.namespace_name v ~ (braces st.statements ||| word t.Semi))
 
@@ -188,7 +195,9 @@ pub namespace_rest_once : (v : Version) (x : Terminal) → Gives v (entries v (f
 namespace_rest_once v t.OpenBrace = one v (braces st.statements) (word t.Semi)
 namespace_rest_once v _ = second v (braces st.statements) (word t.Semi)
 
-pub use_rest_once : (v : Version) (x : Terminal) → Gives v (entries v (fd.use_rest x)) (ns.alias ~ many (word t.Comma ~ ns.imported v) ||| word t.Backslash ~ braces (commas_last (ns.grouped_of_kind v)))
+pub use_rest_once : (v : Version) (x : Terminal) → Gives v (entries v (fd.use_rest x))
+    (ns.alias ~ many (word t.Comma ~ ns.imported v) ||| word t.Backslash ~ braces
+    (commas_last (ns.grouped_of_kind v)))
 use_rest_once v t.Backslash = second v (ns.alias ~ many (word t.Comma ~ ns.imported v)) (word t.Backslash ~ braces (commas_last (ns.grouped_of_kind v)))
 use_rest_once v _ = one v (ns.alias ~ many (word t.Comma ~ ns.imported v)) (word t.Backslash ~ braces (commas_last (ns.grouped_of_kind v)))
 
@@ -197,8 +206,12 @@ alias_once v t.As = present v (word t.As ~ word t.FreeLabel)
 alias_once v _ = absent v (word t.As ~ word t.FreeLabel)
 
 pub grouped_once : (v : Version) (x : Terminal) → Gives v (entries v (fd.grouped x)) (ns.grouped v ||| word t.Function ~ ns.grouped v ||| word t.Const ~ ns.grouped v)
-grouped_once v t.Function = other v (flat (word t.Function ~ ns.grouped v) []) (ns.grouped v) (word t.Function ~ ns.grouped v ||| word t.Const ~ ns.grouped v) (one v (word t.Function ~ ns.grouped v) (word t.Const ~ ns.grouped v))
-grouped_once v t.Const = other v (flat (word t.Const ~ ns.grouped v) []) (ns.grouped v) (word t.Function ~ ns.grouped v ||| word t.Const ~ ns.grouped v) (second v (word t.Function ~ ns.grouped v) (word t.Const ~ ns.grouped v))
+grouped_once v t.Function = other v (flat (word t.Function ~ ns.grouped v) []) (ns.grouped v)
+    (word t.Function ~ ns.grouped v ||| word t.Const ~ ns.grouped v)
+    (one v (word t.Function ~ ns.grouped v) (word t.Const ~ ns.grouped v))
+grouped_once v t.Const = other v (flat (word t.Const ~ ns.grouped v) []) (ns.grouped v)
+    (word t.Function ~ ns.grouped v ||| word t.Const ~ ns.grouped v)
+    (second v (word t.Function ~ ns.grouped v) (word t.Const ~ ns.grouped v))
 grouped_once v _ = one v (ns.grouped v) (word t.Function ~ ns.grouped v ||| word t.Const ~ ns.grouped v)
 
 -- ---- arguments, arrays and lists
@@ -233,9 +246,17 @@ simple_key_once v t.Label = one v (word t.AnyLabel) (word t.Int ||| word t.Minus
 simple_key_once v t.Match = one v (word t.AnyLabel) (word t.Int ||| word t.Minus ~ word t.Int ||| qu.plain_variable)
 simple_key_once v t.Readonly = one v (word t.AnyLabel) (word t.Int ||| word t.Minus ~ word t.Int ||| qu.plain_variable)
 simple_key_once v t.MixedOrNever = one v (word t.AnyLabel) (word t.Int ||| word t.Minus ~ word t.Int ||| qu.plain_variable)
-simple_key_once v t.Int = other v (flat (word t.Int) []) (word t.AnyLabel) (word t.Int ||| word t.Minus ~ word t.Int ||| qu.plain_variable) (one v (word t.Int) (word t.Minus ~ word t.Int ||| qu.plain_variable))
-simple_key_once v t.Minus = other v (flat (word t.Minus ~ word t.Int) []) (word t.AnyLabel) (word t.Int ||| word t.Minus ~ word t.Int ||| qu.plain_variable) (other v (flat (word t.Minus ~ word t.Int) []) (word t.Int) (word t.Minus ~ word t.Int ||| qu.plain_variable) (one v (word t.Minus ~ word t.Int) (qu.plain_variable)))
-simple_key_once v _ = other v (flat (qu.plain_variable) []) (word t.AnyLabel) (word t.Int ||| word t.Minus ~ word t.Int ||| qu.plain_variable) (other v (flat (qu.plain_variable) []) (word t.Int) (word t.Minus ~ word t.Int ||| qu.plain_variable) (second v (word t.Minus ~ word t.Int) (qu.plain_variable)))
+simple_key_once v t.Int = other v (flat (word t.Int) []) (word t.AnyLabel)
+    (word t.Int ||| word t.Minus ~ word t.Int ||| qu.plain_variable)
+    (one v (word t.Int) (word t.Minus ~ word t.Int ||| qu.plain_variable))
+simple_key_once v t.Minus = other v (flat (word t.Minus ~ word t.Int) []) (word t.AnyLabel)
+    (word t.Int ||| word t.Minus ~ word t.Int ||| qu.plain_variable)
+    (other v (flat (word t.Minus ~ word t.Int) []) (word t.Int) (word t.Minus ~ word t.Int ||| qu.plain_variable)
+    (one v (word t.Minus ~ word t.Int) (qu.plain_variable)))
+simple_key_once v _ = other v (flat (qu.plain_variable) []) (word t.AnyLabel)
+    (word t.Int ||| word t.Minus ~ word t.Int ||| qu.plain_variable)
+    (other v (flat (qu.plain_variable) []) (word t.Int) (word t.Minus ~ word t.Int ||| qu.plain_variable)
+    (second v (word t.Minus ~ word t.Int) (qu.plain_variable)))
 
 -- ---- expressions
 

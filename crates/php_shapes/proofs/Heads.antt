@@ -52,7 +52,8 @@ or_true true c e = refl
 or_true false c e = e
 
 -- an expression without an operator of its own
-pub atom : (v : Version) (k : NodeKind) (is : List Item) → is_operand k ≡ true → is_closed k ≡ true → ((c : Forest) → level v (k, c) ≡ 0) → Gives v (entries v is) (form v k) → Heads v (k, is)
+pub atom : (v : Version) (k : NodeKind) (is : List Item) → is_operand k ≡ true → is_closed k ≡ true
+    → ((c : Forest) → level v (k, c) ≡ 0) → Gives v (entries v is) (form v k) → Heads v (k, is)
 atom v k is o q low p = record {
   at_all = λ c rest m.
       record {

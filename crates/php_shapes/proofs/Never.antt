@@ -63,7 +63,8 @@ class_is kind.InlineHtml text = refl
 class_is kind.OpenEcho text = refl
 class_is kind.Variable text = refl
 class_is kind.Label text = found t.Label labels text refl labels_fine
-class_is kind.Keyword text = either_class (nat_lt 5 (length text) && is_word (codes "yield") (front 5 text)) t.YieldFrom (find_row t.OtherKeyword keywords text) refl (found t.OtherKeyword keywords text refl keywords_fine)
+class_is kind.Keyword text = either_class (nat_lt 5 (length text) && is_word (codes "yield") (front 5 text))
+    t.YieldFrom (find_row t.OtherKeyword keywords text) refl (found t.OtherKeyword keywords text refl keywords_fine)
 class_is kind.Int text = refl
 class_is kind.Float text = refl
 class_is kind.Text text = refl
@@ -72,7 +73,8 @@ class_is kind.HeredocStart text = refl
 class_is kind.Backtick text = refl
 class_is kind.Cast text =
     either_class (nat_lt (opening text) (length text)) _ t.Cast
-    (either_class (nat_eq (to_ascii_lowercase (slice_index text (opening text))) 114 || nat_eq (to_ascii_lowercase (slice_index text (opening text))) 117) t.OldCast t.Cast refl refl) refl
+    (either_class (nat_eq (to_ascii_lowercase (slice_index text (opening text))) 114
+    || nat_eq (to_ascii_lowercase (slice_index text (opening text))) 117) t.OldCast t.Cast refl refl) refl
 class_is kind.Op text = found t.OtherOp operators text refl operators_fine
 class_is kind.AttributeOpen text = refl
 class_is kind.Name text =

@@ -79,7 +79,9 @@ module _ (v : Version) (limit : ℕ) (j : NodeKind) (b : Forest) (n : IsNode v j
   On = GrowsOn v limit j b ts
 
   -- an assignment, which may stand behind any operator
-  assigned : (k : NodeKind) (is : List Item) (p : Place) (r : Rule) → is_operand k ≡ true → is_closed k ≡ true → is_prefix k ≡ true → may_stand v p (j, b) ≡ true → ((c : Forest) → Fits v (place p ~ r) c → Fits v (form v k) c) → Gives v (entries v is) r → On (k, is)
+  assigned : (k : NodeKind) (is : List Item) (p : Place) (r : Rule) → is_operand k ≡ true → is_closed k ≡ true
+      → is_prefix k ≡ true → may_stand v p (j, b) ≡ true
+      → ((c : Forest) → Fits v (place p ~ r) c → Fits v (form v k) c) → Gives v (entries v is) r → On (k, is)
   assigned k is p r q e d w into gives = record {
     grows = λ f rest same m.
         record {
@@ -92,9 +94,13 @@ module _ (v : Version) (limit : ℕ) (j : NodeKind) (b : Forest) (n : IsNode v j
 
   assign_grows : (x : Terminal) → IfSome (ta.assign_tail j x) On
   assign_grows t.Ampersand =
-      when_form On (is_target j) _ (λ w. assigned k.AssignRef _ Target (word t.Assign ~ word t.Ampersand ~ place (Operand 19)) refl refl refl w (λ c p. p) (whole v (word t.Assign ~ word t.Ampersand ~ place (Operand 19))))
+      when_form On (is_target j) _ (λ w. assigned k.AssignRef _ Target
+      (word t.Assign ~ word t.Ampersand ~ place (Operand 19)) refl refl refl w (λ c p. p)
+      (whole v (word t.Assign ~ word t.Ampersand ~ place (Operand 19))))
   assign_grows _ =
-      when_form On (is_target j || is_list j) _ (λ w. assigned k.Assign _ TargetOrList (word t.Assign ~ place (Operand 19)) refl refl refl w (λ c p. p) (whole v (word t.Assign ~ place (Operand 19))))
+      when_form On (is_target j || is_list j) _
+      (λ w. assigned k.Assign _ TargetOrList (word t.Assign ~ place (Operand 19)) refl refl refl w (λ c p. p)
+      (whole v (word t.Assign ~ place (Operand 19))))
 
   step_grows : IfSome (ta.operator_by v limit (ta.left_edge v (j, b)) j t.Step ts) On
   step_grows =
@@ -110,7 +116,9 @@ module _ (v : Version) (limit : ℕ) (j : NodeKind) (b : Forest) (n : IsNode v j
       })
 
   -- an operator of a level
-  levelled : (k : NodeKind) (is : List Item) (a r : Rule) → is_operand k ≡ true → is_closed k ≡ true → ((f : Forest) → nat_le (level v (k, node j b f)) limit ≡ true) → Fits v a (node j b none) → ((c : Forest) → Fits v (a ~ r) c → Fits v (form v k) c) → Gives v (entries v is) r → On (k, is)
+  levelled : (k : NodeKind) (is : List Item) (a r : Rule) → is_operand k ≡ true → is_closed k ≡ true
+      → ((f : Forest) → nat_le (level v (k, node j b f)) limit ≡ true) → Fits v a (node j b none)
+      → ((c : Forest) → Fits v (a ~ r) c → Fits v (form v k) c) → Gives v (entries v is) r → On (k, is)
   levelled k is a r q e d w into gives = record {
     grows = λ f rest same m.
         record {
@@ -131,19 +139,27 @@ module _ (v : Version) (limit : ℕ) (j : NodeKind) (b : Forest) (n : IsNode v j
 
 -- ---- ternaries
 
-before_fits : (v : Version) (j : NodeKind) (b : Forest) → IsNode v j b → is_operand j ≡ true → ta.left_fits v (ta.left_edge v (j, b)) ≡ true → Fits v (place (Left (op.before_ternary v))) (node j b none)
+before_fits : (v : Version) (j : NodeKind) (b : Forest) → IsNode v j b → is_operand j ≡ true
+    → ta.left_fits v (ta.left_edge v (j, b)) ≡ true → Fits v (place (Left (op.before_ternary v))) (node j b none)
 before_fits V74 j b n o e = is_place (edge_fits V74 j b o 18 (omega arith) e) n
 before_fits V83 j b n o e = is_place (edge_fits V83 j b o 17 (omega arith) e) n
 
-short_before : (v : Version) (j : NodeKind) (b : Forest) → IsNode v j b → is_operand j ≡ true → ta.short_left_fits v (ta.left_edge v (j, b)) j ≡ true → Fits v (place (Left (op.before_ternary v)) ||| place LeftShort) (node j b none)
+short_before : (v : Version) (j : NodeKind) (b : Forest) → IsNode v j b → is_operand j ≡ true
+    → ta.short_left_fits v (ta.left_edge v (j, b)) j ≡ true → Fits v
+    (place (Left (op.before_ternary v)) ||| place LeftShort) (node j b none)
 short_before v j b n o e = go (ta.left_fits v (ta.left_edge v (j, b))) refl e
   where
-    go : (l : Bool) → ta.left_fits v (ta.left_edge v (j, b)) ≡ l → (l || nat_le (ta.left_edge v (j, b)) 18 && is_short_ternary j) ≡ true → Fits v (place (Left (op.before_ternary v)) ||| place LeftShort) (node j b none)
+    go : (l : Bool) → ta.left_fits v (ta.left_edge v (j, b)) ≡ l
+        → (l || nat_le (ta.left_edge v (j, b)) 18 && is_short_ternary j) ≡ true
+        → Fits v (place (Left (op.before_ternary v)) ||| place LeftShort) (node j b none)
     go true d e = is_first (before_fits v j b n o d)
     go false d e =
-        is_second (is_place (short_fits v j b o (and_right (nat_le (ta.left_edge v (j, b)) 18) (is_short_ternary j) e) (and_left (nat_le (ta.left_edge v (j, b)) 18) (is_short_ternary j) e)) n)
+        is_second (is_place (short_fits v j b o (and_right (nat_le (ta.left_edge v (j, b)) 18) (is_short_ternary j) e)
+        (and_left (nat_le (ta.left_edge v (j, b)) 18) (is_short_ternary j) e)) n)
 
-ternary_grows : (v : Version) (limit : ℕ) (j : NodeKind) (b : Forest) (n : IsNode v j b) (o : is_operand j ≡ true) (ts : List Token) (x : Terminal) → IfSome (ta.ternary_tail v limit (ta.left_edge v (j, b)) j x) (GrowsOn v limit j b ts)
+ternary_grows : (v : Version) (limit : ℕ) (j : NodeKind) (b : Forest) (n : IsNode v j b) (o : is_operand j ≡ true)
+    (ts : List Token) (x : Terminal) → IfSome (ta.ternary_tail v limit (ta.left_edge v (j, b)) j x)
+    (GrowsOn v limit j b ts)
 ternary_grows v limit j b n o ts t.Colon =
     when_form (GrowsOn v limit j b ts) (nat_le 18 limit && ta.short_left_fits v (ta.left_edge v (j, b)) j) _ (λ w.
     levelled v limit j b n o ts k.ShortTernary _ (place (Left (op.before_ternary v)) ||| place LeftShort) (word t.Question ~ word t.Colon ~ place (Operand 17)) refl refl
@@ -157,10 +173,14 @@ ternary_grows v limit j b n o ts _ =
     (before_fits v j b n o (and_right (nat_le 18 limit) (ta.left_fits v (ta.left_edge v (j, b))) w))
     (λ c p. p) (whole v (word t.Question ~ expr ~ word t.Colon ~ place (Operand 17))))
 
-chosen_grows : (v : Version) (limit : ℕ) (j : NodeKind) (b : Forest) (n : IsNode v j b) (o : is_operand j ≡ true) (ts : List Token) (x : Terminal) → IfSome (ta.operator_by v limit (ta.left_edge v (j, b)) j x ts) (GrowsOn v limit j b ts)
+chosen_grows : (v : Version) (limit : ℕ) (j : NodeKind) (b : Forest) (n : IsNode v j b) (o : is_operand j ≡ true)
+    (ts : List Token) (x : Terminal) → IfSome (ta.operator_by v limit (ta.left_edge v (j, b)) j x ts)
+    (GrowsOn v limit j b ts)
 chosen_grows v limit j b n o ts t.Assign = assign_grows v limit j b n o ts (second_of ts)
 chosen_grows v limit j b n o ts t.CompoundAssign =
-    when_form (GrowsOn v limit j b ts) (is_target j) _ (λ w. assigned v limit j b n o ts k.CompoundAssign _ Target (word t.CompoundAssign ~ place (Operand 19)) refl refl refl w (λ c p. p) (whole v (word t.CompoundAssign ~ place (Operand 19))))
+    when_form (GrowsOn v limit j b ts) (is_target j) _
+    (λ w. assigned v limit j b n o ts k.CompoundAssign _ Target (word t.CompoundAssign ~ place (Operand 19)) refl
+    refl refl w (λ c p. p) (whole v (word t.CompoundAssign ~ place (Operand 19))))
 chosen_grows v limit j b n o ts t.Step = step_grows v limit j b n o ts
 chosen_grows v limit j b n o ts t.InstanceOf = instance_grows v limit j b n o ts
 chosen_grows v limit j b n o ts t.Question = ternary_grows v limit j b n o ts (second_of ts)
@@ -170,15 +190,23 @@ chosen_grows v limit j b n o ts _ = tt
 
 module _ (v : Version) (limit : ℕ) (j : NodeKind) (b : Forest) (n : IsNode v j b) (o : is_operand j ≡ true) (ts : List Token) where
   -- the operator, and the operand behind it
-  right_of : (operator : Terminal) (r : ℕ) (f : Forest) (rest : List Token) → ((x : Token) → terminal x ≡ operator → accepts v operator x ≡ true) → first_of ts ≡ operator → ts ≡ leaves f ++ rest → Meet v (entries v (with_right r)) f rest → Fits v (word operator ~ place (Operand r)) f × (binary_level v operator ≡ level v (k.Binary, node j b f))
+  right_of : (operator : Terminal) (r : ℕ) (f : Forest) (rest : List Token)
+      → ((x : Token) → terminal x ≡ operator → accepts v operator x ≡ true) → first_of ts ≡ operator → ts ≡ leaves f
+      ++ rest → Meet v (entries v (with_right r)) f rest → Fits v (word operator ~ place (Operand r)) f
+      × (binary_level v operator ≡ level v (k.Binary, node j b f))
   right_of operator r f rest takes first same m = go m.0 m.1 m.2 (whole v (place (Operand r)) m.1 rest m.3) m.4
     where
-      go : (h i : Forest) → Fits v (word t.BinaryOperator) h → Fits v (place (Operand r)) i → f ≡ h +++ i → Fits v (word operator ~ place (Operand r)) f × (binary_level v operator ≡ level v (k.Binary, node j b f))
+      go : (h i : Forest) → Fits v (word t.BinaryOperator) h → Fits v (place (Operand r)) i → f ≡ h +++ i
+          → Fits v (word operator ~ place (Operand r)) f × (binary_level v operator ≡ level v (k.Binary, node j b f))
       go h i (is_word {x} p) q e =
           let is : terminal x ≡ operator = sym (ap (λ (y : Forest). first_of (leaves y ++ rest)) e) ∙ sym (ap first_of same) ∙ first in
           (is_both (is_word (takes x is)) q e, ap (binary_level v) (sym is) ∙ ap (λ (y : Forest). level v (k.Binary, node j b y)) (sym e))
 
-  between : (operator : Terminal) (l r : ℕ) → l ≤ 24 → ((x : Token) → terminal x ≡ operator → accepts v operator x ≡ true) → first_of ts ≡ operator → nat_le (binary_level v operator) limit ≡ true → nat_le (ta.left_edge v (j, b)) l ≡ true → ((c : Forest) → Fits v (place (Left l) ~ word operator ~ place (Operand r)) c → Fits v (op.binary v) c) → GrowsOn v limit j b ts (k.Binary, with_right r)
+  between : (operator : Terminal) (l r : ℕ) → l ≤ 24
+      → ((x : Token) → terminal x ≡ operator → accepts v operator x ≡ true) → first_of ts ≡ operator
+      → nat_le (binary_level v operator) limit ≡ true → nat_le (ta.left_edge v (j, b)) l ≡ true
+      → ((c : Forest) → Fits v (place (Left l) ~ word operator ~ place (Operand r)) c → Fits v (op.binary v) c)
+      → GrowsOn v limit j b ts (k.Binary, with_right r)
   between operator l r le takes first low left into = record {
     grows = λ f rest same m.
         let q = right_of operator r f rest takes first same m in
@@ -206,33 +234,95 @@ module _ (v : Version) (limit : ℕ) (j : NodeKind) (b : Forest) (n : IsNode v j
   same_takes : (operator : Terminal) → same_class operator operator ≡ true → (x : Token) → terminal x ≡ operator → same_class operator (terminal x) ≡ true
   same_takes operator e x d = subst (λ (own : Terminal). same_class operator own ≡ true) (sym d) e
 
-dot_grows : (v : Version) (limit : ℕ) (j : NodeKind) (b : Forest) (n : IsNode v j b) (o : is_operand j ≡ true) (ts : List Token) → first_of ts ≡ t.Dot → Test v limit j b n o ts t.Dot ≡ true → GrowsOn v limit j b ts (k.Binary, binary_items v t.Dot)
-dot_grows V74 limit j b n o ts first w = between V74 limit j b n o ts t.Dot 7 6 (omega arith) (same_takes V74 limit j b n o ts t.Dot refl) first (low_by V74 limit j b n o ts t.Dot w) (left_by V74 limit j b n o ts t.Dot w) (λ c p. is_second (is_second (is_second (is_second (is_second (is_first p))))))
-dot_grows V83 limit j b n o ts first w = between V83 limit j b n o ts t.Dot 9 8 (omega arith) (same_takes V83 limit j b n o ts t.Dot refl) first (low_by V83 limit j b n o ts t.Dot w) (left_by V83 limit j b n o ts t.Dot w) (λ c p. is_second (is_second (is_second (is_second (is_second (is_first p))))))
+dot_grows : (v : Version) (limit : ℕ) (j : NodeKind) (b : Forest) (n : IsNode v j b) (o : is_operand j ≡ true)
+    (ts : List Token) → first_of ts ≡ t.Dot → Test v limit j b n o ts t.Dot ≡ true
+    → GrowsOn v limit j b ts (k.Binary, binary_items v t.Dot)
+dot_grows V74 limit j b n o ts first w = between V74 limit j b n o ts t.Dot 7 6 (omega arith)
+    (same_takes V74 limit j b n o ts t.Dot refl) first (low_by V74 limit j b n o ts t.Dot w)
+    (left_by V74 limit j b n o ts t.Dot w) (λ c p. is_second
+    (is_second (is_second (is_second (is_second (is_first p))))))
+dot_grows V83 limit j b n o ts first w = between V83 limit j b n o ts t.Dot 9 8 (omega arith)
+    (same_takes V83 limit j b n o ts t.Dot refl) first (low_by V83 limit j b n o ts t.Dot w)
+    (left_by V83 limit j b n o ts t.Dot w) (λ c p. is_second
+    (is_second (is_second (is_second (is_second (is_first p))))))
 
-binary_grows : (v : Version) (limit : ℕ) (j : NodeKind) (b : Forest) (n : IsNode v j b) (o : is_operand j ≡ true) (ts : List Token) (operator : Terminal) → first_of ts ≡ operator → Test v limit j b n o ts operator ≡ true → GrowsOn v limit j b ts (k.Binary, binary_items v operator)
-binary_grows v limit j b n o ts t.Power first w = between v limit j b n o ts t.Power 1 2 (omega arith) (same_takes v limit j b n o ts t.Power refl) first (low_by v limit j b n o ts t.Power w) (left_by v limit j b n o ts t.Power w) (λ c p. is_first p)
-binary_grows v limit j b n o ts t.Factor first w = between v limit j b n o ts t.Factor 6 5 (omega arith) (same_takes v limit j b n o ts t.Factor refl) first (low_by v limit j b n o ts t.Factor w) (left_by v limit j b n o ts t.Factor w) (λ c p. is_second (is_first p))
-binary_grows v limit j b n o ts t.Plus first w = between v limit j b n o ts t.Plus 7 6 (omega arith) (same_takes v limit j b n o ts t.Plus refl) first (low_by v limit j b n o ts t.Plus w) (left_by v limit j b n o ts t.Plus w) (λ c p. is_second (is_second (is_first p)))
-binary_grows v limit j b n o ts t.Minus first w = between v limit j b n o ts t.Minus 7 6 (omega arith) (same_takes v limit j b n o ts t.Minus refl) first (low_by v limit j b n o ts t.Minus w) (left_by v limit j b n o ts t.Minus w) (λ c p. is_second (is_second (is_second (is_first p))))
-binary_grows v limit j b n o ts t.Shift first w = between v limit j b n o ts t.Shift 8 7 (omega arith) (same_takes v limit j b n o ts t.Shift refl) first (low_by v limit j b n o ts t.Shift w) (left_by v limit j b n o ts t.Shift w) (λ c p. is_second (is_second (is_second (is_second (is_first p)))))
+binary_grows : (v : Version) (limit : ℕ) (j : NodeKind) (b : Forest) (n : IsNode v j b) (o : is_operand j ≡ true)
+    (ts : List Token) (operator : Terminal) → first_of ts ≡ operator → Test v limit j b n o ts operator ≡ true
+    → GrowsOn v limit j b ts (k.Binary, binary_items v operator)
+binary_grows v limit j b n o ts t.Power first w = between v limit j b n o ts t.Power 1 2 (omega arith)
+    (same_takes v limit j b n o ts t.Power refl) first (low_by v limit j b n o ts t.Power w)
+    (left_by v limit j b n o ts t.Power w) (λ c p. is_first p)
+binary_grows v limit j b n o ts t.Factor first w = between v limit j b n o ts t.Factor 6 5 (omega arith)
+    (same_takes v limit j b n o ts t.Factor refl) first (low_by v limit j b n o ts t.Factor w)
+    (left_by v limit j b n o ts t.Factor w) (λ c p. is_second (is_first p))
+binary_grows v limit j b n o ts t.Plus first w = between v limit j b n o ts t.Plus 7 6 (omega arith)
+    (same_takes v limit j b n o ts t.Plus refl) first (low_by v limit j b n o ts t.Plus w)
+    (left_by v limit j b n o ts t.Plus w) (λ c p. is_second (is_second (is_first p)))
+binary_grows v limit j b n o ts t.Minus first w = between v limit j b n o ts t.Minus 7 6 (omega arith)
+    (same_takes v limit j b n o ts t.Minus refl) first (low_by v limit j b n o ts t.Minus w)
+    (left_by v limit j b n o ts t.Minus w) (λ c p. is_second (is_second (is_second (is_first p))))
+binary_grows v limit j b n o ts t.Shift first w = between v limit j b n o ts t.Shift 8 7 (omega arith)
+    (same_takes v limit j b n o ts t.Shift refl) first (low_by v limit j b n o ts t.Shift w)
+    (left_by v limit j b n o ts t.Shift w) (λ c p. is_second (is_second (is_second (is_second (is_first p)))))
 binary_grows v limit j b n o ts t.Dot first w = dot_grows v limit j b n o ts first w
-binary_grows v limit j b n o ts t.Order first w = between v limit j b n o ts t.Order 9 9 (omega arith) (same_takes v limit j b n o ts t.Order refl) first (low_by v limit j b n o ts t.Order w) (left_by v limit j b n o ts t.Order w) (λ c p. is_second (is_second (is_second (is_second (is_second (is_second (is_first p)))))))
-binary_grows v limit j b n o ts t.Equality first w = between v limit j b n o ts t.Equality 10 10 (omega arith) (same_takes v limit j b n o ts t.Equality refl) first (low_by v limit j b n o ts t.Equality w) (left_by v limit j b n o ts t.Equality w) (λ c p. is_second (is_second (is_second (is_second (is_second (is_second (is_second (is_first p))))))))
-binary_grows v limit j b n o ts t.Ampersand first w = between v limit j b n o ts t.Ampersand 12 11 (omega arith) (same_takes v limit j b n o ts t.Ampersand refl) first (low_by v limit j b n o ts t.Ampersand w) (left_by v limit j b n o ts t.Ampersand w) (λ c p. is_second (is_second (is_second (is_second (is_second (is_second (is_second (is_second (is_first p)))))))))
-binary_grows v limit j b n o ts t.Caret first w = between v limit j b n o ts t.Caret 13 12 (omega arith) (same_takes v limit j b n o ts t.Caret refl) first (low_by v limit j b n o ts t.Caret w) (left_by v limit j b n o ts t.Caret w) (λ c p. is_second (is_second (is_second (is_second (is_second (is_second (is_second (is_second (is_second (is_first p))))))))))
-binary_grows v limit j b n o ts t.Bar first w = between v limit j b n o ts t.Bar 14 13 (omega arith) (same_takes v limit j b n o ts t.Bar refl) first (low_by v limit j b n o ts t.Bar w) (left_by v limit j b n o ts t.Bar w) (λ c p. is_second (is_second (is_second (is_second (is_second (is_second (is_second (is_second (is_second (is_second (is_first p)))))))))))
-binary_grows v limit j b n o ts t.BooleanAnd first w = between v limit j b n o ts t.BooleanAnd 15 14 (omega arith) (same_takes v limit j b n o ts t.BooleanAnd refl) first (low_by v limit j b n o ts t.BooleanAnd w) (left_by v limit j b n o ts t.BooleanAnd w) (λ c p. is_second (is_second (is_second (is_second (is_second (is_second (is_second (is_second (is_second (is_second (is_second (is_first p))))))))))))
-binary_grows v limit j b n o ts t.BooleanOr first w = between v limit j b n o ts t.BooleanOr 16 15 (omega arith) (same_takes v limit j b n o ts t.BooleanOr refl) first (low_by v limit j b n o ts t.BooleanOr w) (left_by v limit j b n o ts t.BooleanOr w) (λ c p. is_second (is_second (is_second (is_second (is_second (is_second (is_second (is_second (is_second (is_second (is_second (is_second (is_first p)))))))))))))
-binary_grows v limit j b n o ts t.Coalesce first w = between v limit j b n o ts t.Coalesce 16 17 (omega arith) (same_takes v limit j b n o ts t.Coalesce refl) first (low_by v limit j b n o ts t.Coalesce w) (left_by v limit j b n o ts t.Coalesce w) (λ c p. is_second (is_second (is_second (is_second (is_second (is_second (is_second (is_second (is_second (is_second (is_second (is_second (is_second (is_first p))))))))))))))
-binary_grows v limit j b n o ts t.And first w = between v limit j b n o ts t.And 21 20 (omega arith) (same_takes v limit j b n o ts t.And refl) first (low_by v limit j b n o ts t.And w) (left_by v limit j b n o ts t.And w) (λ c p. is_second (is_second (is_second (is_second (is_second (is_second (is_second (is_second (is_second (is_second (is_second (is_second (is_second (is_second (is_first p)))))))))))))))
-binary_grows v limit j b n o ts t.Xor first w = between v limit j b n o ts t.Xor 22 21 (omega arith) (same_takes v limit j b n o ts t.Xor refl) first (low_by v limit j b n o ts t.Xor w) (left_by v limit j b n o ts t.Xor w) (λ c p. is_second (is_second (is_second (is_second (is_second (is_second (is_second (is_second (is_second (is_second (is_second (is_second (is_second (is_second (is_second (is_first p))))))))))))))))
-binary_grows v limit j b n o ts t.Or first w = between v limit j b n o ts t.Or 23 22 (omega arith) (same_takes v limit j b n o ts t.Or refl) first (low_by v limit j b n o ts t.Or w) (left_by v limit j b n o ts t.Or w) (λ c p. is_second (is_second (is_second (is_second (is_second (is_second (is_second (is_second (is_second (is_second (is_second (is_second (is_second (is_second (is_second (is_second p))))))))))))))))
+binary_grows v limit j b n o ts t.Order first w = between v limit j b n o ts t.Order 9 9 (omega arith)
+    (same_takes v limit j b n o ts t.Order refl) first (low_by v limit j b n o ts t.Order w)
+    (left_by v limit j b n o ts t.Order w) (λ c p. is_second
+    (is_second (is_second (is_second (is_second (is_second (is_first p)))))))
+binary_grows v limit j b n o ts t.Equality first w = between v limit j b n o ts t.Equality 10 10 (omega arith)
+    (same_takes v limit j b n o ts t.Equality refl) first (low_by v limit j b n o ts t.Equality w)
+    (left_by v limit j b n o ts t.Equality w)
+    (λ c p. is_second (is_second (is_second (is_second (is_second (is_second (is_second (is_first p))))))))
+binary_grows v limit j b n o ts t.Ampersand first w = between v limit j b n o ts t.Ampersand 12 11 (omega arith)
+    (same_takes v limit j b n o ts t.Ampersand refl) first (low_by v limit j b n o ts t.Ampersand w)
+    (left_by v limit j b n o ts t.Ampersand w)
+    (λ c p. is_second (is_second (is_second (is_second (is_second
+    (is_second (is_second (is_second (is_first p)))))))))
+binary_grows v limit j b n o ts t.Caret first w = between v limit j b n o ts t.Caret 13 12 (omega arith)
+    (same_takes v limit j b n o ts t.Caret refl) first (low_by v limit j b n o ts t.Caret w)
+    (left_by v limit j b n o ts t.Caret w) (λ c p. is_second
+    (is_second (is_second (is_second (is_second (is_second (is_second (is_second (is_second (is_first p))))))))))
+binary_grows v limit j b n o ts t.Bar first w = between v limit j b n o ts t.Bar 14 13 (omega arith)
+    (same_takes v limit j b n o ts t.Bar refl) first (low_by v limit j b n o ts t.Bar w)
+    (left_by v limit j b n o ts t.Bar w) (λ c p. is_second (is_second
+    (is_second (is_second (is_second (is_second (is_second (is_second (is_second (is_second (is_first p)))))))))))
+binary_grows v limit j b n o ts t.BooleanAnd first w = between v limit j b n o ts t.BooleanAnd 15 14 (omega arith)
+    (same_takes v limit j b n o ts t.BooleanAnd refl) first (low_by v limit j b n o ts t.BooleanAnd w)
+    (left_by v limit j b n o ts t.BooleanAnd w)
+    (λ c p. is_second (is_second (is_second (is_second (is_second
+    (is_second (is_second (is_second (is_second (is_second (is_second (is_first p))))))))))))
+binary_grows v limit j b n o ts t.BooleanOr first w = between v limit j b n o ts t.BooleanOr 16 15 (omega arith)
+    (same_takes v limit j b n o ts t.BooleanOr refl) first (low_by v limit j b n o ts t.BooleanOr w)
+    (left_by v limit j b n o ts t.BooleanOr w)
+    (λ c p. is_second (is_second (is_second (is_second (is_second
+    (is_second (is_second (is_second (is_second (is_second (is_second (is_second (is_first p)))))))))))))
+binary_grows v limit j b n o ts t.Coalesce first w = between v limit j b n o ts t.Coalesce 16 17 (omega arith)
+    (same_takes v limit j b n o ts t.Coalesce refl) first (low_by v limit j b n o ts t.Coalesce w)
+    (left_by v limit j b n o ts t.Coalesce w)
+    (λ c p. is_second (is_second (is_second (is_second (is_second
+    (is_second (is_second (is_second (is_second (is_second (is_second (is_second (is_second (is_first p))))))))))))))
+binary_grows v limit j b n o ts t.And first w = between v limit j b n o ts t.And 21 20 (omega arith)
+    (same_takes v limit j b n o ts t.And refl) first (low_by v limit j b n o ts t.And w)
+    (left_by v limit j b n o ts t.And w) (λ c p. is_second (is_second
+    (is_second (is_second (is_second (is_second (is_second (is_second
+    (is_second (is_second (is_second (is_second (is_second (is_second (is_first p)))))))))))))))
+binary_grows v limit j b n o ts t.Xor first w = between v limit j b n o ts t.Xor 22 21 (omega arith)
+    (same_takes v limit j b n o ts t.Xor refl) first (low_by v limit j b n o ts t.Xor w)
+    (left_by v limit j b n o ts t.Xor w) (λ c p. is_second (is_second
+    (is_second (is_second (is_second (is_second (is_second (is_second
+    (is_second (is_second (is_second (is_second (is_second (is_second (is_second (is_first p))))))))))))))))
+binary_grows v limit j b n o ts t.Or first w = between v limit j b n o ts t.Or 23 22 (omega arith)
+    (same_takes v limit j b n o ts t.Or refl) first (low_by v limit j b n o ts t.Or w)
+    (left_by v limit j b n o ts t.Or w) (λ c p. is_second (is_second
+    (is_second (is_second (is_second (is_second (is_second (is_second
+    (is_second (is_second (is_second (is_second (is_second (is_second (is_second (is_second p))))))))))))))))
 binary_grows v limit j b n o ts _ first w = false_is w
 
 -- An operator behind an operand.
-pub operator_grows : (v : Version) (limit : ℕ) (j : NodeKind) (b : Forest) → IsNode v j b → is_operand j ≡ true → (ts : List Token) → IfSome (ta.operator_tail v limit (ta.left_edge v (j, b)) j ts) (GrowsOn v limit j b ts)
+pub operator_grows : (v : Version) (limit : ℕ) (j : NodeKind) (b : Forest) → IsNode v j b → is_operand j ≡ true
+    → (ts : List Token) → IfSome (ta.operator_tail v limit (ta.left_edge v (j, b)) j ts) (GrowsOn v limit j b ts)
 operator_grows v limit j b n o ts =
     or_else_form (GrowsOn v limit j b ts) (ta.chosen_tail v limit (ta.left_edge v (j, b)) j ts) (ta.binary_tail v limit (ta.left_edge v (j, b)) (first_of ts))
     (chosen_grows v limit j b n o ts (first_of ts))
-    (when_form (GrowsOn v limit j b ts) (Test v limit j b n o ts (first_of ts)) (k.Binary, binary_items v (first_of ts)) (λ w. binary_grows v limit j b n o ts (first_of ts) refl w))
+    (when_form (GrowsOn v limit j b ts) (Test v limit j b n o ts (first_of ts))
+    (k.Binary, binary_items v (first_of ts)) (λ w. binary_grows v limit j b n o ts (first_of ts) refl w))

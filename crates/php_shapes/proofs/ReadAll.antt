@@ -337,9 +337,14 @@ targets_quiet v k.Yield c h x = absurd (false_true h)
 
 -- what is proved of `new`, of `instanceof` and of what names a class
 pub record Created (v : Version) : Type 0 where
-  pub news : (n : ℕ) → Below v n → (m : ℕ) (c : Forest) (rest : List Token) → Fits v (shape v k.New) c → count c ≤ n → Before v (k.New, c) (first_of rest) → Grows (php v) (s.Operand m) k.New c rest
-  pub instances : (n : ℕ) → Below v n → Grown v n → (m : ℕ) (c : Forest) (rest : List Token) → Fits v (shape v k.InstanceOf) c → count c ≤ n → FitsLevel v m (k.InstanceOf, c) → Before v (k.InstanceOf, c) (first_of rest) → Grows (php v) (s.Operand m) k.InstanceOf c rest
-  pub refs : (n : ℕ) → Below v n → (j : NodeKind) (c : Forest) (rest : List Token) → count c ≤ n → may_stand v ClassName (j, c) ≡ true → IsNode v j c → Stopped v s.ClassRef (j, c) rest → Spells (php v) s.ClassRef (j, c) rest
+  pub news : (n : ℕ) → Below v n → (m : ℕ) (c : Forest) (rest : List Token) → Fits v (shape v k.New) c → count c ≤ n
+      → Before v (k.New, c) (first_of rest) → Grows (php v) (s.Operand m) k.New c rest
+  pub instances : (n : ℕ) → Below v n → Grown v n → (m : ℕ) (c : Forest) (rest : List Token)
+      → Fits v (shape v k.InstanceOf) c → count c ≤ n → FitsLevel v m (k.InstanceOf, c)
+      → Before v (k.InstanceOf, c) (first_of rest) → Grows (php v) (s.Operand m) k.InstanceOf c rest
+  pub refs : (n : ℕ) → Below v n → (j : NodeKind) (c : Forest) (rest : List Token) → count c ≤ n
+      → may_stand v ClassName (j, c) ≡ true → IsNode v j c → Stopped v s.ClassRef (j, c) rest
+      → Spells (php v) s.ClassRef (j, c) rest
 
 none_fewer : (n : ℕ) → n < 0 → ⊥
 none_fewer n lt = omega arith
@@ -386,7 +391,9 @@ list_before : (v : Version) (c : Forest) (d : Terminal) → Before v (k.List, c)
 list_before v c d h = elim h [ inl q ↦ absurd (false_true (sym q.0)) | inr q ↦ list_goes v d q ]
 
 module _ (v : Version) (made : Created v) where
-  grows : (n : ℕ) → Below v n → Grown v n → (m : ℕ) (j : NodeKind) (c : Forest) (rest : List Token) → count c ≤ n → (is_expression j || is_list j) ≡ true → FitsLevel v m (j, c) → IsNode v j c → Before v (j, c) (first_of rest) → Grows (php v) (s.Operand m) j c rest
+  grows : (n : ℕ) → Below v n → Grown v n → (m : ℕ) (j : NodeKind) (c : Forest) (rest : List Token) → count c ≤ n
+      → (is_expression j || is_list j) ≡ true → FitsLevel v m (j, c) → IsNode v j c → Before v (j, c) (first_of rest)
+      → Grows (php v) (s.Operand m) j c rest
   grows n below grown m k.Block c rest le e fl x h = absurd (false_true e)
   grows n below grown m k.Empty c rest le e fl x h = absurd (false_true e)
   grows n below grown m k.ExprStmt c rest le e fl x h = absurd (false_true e)
@@ -470,40 +477,59 @@ module _ (v : Version) (made : Created v) where
   level_of : (m : ℕ) (x : Tree) → (nat_le (level v x) m || is_prefix x.0) ≡ true → FitsLevel v m x
   level_of m x h = elim (or_is (nat_le (level v x) m) (is_prefix x.0) h) [ inl e ↦ inl (leb-true (level v x) m e) | inr e ↦ inr e ]
 
-  operand_read : (n : ℕ) → Below v n → Grown v n → (m : ℕ) (j : NodeKind) (c : Forest) (rest : List Token) → count c ≤ n → may_stand v (Operand m) (j, c) ≡ true → IsNode v j c → Ends v m (j, c) (first_of rest) → Spells (php v) (s.Operand m) (j, c) rest
+  operand_read : (n : ℕ) → Below v n → Grown v n → (m : ℕ) (j : NodeKind) (c : Forest) (rest : List Token)
+      → count c ≤ n → may_stand v (Operand m) (j, c) ≡ true → IsNode v j c → Ends v m (j, c) (first_of rest)
+      → Spells (php v) (s.Operand m) (j, c) rest
   operand_read n below grown m j c rest le st x e =
       let q : (is_expression j ≡ true) × ((nat_le (level v (j, c)) m || is_prefix j) ≡ true) = both (is_expression j) (nat_le (level v (j, c)) m || is_prefix j) st in
-      let nl : is_list j ≡ false = not_list j q.0 in
-      (grows n below grown m j c rest le (or_list (is_expression j) (is_list j) q.0) (level_of m (j, c) q.1) x (inl (nl, behind_of m (j, c) (first_of rest) e)), ends_here v m (j, c) rest (straight v j c x) nl e)
+      let nl : is_list j ≡ false = not_list j q.0 in (
+        grows n below grown m j c rest le (or_list (is_expression j) (is_list j) q.0) (level_of m (j, c) q.1) x
+            (inl (nl, behind_of m (j, c) (first_of rest) e)),
+        ends_here v m (j, c) rest (straight v j c x) nl e,
+      )
 
   -- an expression before what may stand behind it
-  any_grows : (n : ℕ) → Below v n → Grown v n → (j : NodeKind) (c : Forest) (rest : List Token) → count c ≤ n → is_expression j ≡ true → FitsLevel v 24 (j, c) → IsNode v j c → Behind v (j, c) (first_of rest) → Grows (php v) (s.Operand 24) j c rest
+  any_grows : (n : ℕ) → Below v n → Grown v n → (j : NodeKind) (c : Forest) (rest : List Token) → count c ≤ n
+      → is_expression j ≡ true → FitsLevel v 24 (j, c) → IsNode v j c → Behind v (j, c) (first_of rest)
+      → Grows (php v) (s.Operand 24) j c rest
   any_grows n below grown j c rest le h f x b = grows n below grown 24 j c rest le (or_list (is_expression j) (is_list j) h) f x (inl (not_list j h, b))
 
-  target_grows : (n : ℕ) → Below v n → Grown v n → (j : NodeKind) (c : Forest) (rest : List Token) → count c ≤ n → is_target j ≡ true → IsNode v j c → Behind v (j, c) (first_of rest) → Grows (php v) (s.Operand 24) j c rest
-  target_grows n below grown j c rest le h x b = any_grows n below grown j c rest le (base_expression j (target_offset (role_of j) h)) (inl (low_level 24 (level v (j, c)) (base_level v j c (target_offset (role_of j) h)))) x b
+  target_grows : (n : ℕ) → Below v n → Grown v n → (j : NodeKind) (c : Forest) (rest : List Token) → count c ≤ n
+      → is_target j ≡ true → IsNode v j c → Behind v (j, c) (first_of rest) → Grows (php v) (s.Operand 24) j c rest
+  target_grows n below grown j c rest le h x b = any_grows n below grown j c rest le
+      (base_expression j (target_offset (role_of j) h))
+      (inl (low_level 24 (level v (j, c)) (base_level v j c (target_offset (role_of j) h)))) x b
 
-  target_read : (n : ℕ) → Below v n → Grown v n → (j : NodeKind) (c : Forest) (rest : List Token) → count c ≤ n → (is_target j || is_list j) ≡ true → IsNode v j c → closes_target (first_of rest) ≡ true → Spells (php v) s.Target (j, c) rest
+  target_read : (n : ℕ) → Below v n → Grown v n → (j : NodeKind) (c : Forest) (rest : List Token) → count c ≤ n
+      → (is_target j || is_list j) ≡ true → IsNode v j c → closes_target (first_of rest) ≡ true
+      → Spells (php v) s.Target (j, c) rest
   target_read n below grown j c rest le h x cl = elim (or_is (is_target j) (is_list j) h) [
     | inl e ↦ targets_read v j c rest (target_grows n below grown j c rest le e x (behind_target v (j, c) (first_of rest) (targets_quiet v j c e x) cl)) e x cl
     | inr e ↦ list_target n below j c rest le e x cl
   ]
     where
-      list_target : (n : ℕ) → Below v n → (j : NodeKind) (c : Forest) (rest : List Token) → count c ≤ n → is_list j ≡ true → IsNode v j c → closes_target (first_of rest) ≡ true → Spells (php v) s.Target (j, c) rest
+      list_target : (n : ℕ) → Below v n → (j : NodeKind) (c : Forest) (rest : List Token) → count c ≤ n
+          → is_list j ≡ true → IsNode v j c → closes_target (first_of rest) ≡ true
+          → Spells (php v) s.Target (j, c) rest
       list_target n below k.List c rest le e x cl = list_targets v n below c rest x (the_shape v k.List c x) le cl
       list_target n below other c rest le e x cl = absurd (false_true e)
 
-  entry_read : (n : ℕ) → Below v n → Grown v n → (j : NodeKind) (c : Forest) (rest : List Token) → count c ≤ n → (is_target j || is_list j) ≡ true → IsNode v j c → closes_item (first_of rest) ≡ true → Spells (php v) s.Entry (j, c) rest
+  entry_read : (n : ℕ) → Below v n → Grown v n → (j : NodeKind) (c : Forest) (rest : List Token) → count c ≤ n
+      → (is_target j || is_list j) ≡ true → IsNode v j c → closes_item (first_of rest) ≡ true
+      → Spells (php v) s.Entry (j, c) rest
   entry_read n below grown j c rest le h x cl = elim (or_is (is_target j) (is_list j) h) [
     | inl e ↦ entry_targets_read v j c rest (target_grows n below grown j c rest le e x (inl (item_closes (first_of rest) cl))) e x cl
     | inr e ↦ list_entry n below j c rest le e x cl
   ]
     where
-      list_entry : (n : ℕ) → Below v n → (j : NodeKind) (c : Forest) (rest : List Token) → count c ≤ n → is_list j ≡ true → IsNode v j c → closes_item (first_of rest) ≡ true → Spells (php v) s.Entry (j, c) rest
+      list_entry : (n : ℕ) → Below v n → (j : NodeKind) (c : Forest) (rest : List Token) → count c ≤ n
+          → is_list j ≡ true → IsNode v j c → closes_item (first_of rest) ≡ true → Spells (php v) s.Entry (j, c) rest
       list_entry n below k.List c rest le e x cl = list_entries v n below c rest x (the_shape v k.List c x) le cl
       list_entry n below other c rest le e x cl = absurd (false_true e)
 
-  key_read : (n : ℕ) → Below v n → Grown v n → (j : NodeKind) (c : Forest) (rest : List Token) → count c ≤ n → is_expression j ≡ true → FitsLevel v 24 (j, c) → IsNode v j c → first_of rest ≡ t.DoubleArrow → is_open_for_arrow (j, c) ≡ false → Spells (php v) s.Entry (j, c) rest
+  key_read : (n : ℕ) → Below v n → Grown v n → (j : NodeKind) (c : Forest) (rest : List Token) → count c ≤ n
+      → is_expression j ≡ true → FitsLevel v 24 (j, c) → IsNode v j c → first_of rest ≡ t.DoubleArrow
+      → is_open_for_arrow (j, c) ≡ false → Spells (php v) s.Entry (j, c) rest
   key_read n below grown j c rest le h f x e q = keys_read v j c rest (any_grows n below grown j c rest le h f x (inr (inl (ap is_to e, q)))) h x e
 
   expression_target : (j : NodeKind) → is_expression j ≡ true → (is_target j || is_list j) ≡ true → is_target j ≡ true
@@ -512,7 +538,9 @@ module _ (v : Version) (made : Created v) where
   target_level : (j : NodeKind) (c : Forest) → (is_target j || is_list j) ≡ true → is_expression j ≡ true → FitsLevel v 24 (j, c)
   target_level j c h e = inl (low_level 24 (level v (j, c)) (base_level v j c (target_offset (role_of j) (expression_target j e h))))
 
-  operand_entry : (n : ℕ) → Below v n → Grown v n → (j : NodeKind) (c : Forest) (rest : List Token) → count c ≤ n → may_stand v (Operand 24) (j, c) ≡ true → IsNode v j c → Stopped v s.Entry (j, c) rest → Spells (php v) s.Entry (j, c) rest
+  operand_entry : (n : ℕ) → Below v n → Grown v n → (j : NodeKind) (c : Forest) (rest : List Token) → count c ≤ n
+      → may_stand v (Operand 24) (j, c) ≡ true → IsNode v j c → Stopped v s.Entry (j, c) rest
+      → Spells (php v) s.Entry (j, c) rest
   operand_entry n below grown j c rest le st x h =
       let q : (is_expression j ≡ true) × ((nat_le (level v (j, c)) 24 || is_prefix j) ≡ true) = both (is_expression j) (nat_le (level v (j, c)) 24 || is_prefix j) st in
       elim h [
@@ -520,18 +548,32 @@ module _ (v : Version) (made : Created v) where
         | inr w ↦ key_read n below grown j c rest le q.0 (level_of 24 (j, c) q.1) x w.0 w.2
       ]
 
-  at_places : (n : ℕ) → Below v n → Grown v n → (p : Place) (sort : Sort) (j : NodeKind) (c : Forest) (rest : List Token) → suits p sort ≡ true → count c ≤ n → may_stand v p (j, c) ≡ true → IsNode v j c → Stopped v sort (j, c) rest → Spells (php v) sort (j, c) rest
+  at_places : (n : ℕ) → Below v n → Grown v n → (p : Place) (sort : Sort) (j : NodeKind) (c : Forest)
+      (rest : List Token) → suits p sort ≡ true → count c ≤ n → may_stand v p (j, c) ≡ true → IsNode v j c
+      → Stopped v sort (j, c) rest → Spells (php v) sort (j, c) rest
   at_places n below grown Statement s.Statement j c rest su le st x h = (statement_grows v n below j c rest le st x h, refl)
   at_places n below grown Member s.Member j c rest su le st x h = (member_grows v n below j c rest le st x, refl)
-  at_places n below grown (Operand a) (s.Operand m) j c rest su le st x h = subst (λ (z : ℕ). Spells (php v) (s.Operand z) (j, c) rest) (eqb-true a m su) (operand_read n below grown a j c rest le st x (subst (λ (z : ℕ). Ends v z (j, c) (first_of rest)) (sym (eqb-true a m su)) h))
-  at_places n below grown (Operand a) s.Entry j c rest su le st x h = operand_entry n below grown j c rest le (subst (λ (z : ℕ). may_stand v (Operand z) (j, c) ≡ true) (eqb-true a 24 su) st) x h
+  at_places n below grown (Operand a) (s.Operand m) j c rest su le st x h =
+      subst (λ (z : ℕ). Spells (php v) (s.Operand z) (j, c) rest) (eqb-true a m su)
+      (operand_read n below grown a j c rest le st x
+      (subst (λ (z : ℕ). Ends v z (j, c) (first_of rest)) (sym (eqb-true a m su)) h))
+  at_places n below grown (Operand a) s.Entry j c rest su le st x h =
+      operand_entry n below grown j c rest le
+      (subst (λ (z : ℕ). may_stand v (Operand z) (j, c) ≡ true) (eqb-true a 24 su) st) x h
   at_places n below grown Target s.Place j c rest su le st x h = places_read v j c rest (target_grows n below grown j c rest le st x h) st x h
-  at_places n below grown TargetOrList s.Entry j c rest su le st x h = elim h [ inl q ↦ entry_read n below grown j c rest le q.1 x q.0 | inr q ↦ key_read n below grown j c rest le q.1 (target_level j c st q.1) x q.0 q.2 ]
+  at_places n below grown TargetOrList s.Entry j c rest su le st x h =
+      elim h [
+        | inl q ↦ entry_read n below grown j c rest le q.1 x q.0
+        | inr q
+            ↦ key_read n below grown j c rest le q.1 (target_level j c st q.1) x q.0 q.2
+      ]
   at_places n below grown TargetOrList s.Target j c rest su le st x h = target_read n below grown j c rest le st x h
   at_places n below grown ClassName s.ClassRef j c rest su le st x h = made.refs n below j c rest le st x h
   at_places n below grown p sort j c rest su le st x h = absurd (false_true su)
 
-  at_kinds : (n : ℕ) → Below v n → (j : NodeKind) (sort : Sort) (c : Forest) (rest : List Token) → reads_kind j sort ≡ true → count c ≤ n → IsNode v j c → Stopped v sort (j, c) rest → Spells (php v) sort (j, c) rest
+  at_kinds : (n : ℕ) → Below v n → (j : NodeKind) (sort : Sort) (c : Forest) (rest : List Token)
+      → reads_kind j sort ≡ true → count c ≤ n → IsNode v j c → Stopped v sort (j, c) rest
+      → Spells (php v) sort (j, c) rest
   at_kinds n below k.Block s.Block c rest su le x h = (body_grows v n below c rest le x h, refl)
   at_kinds n below k.Case s.Case c rest su le x h = (case_grows v n below c rest le x h, refl)
   at_kinds n below k.Param s.Param c rest su le x h = (param_grows v n below c rest le x h, refl)
@@ -545,7 +587,12 @@ module _ (v : Version) (made : Created v) where
   mutual
     all_below : (n : ℕ) → Below v n
     all_below zero = record { placed = λ p sort j c rest su lt st x h. absurd (none_fewer (count c) lt); kinded = λ j sort c rest su lt x h. absurd (none_fewer (count c) lt) }
-    all_below (suc n) = record { placed = λ p sort j c rest su lt st x h. at_places n (all_below n) (all_grown n) p sort j c rest su (fewer (count c) n lt) st x h; kinded = λ j sort c rest su lt x h. at_kinds n (all_below n) j sort c rest su (fewer (count c) n lt) x h }
+    all_below (suc n) = record {
+      placed = λ p sort j c rest su lt st x h. at_places n (all_below n) (all_grown n) p
+          sort j c rest su (fewer (count c) n lt) st x h;
+      kinded =
+          λ j sort c rest su lt x h. at_kinds n (all_below n) j sort c rest su (fewer (count c) n lt) x h;
+    }
 
     all_grown : (n : ℕ) → Grown v n
     all_grown zero = record { operand = λ m j c rest lt e fl x h. absurd (none_fewer (count c) lt) }

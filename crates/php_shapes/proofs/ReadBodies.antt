@@ -30,7 +30,9 @@ use Rattle.php_shapes.proofs.ReadNearest.{last_closed}
 longer : (f g : Forest) (us rest : List Token) → us ≡ leaves g ++ rest → leaves f ++ us ≡ leaves (f +++ g) ++ rest
 longer f g us rest e = ap (λ (m : List Token). leaves f ++ m) e ∙ sym (leaves_before f g rest)
 
-go_on : (T : Tables) (js : List Item) (g : Forest) (rest : List Token) → Walks T js g rest → (is : List Item) (f : Forest) (us : List Token) → Walks T is f us → us ≡ leaves g ++ rest → Walks T (is ++ js) (f +++ g) rest
+go_on : (T : Tables) (js : List Item) (g : Forest) (rest : List Token) → Walks T js g rest
+    → (is : List Item) (f : Forest) (us : List Token) → Walks T is f us → us ≡ leaves g ++ rest
+    → Walks T (is ++ js) (f +++ g) rest
 go_on T js g rest w [] f us ends e = w
 go_on T js g rest w (Word c ∷ is) f us (a_word {f = h} a x) e = a_word a (go_on T js g rest w is h us x e)
 go_on T js g rest w (Node sort ∷ is) f us (child {k = k} {c = c} {f = h} y n x) e =
@@ -44,7 +46,9 @@ go_on T js g rest w (Turns gr ∷ is) f us (stop y x) e =
     stop (subst (λ (m : List Token). T.parts gr m ≡ []) (longer f g us rest e) y) (go_on T js g rest w is f us x e)
 go_on T js g rest w (Turns gr ∷ is) f us (turn {i = i} {js = ks} {h = h} {f = k} y x lt z) e =
     subst (λ (m : Forest). Walks T (Turns gr ∷ (is ++ js)) m rest) (sym (forest_assoc h k g))
-    (turn (subst (λ (m : List Token). T.parts gr (leaves h ++ m) ≡ i ∷ ks) (longer k g us rest e) y) (subst (λ (m : List Token). Walks T (i ∷ ks) h m) (longer k g us rest e) x) lt (go_on T js g rest w (Turns gr ∷ is) k us z e))
+    (turn (subst (λ (m : List Token). T.parts gr (leaves h ++ m) ≡ i ∷ ks) (longer k g us rest e) y)
+    (subst (λ (m : List Token). Walks T (i ∷ ks) h m) (longer k g us rest e) x) lt
+    (go_on T js g rest w (Turns gr ∷ is) k us z e))
 go_on T js g rest w (Span ∷ is) f us (span {f = k} h a y x) e =
     subst (λ (m : Forest). Walks T (Span ∷ (is ++ js)) m rest) (sym (forest_assoc h k g))
     (span h a (subst (λ (m : List Token). T.span (leaves h ++ m) ≡ length (leaves h)) (longer k g us rest e) y) (go_on T js g rest w is k us x e))
@@ -101,7 +105,10 @@ last_rest j b (node i a f) rest h = h
 ends_before : (v : Version) (j : NodeKind) (b h : Forest) (us : List Token) → Fits v statements h → Last (node j b h) us → EndsStatement (j, b) (first_of (leaves h ++ us))
 ends_before v j b h us no_more l = l
 ends_before v j b h us (once_more {g = a} {h = k} x y e) l =
-    inl (begins_closes (first_of (leaves h ++ us)) (subst (λ (ts : List Token). begins_statement (first_of ts) ≡ true) (sym (ap (λ (f : Forest). leaves f ++ us) e ∙ leaves_before a k us)) (statement_begins v a (leaves k ++ us) x)))
+    inl (begins_closes (first_of (leaves h ++ us))
+    (subst (λ (ts : List Token). begins_statement (first_of ts) ≡ true)
+    (sym (ap (λ (f : Forest). leaves f ++ us) e ∙ leaves_before a k us))
+    (statement_begins v a (leaves k ++ us) x)))
 
 some_token : (P : Terminal → Bool) (ts : List Token) → Begins P false ts → 0 < length ts
 some_token P [] h = absurd (false_true h)
@@ -116,14 +123,17 @@ pub node_counts : (j : NodeKind) (c h : Forest) (n : ℕ) → count (node j c h)
 node_counts j c h n le = (omega arith, omega arith)
 
 -- Statements up to what ends them.
-pub statements_read : (v : Version) (n : ℕ) → Below v n → (f : Forest) (us : List Token) → Fits v statements f → count f ≤ n → turn_of (first_of us) ≡ [] → Last f us → Walks (php v) (Turns g.Statements ∷ []) f us
+pub statements_read : (v : Version) (n : ℕ) → Below v n → (f : Forest) (us : List Token) → Fits v statements f
+    → count f ≤ n → turn_of (first_of us) ≡ [] → Last f us → Walks (php v) (Turns g.Statements ∷ []) f us
 statements_read v n below f us no_more le e l = stop e ends
 statements_read v n below f us (once_more {g = a} {h = h} x y at) le e l =
     let q : (j : NodeKind) × (b : Forest) × (a ≡ node j b none) × (may_stand v Statement (j, b) ≡ true) × IsNode v j b = place_is v Statement a x in
     let whole : f ≡ node q.0 q.1 h = at ∙ ap (λ (m : Forest). m +++ h) q.2 in
     let two : (count q.1 < n) × (count h ≤ n) = node_counts q.0 q.1 h n (subst (λ (m : Forest). count m ≤ n) whole le) in
     let l2 : Last (node q.0 q.1 h) us = subst (λ (m : Forest). Last m us) whole l in
-    let z : Spells (php v) s.Statement (q.0, q.1) (leaves h ++ us) = below.placed Statement s.Statement q.0 q.1 (leaves h ++ us) refl two.0 q.3 q.4 (ends_before v q.0 q.1 h us y l2) in
+    let z : Spells (php v) s.Statement (q.0, q.1) (leaves h ++ us) =
+    below.placed Statement s.Statement q.0 q.1 (leaves h ++ us) refl two.0 q.3 q.4
+    (ends_before v q.0 q.1 h us y l2) in
     subst (λ (m : Forest). Walks (php v) (Turns g.Statements ∷ []) m us) (sym at)
     (turn (begins_turn (first_of (leaves a ++ (leaves h ++ us))) (statement_begins v a (leaves h ++ us) x))
     (subst (λ (m : Forest). Walks (php v) (Node s.Statement ∷ []) m (leaves h ++ us)) (sym q.2) (child {f = none} z.0 z.1 ends))
@@ -131,6 +141,7 @@ statements_read v n below f us (once_more {g = a} {h = h} x y at) le e l =
     (statements_read v n below h us y two.1 e (last_rest q.0 q.1 h us l2)))
 
 -- The statements of a file are read up to its end.
-pub file_walks : (v : Version) (n : ℕ) → Below v n → (f : Forest) (rest : List Token) → Fits v statements f → count f ≤ n → first_of rest ≡ t.End → Walks (php v) (Turns g.Statements ∷ []) f rest
+pub file_walks : (v : Version) (n : ℕ) → Below v n → (f : Forest) (rest : List Token) → Fits v statements f
+    → count f ≤ n → first_of rest ≡ t.End → Walks (php v) (Turns g.Statements ∷ []) f rest
 file_walks v n below f rest x le e =
     statements_read v n below f rest x le (ap turn_of e) (last_closed f rest (ap closes_statement e))

@@ -98,9 +98,18 @@ BeginsClass ts =
 
 -- An expression that names a class is read as it was, whatever follows.
 abbrev ClassGrows : Version → ℕ → ℕ → Type 0
-ClassGrows v n m = (j : NodeKind) (c : Forest) (rest : List Token) → count c < m → count c ≤ n → is_class_name j ≡ true → begins_with_class_name c ≡ true → IsNode v j c → Grows (php v) s.ClassRef j c rest × BeginsClass (leaves c ++ rest)
+ClassGrows v n m = (j : NodeKind) (c : Forest) (rest : List Token) → count c < m → count c ≤ n
+    → is_class_name j ≡ true → begins_with_class_name c ≡ true → IsNode v j c → Grows (php v) s.ClassRef j c rest
+    × BeginsClass (leaves c ++ rest)
 
-class_tests : (v : Version) → (for_all (λ c. where_it (starts v variable c) (is_variable_start c)) ≡ true) × (begins_with v (brackets (maybe expr)) t.OpenBracket ≡ true) × (begins_with v (word t.Arrow ~ member) t.Arrow ≡ true) × (begins_with v (word t.DoubleColon ~ static_member) t.DoubleColon ≡ true) × (for_all (λ c. where_it (starts v static_member c) (is_variable_start c)) ≡ true) × (for_all (λ c. where_it (starts v (name v) c) (is_name_part c)) ≡ true) × (words_are v is_name_part (name v) ≡ true) × (nullable (name v) ≡ false) × (for_all (λ c. whenever (could v t.Static c) (same_class t.Static c)) ≡ true)
+class_tests : (v : Version) → (for_all (λ c. where_it (starts v variable c) (is_variable_start c)) ≡ true)
+    × (begins_with v (brackets (maybe expr)) t.OpenBracket ≡ true)
+    × (begins_with v (word t.Arrow ~ member) t.Arrow ≡ true)
+    × (begins_with v (word t.DoubleColon ~ static_member) t.DoubleColon ≡ true)
+    × (for_all (λ c. where_it (starts v static_member c) (is_variable_start c)) ≡ true)
+    × (for_all (λ c. where_it (starts v (name v) c) (is_name_part c)) ≡ true)
+    × (words_are v is_name_part (name v) ≡ true) × (nullable (name v) ≡ false)
+    × (for_all (λ c. whenever (could v t.Static c) (same_class t.Static c)) ≡ true)
 unfolding for_all
 class_tests V74 = (refl, refl, refl, refl, refl, refl, refl, refl, refl)
 class_tests V83 = (refl, refl, refl, refl, refl, refl, refl, refl, refl)
@@ -113,7 +122,9 @@ never_word : for_all (λ c. where_it (could V83 t.Never c) false) ≡ true
 unfolding for_all
 never_word = refl
 
-class_matches : (v : Version) → (matches v 60 false (brackets (maybe expr) ∷ []) (offset_form.1) any_class ≡ true) × (matches v 60 false (braces expr ∷ []) (Word t.OpenBrace ∷ any ∷ Word t.CloseBrace ∷ []) any_class ≡ true) × (matches v 60 false ((word t.Arrow ~ member) ∷ []) (prop_form.1) any_class ≡ true)
+class_matches : (v : Version) → (matches v 60 false (brackets (maybe expr) ∷ []) (offset_form.1) any_class ≡ true)
+    × (matches v 60 false (braces expr ∷ []) (Word t.OpenBrace ∷ any ∷ Word t.CloseBrace ∷ []) any_class ≡ true)
+    × (matches v 60 false ((word t.Arrow ~ member) ∷ []) (prop_form.1) any_class ≡ true)
 unfolding for_all
 class_matches V74 = (refl, refl, refl)
 class_matches V83 = (refl, refl, refl)
@@ -127,7 +138,8 @@ unfolding for_all
 name_matches V74 = refl
 name_matches V83 = refl
 
-no_class_before : (c : Terminal) (ts : List Token) → is_variable_start c ≡ true → or_else (or_else (named_prop_form c) (named_static c)) (simple_variable_form ts) ≡ simple_variable_form ts
+no_class_before : (c : Terminal) (ts : List Token) → is_variable_start c ≡ true
+    → or_else (or_else (named_prop_form c) (named_static c)) (simple_variable_form ts) ≡ simple_variable_form ts
 no_class_before t.Variable ts h = refl
 no_class_before t.Dollar ts h = refl
 no_class_before c ts h = absurd (false_true h)
@@ -138,10 +150,12 @@ named_ref ts e = rw e refl
 static_ref : (ts : List Token) → first_of ts ≡ t.Static → class_ref_form ts ≡ Some (k.StaticProp, Word t.Static ∷ Word t.DoubleColon ∷ Part g.StaticMember ∷ [])
 static_ref ts e = rw e refl
 
-colons_tail : (v : Version) (i : NodeKind) (c : Terminal) (ts : List Token) → c ≡ t.DoubleColon → is_variable_start (second_of ts) ≡ true → class_ref_by v i c ts ≡ Some static_prop_form
+colons_tail : (v : Version) (i : NodeKind) (c : Terminal) (ts : List Token) → c ≡ t.DoubleColon
+    → is_variable_start (second_of ts) ≡ true → class_ref_by v i c ts ≡ Some static_prop_form
 colons_tail v i c ts e h = rw (e, h) refl
 
-brace_tail_is : (i : NodeKind) (c : Terminal) (ts : List Token) → c ≡ t.OpenBrace → is_offset_base i ≡ true → class_ref_by V74 i c ts ≡ Some (k.BraceOffset, Word t.OpenBrace ∷ any ∷ Word t.CloseBrace ∷ [])
+brace_tail_is : (i : NodeKind) (c : Terminal) (ts : List Token) → c ≡ t.OpenBrace → is_offset_base i ≡ true
+    → class_ref_by V74 i c ts ≡ Some (k.BraceOffset, Word t.OpenBrace ∷ any ∷ Word t.CloseBrace ∷ [])
 brace_tail_is i c ts e h = rw (e, h) refl
 
 less_is : (a m : ℕ) → a < suc m → a ≤ m
@@ -160,7 +174,8 @@ module _ (v : Version) (n : ℕ) (below : Below v n) where
   held r is a us m x le = matched v n below 60 false (r ∷ []) is any_class a us m (fits_alone v r a x) le refl (λ o. absurd (false_true o))
 
   -- `::` and a static property
-  colons_walk : (f : Forest) (rest : List Token) → Fits v (word t.DoubleColon ~ static_member) f → count f ≤ n → Walks (php v) (Word t.DoubleColon ∷ Part g.StaticMember ∷ []) f rest
+  colons_walk : (f : Forest) (rest : List Token) → Fits v (word t.DoubleColon ~ static_member) f → count f ≤ n
+      → Walks (php v) (Word t.DoubleColon ∷ Part g.StaticMember ∷ []) f rest
   colons_walk f rest x le =
       let p : (o : Forest) × (m : Forest) × Fits v (word t.DoubleColon) o × Fits v static_member m × (f ≡ o +++ m) = both_is v (word t.DoubleColon) static_member f x in
       let z : (y : Token) × (p.0 ≡ leaf y none) × (accepts v t.DoubleColon y ≡ true) = word_is v t.DoubleColon p.0 p.2 in
@@ -175,35 +190,51 @@ module _ (v : Version) (n : ℕ) (below : Below v n) where
       (where_is (starts v static_member) is_variable_start (first_of (leaves p.1 ++ rest)) ((class_tests v).4) (first_in v static_member p.1 rest p.3 refl))
 
   -- a form that goes on behind another such expression
-  behind_class : (m : ℕ) → ClassGrows v n m → (P : Place) (q : Rule) (j : NodeKind) (is : List Item) (c : Forest) (rest : List Token) → ((i : NodeKind) (b f : Forest) → may_stand v P (i, b) ≡ true → Fits v q f → class_ref_by v i (first_of (leaves f ++ rest)) (leaves f ++ rest) ≡ Some (j, is)) → ((f : Forest) → Fits v q f → count f ≤ n → Walks (php v) is f rest) → Fits v (place P ~ q) c → count c ≤ m → count c ≤ n → begins_with_class_name c ≡ true → Grows (php v) s.ClassRef j c rest × BeginsClass (leaves c ++ rest)
+  behind_class : (m : ℕ) → ClassGrows v n m → (P : Place) (q : Rule) (j : NodeKind) (is : List Item) (c : Forest)
+      (rest : List Token) → ((i : NodeKind) (b f : Forest) → may_stand v P (i, b) ≡ true → Fits v q f
+      → class_ref_by v i (first_of (leaves f ++ rest)) (leaves f ++ rest) ≡ Some (j, is))
+      → ((f : Forest) → Fits v q f → count f ≤ n → Walks (php v) is f rest) → Fits v (place P ~ q) c → count c ≤ m
+      → count c ≤ n → begins_with_class_name c ≡ true → Grows (php v) s.ClassRef j c rest
+      × BeginsClass (leaves c ++ rest)
   behind_class m ih P q j is c rest tail walk x lm le h =
       let p : (o : Forest) × (f : Forest) × Fits v (place P) o × Fits v q f × (c ≡ o +++ f) = both_is v (place P) q c x in
       let a : (i : NodeKind) × (b : Forest) × (p.0 ≡ node i b none) × (may_stand v P (i, b) ≡ true) × IsNode v i b = place_is v P p.0 p.2 in
       let at : c ≡ node a.0 a.1 p.1 = p.4 ∙ ap (λ (z : Forest). z +++ p.1) a.2 in
-      let names : (is_class_name a.0 ≡ true) × (begins_with_class_name a.1 ≡ true) = both (is_class_name a.0) (begins_with_class_name a.1) (subst (λ (z : Forest). begins_with_class_name z ≡ true) at h) in
+      let names : (is_class_name a.0 ≡ true) × (begins_with_class_name a.1 ≡ true) =
+      both (is_class_name a.0) (begins_with_class_name a.1)
+      (subst (λ (z : Forest). begins_with_class_name z ≡ true) at h) in
       let less : (count a.1 < m) × (count p.1 ≤ m) = node_counts a.0 a.1 p.1 m (subst (λ (z : Forest). count z ≤ m) at lm) in
       let two : (count a.1 < n) × (count p.1 ≤ n) = node_counts a.0 a.1 p.1 n (subst (λ (z : Forest). count z ≤ n) at le) in
-      let y : Grows (php v) s.ClassRef a.0 a.1 (leaves p.1 ++ rest) × BeginsClass (leaves a.1 ++ (leaves p.1 ++ rest)) = ih a.0 a.1 (leaves p.1 ++ rest) less.0 (lt_le (count a.1) n two.0) names.0 names.1 a.4 in (
+      let y : Grows (php v) s.ClassRef a.0 a.1 (leaves p.1 ++ rest)
+      × BeginsClass (leaves a.1 ++ (leaves p.1 ++ rest)) =
+      ih a.0 a.1 (leaves p.1 ++ rest) less.0 (lt_le (count a.1) n two.0) names.0 names.1 a.4 in (
         subst (λ (z : Forest). Grows (php v) s.ClassRef j z rest) (sym at) (onward y.0 (tail a.0 a.1 p.1 a.3 p.3) (walk p.1 p.3 two.1)),
         subst BeginsClass (sym (ap (λ (z : Forest). leaves z ++ rest) at ∙ append_assoc (leaves a.1) (leaves p.1) rest)) y.1,
       )
 
   -- a static property of a class by its name, or of `static`
-  named_class : (a f : Forest) (rest : List Token) → Fits v (name v) a → Fits v (word t.DoubleColon ~ static_member) f → count (a +++ f) ≤ n → Grows (php v) s.ClassRef k.StaticProp (a +++ f) rest × BeginsClass (leaves (a +++ f) ++ rest)
+  named_class : (a f : Forest) (rest : List Token) → Fits v (name v) a → Fits v (word t.DoubleColon ~ static_member) f
+      → count (a +++ f) ≤ n → Grows (php v) s.ClassRef k.StaticProp (a +++ f) rest
+      × BeginsClass (leaves (a +++ f) ++ rest)
   named_class a f rest x y le =
       let us : List Token = leaves f ++ rest in
       let same : leaves (a +++ f) ++ rest ≡ leaves a ++ us = leaves_before a f rest in
       let colons : first_of us ≡ t.DoubleColon = begun v (word t.DoubleColon ~ static_member) t.DoubleColon f rest y refl ((class_tests v).3) in
-      let named : is_name_part (first_of (leaves a ++ us)) ≡ true = where_is (starts v (name v)) is_name_part (first_of (leaves a ++ us)) ((class_tests v).5) (first_in v (name v) a us x ((class_tests v).7)) in
+      let named : is_name_part (first_of (leaves a ++ us)) ≡ true =
+      where_is (starts v (name v)) is_name_part (first_of (leaves a ++ us)) ((class_tests v).5)
+      (first_in v (name v) a us x ((class_tests v).7)) in
       let behind : behind_name (leaves a ++ us) ≡ us = name_skips a us (only_words v is_name_part (name v) a ((class_tests v).6) x) (ap is_name_part colons) in (
         head (ap class_ref_form same ∙ named_ref (leaves a ++ us) named)
             (walks_on (php v) (Part g.Name ∷ []) (Word t.DoubleColon ∷ Part g.StaticMember ∷ []) a f rest
-            (matched v n below 60 false (name v ∷ []) (Part g.Name ∷ []) is_colons a us (name_matches v) (fits_alone v (name v) a x) (left_le a f n le) (ap is_colons colons) (λ o. absurd (false_true o)))
+            (matched v n below 60 false (name v ∷ []) (Part g.Name ∷ []) is_colons a us (name_matches v)
+            (fits_alone v (name v) a x) (left_le a f n le) (ap is_colons colons) (λ o. absurd (false_true o)))
             (colons_walk f rest y (right_le a f n le))),
         inr (inr (ap (λ (ts : List Token). is_name_part (first_of ts)) same ∙ named, ap (λ (ts : List Token). first_of (behind_name ts)) same ∙ ap first_of behind ∙ colons)),
       )
 
-  static_class : (a f : Forest) (rest : List Token) → Fits v (word t.Static) a → Fits v (word t.DoubleColon ~ static_member) f → count (a +++ f) ≤ n → Grows (php v) s.ClassRef k.StaticProp (a +++ f) rest × BeginsClass (leaves (a +++ f) ++ rest)
+  static_class : (a f : Forest) (rest : List Token) → Fits v (word t.Static) a
+      → Fits v (word t.DoubleColon ~ static_member) f → count (a +++ f) ≤ n
+      → Grows (php v) s.ClassRef k.StaticProp (a +++ f) rest × BeginsClass (leaves (a +++ f) ++ rest)
   static_class a f rest x y le =
       let z : (z : Token) × (a ≡ leaf z none) × (accepts v t.Static z ≡ true) = word_is v t.Static a x in
       let one : terminal z.0 ≡ t.Static = pinned v t.Static z.0 ((class_tests v).8) z.2 in
@@ -211,12 +242,21 @@ module _ (v : Version) (n : ℕ) (below : Below v n) where
       subst (λ (i : Forest). Grows (php v) s.ClassRef k.StaticProp (i +++ f) rest × BeginsClass (leaves (i +++ f) ++ rest)) (sym z.1)
       (head (static_ref (z.0 ∷ (leaves f ++ rest)) one) (a_word z.2 (colons_walk f rest y (right_le a f n le))), inr (inl (one, colons)))
 
-  static_by : (m : ℕ) → ClassGrows v n m → (a f c : Forest) (rest : List Token) → Fits v (class_before v) a → Fits v (word t.DoubleColon ~ static_member) f → c ≡ a +++ f → count c ≤ m → count c ≤ n → begins_with_class_name c ≡ true → Grows (php v) s.ClassRef k.StaticProp c rest × BeginsClass (leaves c ++ rest)
-  static_by m ih a f c rest (is_first x) y e lm le h = subst (λ (i : Forest). Grows (php v) s.ClassRef k.StaticProp i rest × BeginsClass (leaves i ++ rest)) (sym e) (named_class a f rest x y (subst (λ (i : Forest). count i ≤ n) e le))
-  static_by m ih a f c rest (is_second (is_first x)) y e lm le h = subst (λ (i : Forest). Grows (php v) s.ClassRef k.StaticProp i rest × BeginsClass (leaves i ++ rest)) (sym e) (static_class a f rest x y (subst (λ (i : Forest). count i ≤ n) e le))
+  static_by : (m : ℕ) → ClassGrows v n m → (a f c : Forest) (rest : List Token) → Fits v (class_before v) a
+      → Fits v (word t.DoubleColon ~ static_member) f → c ≡ a +++ f → count c ≤ m → count c ≤ n
+      → begins_with_class_name c ≡ true → Grows (php v) s.ClassRef k.StaticProp c rest
+      × BeginsClass (leaves c ++ rest)
+  static_by m ih a f c rest (is_first x) y e lm le h = subst
+      (λ (i : Forest). Grows (php v) s.ClassRef k.StaticProp i rest × BeginsClass (leaves i ++ rest)) (sym e)
+      (named_class a f rest x y (subst (λ (i : Forest). count i ≤ n) e le))
+  static_by m ih a f c rest (is_second (is_first x)) y e lm le h =
+      subst (λ (i : Forest). Grows (php v) s.ClassRef k.StaticProp i rest × BeginsClass (leaves i ++ rest)) (sym e)
+      (static_class a f rest x y (subst (λ (i : Forest). count i ≤ n) e le))
   static_by m ih a f c rest (is_second (is_second x)) y e lm le h =
       behind_class m ih ClassBase (word t.DoubleColon ~ static_member) k.StaticProp (static_prop_form.1) c rest
-      (λ i b o st w. colons_tail v i (first_of (leaves o ++ rest)) (leaves o ++ rest) (begun v (word t.DoubleColon ~ static_member) t.DoubleColon o rest w refl ((class_tests v).3)) (colons_second o rest w))
+      (λ i b o st w. colons_tail v i (first_of (leaves o ++ rest)) (leaves o ++ rest)
+      (begun v (word t.DoubleColon ~ static_member) t.DoubleColon o rest w refl ((class_tests v).3))
+      (colons_second o rest w))
       (λ o w l. colons_walk o rest w l) (is_both x y e) lm le h
 
 -- ---- all of them
@@ -227,7 +267,9 @@ offset_tail v i c ts e = rw e refl
 prop_tail : (v : Version) (i : NodeKind) (c : Terminal) (ts : List Token) → c ≡ t.Arrow → class_ref_by v i c ts ≡ Some prop_form
 prop_tail v i c ts e = rw e refl
 
-braces_by : (v : Version) (n : ℕ) → Below v n → (m : ℕ) → ClassGrows v n m → (c : Forest) (rest : List Token) → Fits v (form v k.BraceOffset) c → count c ≤ m → count c ≤ n → begins_with_class_name c ≡ true → Grows (php v) s.ClassRef k.BraceOffset c rest × BeginsClass (leaves c ++ rest)
+braces_by : (v : Version) (n : ℕ) → Below v n → (m : ℕ) → ClassGrows v n m → (c : Forest) (rest : List Token)
+    → Fits v (form v k.BraceOffset) c → count c ≤ m → count c ≤ n → begins_with_class_name c ≡ true
+    → Grows (php v) s.ClassRef k.BraceOffset c rest × BeginsClass (leaves c ++ rest)
 braces_by V74 n below m ih c rest x lm le h =
     behind_class V74 n below m ih OffsetBase (braces expr) k.BraceOffset (Word t.OpenBrace ∷ any ∷ Word t.CloseBrace ∷ []) c rest
     (λ i b f st w. brace_tail_is i (first_of (leaves f ++ rest)) (leaves f ++ rest) (begun V74 (braces expr) t.OpenBrace f rest w refl brace_test) st)
@@ -236,10 +278,15 @@ braces_by V83 n below m ih c rest x lm le h =
     let q : (y : Token) × (c ≡ leaf y none) × (accepts V83 t.Never y ≡ true) = word_is V83 t.Never c x in
     absurd (false_true (where_is (could V83 t.Never) (λ d. false) (terminal q.0) never_word (accepted V83 t.Never q.0 q.2)))
 
-by_kind : (v : Version) (n : ℕ) → Below v n → (m : ℕ) → ClassGrows v n m → (j : NodeKind) (c : Forest) (rest : List Token) → count c ≤ m → count c ≤ n → is_class_name j ≡ true → begins_with_class_name c ≡ true → Fits v (form v j) c → Grows (php v) s.ClassRef j c rest × BeginsClass (leaves c ++ rest)
+by_kind : (v : Version) (n : ℕ) → Below v n → (m : ℕ) → ClassGrows v n m
+    → (j : NodeKind) (c : Forest) (rest : List Token) → count c ≤ m → count c ≤ n → is_class_name j ≡ true
+    → begins_with_class_name c ≡ true → Fits v (form v j) c → Grows (php v) s.ClassRef j c rest
+    × BeginsClass (leaves c ++ rest)
 by_kind v n below m ih k.Variable c rest lm le h b x =
     let q : Chosen v c rest = variable_chosen v n below c rest x le in
-    let starts_it : is_variable_start (first_of (leaves c ++ rest)) ≡ true = where_is (starts v variable) is_variable_start (first_of (leaves c ++ rest)) ((class_tests v).0) (first_in v variable c rest x refl) in
+    let starts_it : is_variable_start (first_of (leaves c ++ rest)) ≡ true =
+    where_is (starts v variable) is_variable_start (first_of (leaves c ++ rest)) ((class_tests v).0)
+    (first_in v variable c rest x refl) in
     (head (no_class_before (first_of (leaves c ++ rest)) (leaves c ++ rest) starts_it ∙ q.simple) q.walk, inl starts_it)
 by_kind v n below m ih k.Offset c rest lm le h b x =
     behind_class v n below m ih OffsetBase (brackets (maybe expr)) k.Offset (offset_form.1) c rest
@@ -251,7 +298,8 @@ by_kind v n below m ih k.Prop c rest lm le h b x =
     (λ i a f st w. prop_tail v i (first_of (leaves f ++ rest)) (leaves f ++ rest) (begun v (word t.Arrow ~ member) t.Arrow f rest w refl ((class_tests v).2)))
     (λ f w l. held v n below (word t.Arrow ~ member) (prop_form.1) f rest ((class_matches v).2) w l) x lm le b
 by_kind v n below m ih k.StaticProp c rest lm le h b x =
-    let p : (a : Forest) × (f : Forest) × Fits v (class_before v) a × Fits v (word t.DoubleColon ~ static_member) f × (c ≡ a +++ f) = both_is v (class_before v) (word t.DoubleColon ~ static_member) c x in
+    let p : (a : Forest) × (f : Forest) × Fits v (class_before v) a × Fits v (word t.DoubleColon ~ static_member) f
+    × (c ≡ a +++ f) = both_is v (class_before v) (word t.DoubleColon ~ static_member) c x in
     static_by v n below m ih p.0 p.1 c rest p.2 p.3 p.4 lm le b
 by_kind v n below m ih j c rest lm le h b x = absurd (false_true h)
 
@@ -263,10 +311,14 @@ self_less : (a : ℕ) → a < suc a
 self_less a = omega arith
 
 -- An expression that names a class is read as it was, where it stops; it begins with a variable, or a class and `::`.
-pub class_refs_begin : (v : Version) (n : ℕ) → Below v n → (j : NodeKind) (c : Forest) (rest : List Token) → count c ≤ n → may_stand v ClassName (j, c) ≡ true → IsNode v j c → Grows (php v) s.ClassRef j c rest × BeginsClass (leaves c ++ rest)
+pub class_refs_begin : (v : Version) (n : ℕ) → Below v n → (j : NodeKind) (c : Forest) (rest : List Token)
+    → count c ≤ n → may_stand v ClassName (j, c) ≡ true → IsNode v j c → Grows (php v) s.ClassRef j c rest
+    × BeginsClass (leaves c ++ rest)
 class_refs_begin v n below j c rest le st x =
     let q : (is_class_name j ≡ true) × (begins_with_class_name c ≡ true) = both (is_class_name j) (begins_with_class_name c) st in
     grows_to v n below (suc (count c)) j c rest (self_less (count c)) le q.0 q.1 x
 
-pub class_refs_read : (v : Version) (n : ℕ) → Below v n → (j : NodeKind) (c : Forest) (rest : List Token) → count c ≤ n → may_stand v ClassName (j, c) ≡ true → IsNode v j c → Stopped v s.ClassRef (j, c) rest → Spells (php v) s.ClassRef (j, c) rest
+pub class_refs_read : (v : Version) (n : ℕ) → Below v n → (j : NodeKind) (c : Forest) (rest : List Token)
+    → count c ≤ n → may_stand v ClassName (j, c) ≡ true → IsNode v j c → Stopped v s.ClassRef (j, c) rest
+    → Spells (php v) s.ClassRef (j, c) rest
 class_refs_read v n below j c rest le st x h = ((class_refs_begin v n below j c rest le st x).0, ref_ends v j (first_of rest) rest (stopped_ends v j c rest h))

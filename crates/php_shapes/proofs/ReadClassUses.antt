@@ -96,7 +96,8 @@ imported_is v f (is_second x) =
     }
 
 -- one name with its alias
-one_walks : (v : Version) (f : Forest) (us : List Token) → Fits v (imported_as_class v) f → ends_one (first_of us) ≡ true → Walks (php v) (Part g.UsedClass ∷ Part g.ClassAlias ∷ []) f us
+one_walks : (v : Version) (f : Forest) (us : List Token) → Fits v (imported_as_class v) f
+    → ends_one (first_of us) ≡ true → Walks (php v) (Part g.UsedClass ∷ Part g.ClassAlias ∷ []) f us
 one_walks v f us x h =
     let i : Imported v f = imported_is v f x in
     subst (λ (m : Forest). Walks (php v) (Part g.UsedClass ∷ Part g.ClassAlias ∷ []) m us) (sym i.whole)
@@ -113,20 +114,26 @@ more_begins V74 = (refl, refl)
 more_begins V83 = (refl, refl)
 
 more_end : (v : Version) (f : Forest) (us : List Token) → Fits v (many (more_imported v)) f → is_semi (first_of us) ≡ true → ends_one (first_of (leaves f ++ us)) ≡ true
-more_end v f us x h = where_is (first v (many (more_imported v) ∷ []) is_semi) ends_one (first_of (leaves f ++ us)) ((more_begins v).1) (first_class v (many (more_imported v) ∷ []) is_semi f us (fits_alone v (many (more_imported v)) f x) h)
+more_end v f us x h = where_is (first v (many (more_imported v) ∷ []) is_semi) ends_one (first_of (leaves f ++ us))
+    ((more_begins v).1) (first_class v (many (more_imported v) ∷ []) is_semi f us
+    (fits_alone v (many (more_imported v)) f x) h)
 
 semi_ends : (c : Terminal) → is_semi c ≡ true → more_class_uses c ≡ []
 semi_ends t.Semi h = refl
 semi_ends c h = absurd (false_true h)
 
 -- one more
-next_walks : (v : Version) (a : Forest) (us : List Token) → Fits v (more_imported v) a → ends_one (first_of us) ≡ true → Walks (php v) (Word t.Comma ∷ Part g.UsedClass ∷ Part g.ClassAlias ∷ []) a us
+next_walks : (v : Version) (a : Forest) (us : List Token) → Fits v (more_imported v) a → ends_one (first_of us) ≡ true
+    → Walks (php v) (Word t.Comma ∷ Part g.UsedClass ∷ Part g.ClassAlias ∷ []) a us
 next_walks v a us x h =
     let p : (o : Forest) × (e : Forest) × Fits v (word t.Comma) o × Fits v (imported_as_class v) e × (a ≡ o +++ e) = both_is v (word t.Comma) (imported_as_class v) a x in
     let z : (c : Token) × (p.0 ≡ leaf c none) × (accepts v t.Comma c ≡ true) = word_is v t.Comma p.0 p.2 in
-    subst (λ (i : Forest). Walks (php v) (Word t.Comma ∷ Part g.UsedClass ∷ Part g.ClassAlias ∷ []) i us) (sym (p.4 ∙ ap (λ (i : Forest). i +++ p.1) z.1)) (a_word z.2 (one_walks v p.1 us p.3 h))
+    subst (λ (i : Forest). Walks (php v) (Word t.Comma ∷ Part g.UsedClass ∷ Part g.ClassAlias ∷ []) i us)
+    (sym (p.4 ∙ ap (λ (i : Forest). i +++ p.1) z.1)) (a_word z.2 (one_walks v p.1 us p.3 h))
 
-more_by : (v : Version) (r : Rule) (us : List Token) → ((a : Forest) → Fits v r a → Fits v (more_imported v) a) → ((m : Forest) → Fits v (many r) m → ends_one (first_of (leaves m ++ us)) ≡ true) → is_semi (first_of us) ≡ true → (f : Forest) → Fits v (many r) f → Walks (php v) (Turns g.MoreClassUses ∷ []) f us
+more_by : (v : Version) (r : Rule) (us : List Token) → ((a : Forest) → Fits v r a → Fits v (more_imported v) a)
+    → ((m : Forest) → Fits v (many r) m → ends_one (first_of (leaves m ++ us)) ≡ true) → is_semi (first_of us) ≡ true
+    → (f : Forest) → Fits v (many r) f → Walks (php v) (Turns g.MoreClassUses ∷ []) f us
 more_by v r us same closed h f no_more = stop (semi_ends (first_of us) h) ends
 more_by v r us same closed h f (once_more {g = a} {h = m} x y at) =
     subst (λ (i : Forest). Walks (php v) (Turns g.MoreClassUses ∷ []) i us) (sym at)
@@ -142,9 +149,11 @@ rest_of t.Backslash h = absurd (false_true (sym h))
 rest_of c h = refl
 
 -- Classes with commas between, before the semicolon.
-pub classes_walk : (v : Version) (f : Forest) (us : List Token) → Fits v (commas (imported_as_class v)) f → is_semi (first_of us) ≡ true → Walks (php v) (Part g.UsedClass ∷ Part g.ClassUseRest ∷ []) f us
+pub classes_walk : (v : Version) (f : Forest) (us : List Token) → Fits v (commas (imported_as_class v)) f
+    → is_semi (first_of us) ≡ true → Walks (php v) (Part g.UsedClass ∷ Part g.ClassUseRest ∷ []) f us
 classes_walk v f us x h =
-    let p : (a : Forest) × (m : Forest) × Fits v (imported_as_class v) a × Fits v (many (more_imported v)) m × (f ≡ a +++ m) = both_is v (imported_as_class v) (many (more_imported v)) f x in
+    let p : (a : Forest) × (m : Forest) × Fits v (imported_as_class v) a × Fits v (many (more_imported v)) m
+    × (f ≡ a +++ m) = both_is v (imported_as_class v) (many (more_imported v)) f x in
     let i : Imported v p.0 = imported_is v p.0 p.2 in
     let r : Forest = i.alias +++ p.1 in
     let at : f ≡ i.name +++ r = p.4 ∙ ap (λ (y : Forest). y +++ p.1) i.whole ∙ forest_assoc i.name i.alias p.1 in

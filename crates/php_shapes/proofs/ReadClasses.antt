@@ -1,5 +1,33 @@
 -- What holds of each class of tokens, and which classes a token may have.
-use Rattle.std.proofs.Common.{◌≡◌, ℕ, zero, suc, Bool, true, false, not, cond, ◌&&◌, ◌||◌, nat_lt, List, [], ◌∷◌, length, Option, Some, None, ◌⊎◌, inl, inr, refl, sym, ap, ◌∙◌, subst}
+use Rattle.std.proofs.Common.{
+  ◌≡◌,
+  ℕ,
+  zero,
+  suc,
+  Bool,
+  true,
+  false,
+  not,
+  cond,
+  ◌&&◌,
+  ◌||◌,
+  nat_lt,
+  List,
+  [],
+  ◌∷◌,
+  length,
+  Option,
+  Some,
+  None,
+  ◌⊎◌,
+  inl,
+  inr,
+  refl,
+  sym,
+  ap,
+  ◌∙◌,
+  subst,
+}
 use Rattle.std.proofs.lemmas.Bool.{eqb-true}
 use Rattle.std.specs.Prelude.{slice_index}
 use Rattle.std.specs.Char.{to_ascii_lowercase}
@@ -9,7 +37,24 @@ use Rattle.php_tree.specs.declared.token.TokenKind.TheVariants as kind
 use Rattle.php_tree.specs.declared.version.Version.{Version}
 use Rattle.php_terminals.specs.declared.terminal.Terminal.{Terminal}
 use Rattle.php_terminals.specs.declared.terminal.Terminal.TheVariants as t
-use Rattle.php_terminals.specs.Classify.{terminal, terminal_by, cast, cast_letter, opening, name, is_any_label, is_attribute_by, is_full, is_modifier, is_qualified, is_relative, is_sign_or_tight, is_word_token, is_word_kind, names_refused}
+use Rattle.php_terminals.specs.Classify.{
+  terminal,
+  terminal_by,
+  cast,
+  cast_letter,
+  opening,
+  name,
+  is_any_label,
+  is_attribute_by,
+  is_full,
+  is_modifier,
+  is_qualified,
+  is_relative,
+  is_sign_or_tight,
+  is_word_token,
+  is_word_kind,
+  names_refused,
+}
 use Rattle.php_terminals.specs.Words.{find_row, is_word, keyword, keywords, label, labels, operator, operators}
 use Rattle.php_terminals.specs.Terminals.{code}
 use Rattle.php_grammar.specs.Accepts.{accepts, in_set, is_class_label, is_free_label, is_function_label, same_class}
@@ -219,7 +264,8 @@ pub either_holds : (P : Terminal → Bool) (b : Bool) (x y : Terminal) → P x �
 either_holds P true x y h k = h
 either_holds P false x y h k = k
 
-found_in : (P : Terminal → Bool) (other : Terminal) (rows : List (List ℕ × Terminal)) (text : List ℕ) → P other ≡ true → rows_all P rows ≡ true → P (find_row other rows text) ≡ true
+found_in : (P : Terminal → Bool) (other : Terminal) (rows : List (List ℕ × Terminal)) (text : List ℕ) → P other ≡ true
+    → rows_all P rows ≡ true → P (find_row other rows text) ≡ true
 found_in P other [] text h a = h
 found_in P other (r ∷ rs) text h a =
     let two : (P r.1 ≡ true) × (rows_all P rs ≡ true) = both (P r.1) (rows_all P rs) a in
@@ -238,7 +284,9 @@ letter_in : (P : Terminal → Bool) (b : ℕ) → P t.OldCast ≡ true → P t.C
 letter_in P b o c = either_holds P _ t.OldCast t.Cast o c
 
 cast_in : (P : Terminal → Bool) (text : List ℕ) → P t.OldCast ≡ true → P t.Cast ≡ true → P (cast text) ≡ true
-cast_in P text o c = either_holds P (nat_lt (opening text) (length text)) (cast_letter (to_ascii_lowercase (slice_index text (opening text)))) t.Cast (letter_in P (to_ascii_lowercase (slice_index text (opening text))) o c) c
+cast_in P text o c = either_holds P (nat_lt (opening text) (length text))
+    (cast_letter (to_ascii_lowercase (slice_index text (opening text)))) t.Cast
+    (letter_in P (to_ascii_lowercase (slice_index text (opening text))) o c) c
 
 name_in : (P : Terminal → Bool) (text : List ℕ) → P t.FullName ≡ true → P t.RelativeName ≡ true → P t.QualifiedName ≡ true → P (name text) ≡ true
 name_in P text f r q = either_holds P _ t.FullName _ f (either_holds P _ t.RelativeName t.QualifiedName r q)
@@ -386,19 +434,26 @@ may_be v t.AnyLabel own x e r = of_set t.AnyLabel own _ _ r refl (λ h. h)
 may_be v t.FreeLabel own x e r = of_set t.FreeLabel own _ _ r refl (λ h. h)
 may_be v t.FunctionLabel own x e r = of_set t.FunctionLabel own _ _ r refl (λ h. h)
 may_be v t.ClassLabel own x e r = of_set t.ClassLabel own _ _ r refl (λ h. h)
-may_be v t.NameToken own x e r = of_set t.NameToken own (in_set v t.NameToken own x) (may v t.NameToken own) r refl (or_4 (is_free_label v own) (is_qualified own) (is_full own) (is_relative own))
-may_be v t.CalledName own x e r = of_set t.CalledName own (in_set v t.CalledName own x) (may v t.CalledName own) r refl (or_4 (is_function_label v own) (is_qualified own) (is_full own) (is_relative own))
+may_be v t.NameToken own x e r = of_set t.NameToken own (in_set v t.NameToken own x) (may v t.NameToken own) r refl
+    (or_4 (is_free_label v own) (is_qualified own) (is_full own) (is_relative own))
+may_be v t.CalledName own x e r = of_set t.CalledName own (in_set v t.CalledName own x) (may v t.CalledName own) r
+    refl (or_4 (is_function_label v own) (is_qualified own) (is_full own) (is_relative own))
 may_be v t.NamespaceToken own x e r = of_set t.NamespaceToken own _ _ r refl (λ h. h)
 may_be v t.ImportedName own x e r = of_set t.ImportedName own _ _ r refl (λ h. h)
 may_be v t.GroupedName own x e r = of_set t.GroupedName own _ _ r refl (λ h. h)
 may_be v t.Modifier own x e r = of_set t.Modifier own _ _ r refl (λ h. h)
 may_be v t.BinaryOperator own x e r = of_set t.BinaryOperator own _ _ r refl (λ h. h)
 may_be v t.SignOrTight own x e r = of_set t.SignOrTight own _ _ r refl (λ h. h)
-may_be v t.ImportedClass own x e r = of_set t.ImportedClass own (in_set v t.ImportedClass own x) (may v t.ImportedClass own) r refl (and_left_3 (is_class_label v own) (is_qualified own) (is_full own) (not (names_refused x.text)))
-may_be v t.GroupedClass own x e r = of_set t.GroupedClass own (in_set v t.GroupedClass own x) (may v t.GroupedClass own) r refl (and_left (is_class_label v own) (is_qualified own) (not (names_refused x.text)))
+may_be v t.ImportedClass own x e r = of_set t.ImportedClass own (in_set v t.ImportedClass own x)
+    (may v t.ImportedClass own) r refl (and_left_3 (is_class_label v own) (is_qualified own) (is_full own)
+    (not (names_refused x.text)))
+may_be v t.GroupedClass own x e r = of_set t.GroupedClass own (in_set v t.GroupedClass own x)
+    (may v t.GroupedClass own) r refl (and_left (is_class_label v own) (is_qualified own)
+    (not (names_refused x.text)))
 may_be v t.AttributeName own x e r = of_set t.AttributeName own _ _ r refl (λ h. subst (λ (c : Terminal). is_whole_name c ≡ true) e (attribute_by x.kind x.text h))
 may_be v t.AnyWord own x e r = of_set t.AnyWord own _ _ r refl (λ h. subst (λ (c : Terminal). is_word_class c ≡ true) e (word_by x.kind x.text h))
-may_be v t.ConstantWord own x e r = of_set t.ConstantWord own _ _ r refl (λ h. subst (λ (c : Terminal). is_word_class c ≡ true) e (word_by x.kind x.text ((both (is_word_token x) _ h).0)))
+may_be v t.ConstantWord own x e r = of_set t.ConstantWord own _ _ r refl
+    (λ h. subst (λ (c : Terminal). is_word_class c ≡ true) e (word_by x.kind x.text ((both (is_word_token x) _ h).0)))
 may_be v asked own x e r = λ h. h
 
 pub accepted : (v : Version) (asked : Terminal) (x : Token) → accepts v asked x ≡ true → could v asked (terminal x) ≡ true

@@ -86,27 +86,40 @@ class_matches_83 : matches V83 60 true (form V83 k.Class ∷ []) (Part g.Attribu
 unfolding for_all
 class_matches_83 = refl
 
-class_walks : (v : Version) (n : ℕ) → Below v n → (c : Forest) (rest : List Token) → count c ≤ n → Fits v (form v k.Class) c → follows_statement (first_of rest) ≡ true → Last c rest → Walks (php v) (Part g.Attribute ∷ class_items) c rest
+class_walks : (v : Version) (n : ℕ) → Below v n → (c : Forest) (rest : List Token) → count c ≤ n
+    → Fits v (form v k.Class) c → follows_statement (first_of rest) ≡ true → Last c rest
+    → Walks (php v) (Part g.Attribute ∷ class_items) c rest
 class_walks V74 n below c rest le x f l =
     let p : (a : Forest) × (m : Forest) × Fits V74 nothing a × Fits V74 (class_rest V74) m × (c ≡ a +++ m) = both_is V74 nothing (class_rest V74) c x in
     let at : c ≡ p.1 = p.4 ∙ ap (λ (i : Forest). i +++ p.1) (nothing_is V74 p.0 p.2) in
-    part {h = none} ends (matched V74 n below 60 true (class_rest V74 ∷ []) class_items follows_statement c rest class_matches_74 (fits_alone V74 (class_rest V74) c (subst (λ (i : Forest). Fits V74 (class_rest V74) i) (sym at) p.3)) le f (λ _. l))
-class_walks V83 n below c rest le x f l = matched V83 n below 60 true (form V83 k.Class ∷ []) (Part g.Attribute ∷ class_items) follows_statement c rest class_matches_83 (fits_alone V83 (form V83 k.Class) c x) le f (λ _. l)
+    part {h = none} ends (matched V74 n below 60 true (class_rest V74 ∷ []) class_items follows_statement c rest
+    class_matches_74 (fits_alone V74 (class_rest V74) c
+    (subst (λ (i : Forest). Fits V74 (class_rest V74) i) (sym at) p.3)) le f (λ _. l))
+class_walks V83 n below c rest le x f l = matched V83 n below 60 true (form V83 k.Class ∷ [])
+    (Part g.Attribute ∷ class_items) follows_statement c rest class_matches_83 (fits_alone V83 (form V83 k.Class) c x)
+    le f (λ _. l)
 
 pub class_grows : (v : Version) (n : ℕ) → Below v n → StatementGrows v n k.Class
 class_grows v n below c rest le x e =
-    head (class_told (first_of (leaves c ++ rest)) (leaves c ++ rest) (where_is (starts v (form v k.Class)) begins_class (first_of (leaves c ++ rest)) (class_begins v) (first_in v (form v k.Class) c rest (shaped v k.Class c x) (class_nullable v))))
+    head (class_told (first_of (leaves c ++ rest)) (leaves c ++ rest)
+    (where_is (starts v (form v k.Class)) begins_class (first_of (leaves c ++ rest)) (class_begins v)
+    (first_in v (form v k.Class) c rest (shaped v k.Class c x) (class_nullable v))))
     (class_walks v n below c rest le (shaped v k.Class c x) (follows (k.Class, c) (first_of rest) e) (last_of k.Class c rest e))
 
 -- ---- what the second token tells
 
 -- a statement of a form that its tokens choose
-pub chosen_grows : (v : Version) (n : ℕ) → Below v n → (j : NodeKind) (is : List Item) → matches v 60 true (form v j ∷ []) is follows_statement ≡ true → ((c : Forest) (rest : List Token) → Fits v (form v j) c → statement_form (leaves c ++ rest) ≡ Some (j, is)) → StatementGrows v n j
+pub chosen_grows : (v : Version) (n : ℕ) → Below v n → (j : NodeKind) (is : List Item)
+    → matches v 60 true (form v j ∷ []) is follows_statement ≡ true
+    → ((c : Forest) (rest : List Token) → Fits v (form v j) c → statement_form (leaves c ++ rest) ≡ Some (j, is))
+    → StatementGrows v n j
 chosen_grows v n below j is m chosen c rest le x e =
     grows_by v n below s.Statement true j is follows_statement m c rest le x (follows (j, c) (first_of rest) e) (λ _. last_of j c rest e) (chosen c rest (shaped v j c x))
 
 -- a word and then the rest
-pub after_word : (v : Version) (w : Terminal) (r : Rule) (c : Forest) → for_all (λ c. whenever (could v w c) (same_class w c)) ≡ true → Fits v (word w ~ r) c → (x : Token) × (m : Forest) × (c ≡ leaf x m) × (terminal x ≡ w) × Fits v r m
+pub after_word : (v : Version) (w : Terminal) (r : Rule) (c : Forest)
+    → for_all (λ c. whenever (could v w c) (same_class w c)) ≡ true → Fits v (word w ~ r) c → (x : Token)
+    × (m : Forest) × (c ≡ leaf x m) × (terminal x ≡ w) × Fits v r m
 after_word v w r c p y =
     let q : (g : Forest) × (h : Forest) × Fits v (word w) g × Fits v r h × (c ≡ g +++ h) = both_is v (word w) r c y in
     let o : (x : Token) × (q.0 ≡ leaf x none) × (accepts v w x ≡ true) = word_is v w q.0 q.2 in
@@ -114,7 +127,8 @@ after_word v w r c p y =
 
 -- the form by the first class
 pub form_by : (x : Token) (us : List Token) (w : Terminal) (form : Form) → terminal x ≡ w → chosen_by w (x ∷ us) ≡ Some form → statement_form (x ∷ us) ≡ Some form
-form_by x us w form e h = subst (λ (u : Terminal). or_else (chosen_by u (x ∷ us)) (Some (simple_form u)) ≡ Some form) (sym e) (ap (λ (o : Option Form). or_else o (Some (simple_form w))) h)
+form_by x us w form e h = subst (λ (u : Terminal). or_else (chosen_by u (x ∷ us)) (Some (simple_form u)) ≡ Some form)
+    (sym e) (ap (λ (o : Option Form). or_else o (Some (simple_form w))) h)
 
 statics_pinned : (v : Version) → for_all (λ c. whenever (could v t.Static c) (same_class t.Static c)) ≡ true
 unfolding for_all
@@ -137,7 +151,10 @@ statics_matches V83 = refl
 statics_chosen : (v : Version) (c : Forest) (rest : List Token) → Fits v (form v k.Statics) c → statement_form (leaves c ++ rest) ≡ Some (static_form t.Variable)
 statics_chosen v c rest y =
     let q : (x : Token) × (m : Forest) × (c ≡ leaf x m) × (terminal x ≡ t.Static) × Fits v statics_rest m = after_word v t.Static statics_rest c (statics_pinned v) y in
-    ap (λ (i : Forest). statement_form (leaves i ++ rest)) q.2 ∙ form_by q.0 (leaves q.1 ++ rest) t.Static (static_form t.Variable) q.3 (ap (λ (u : Terminal). Some (static_form u)) (begun v statics_rest t.Variable q.1 rest q.4 refl (statics_begin v)))
+    ap (λ (i : Forest). statement_form (leaves i ++ rest)) q.2
+    ∙ form_by q.0 (leaves q.1 ++ rest) t.Static (static_form t.Variable) q.3
+    (ap (λ (u : Terminal). Some (static_form u))
+    (begun v statics_rest t.Variable q.1 rest q.4 refl (statics_begin v)))
 
 pub statics_grows : (v : Version) (n : ℕ) → Below v n → StatementGrows v n k.Statics
 statics_grows v n below = chosen_grows v n below k.Statics ((static_form t.Variable).1) (statics_matches v) (statics_chosen v)
@@ -150,7 +167,8 @@ function_items = Word t.Function ∷ Part g.ByRef ∷ Word t.FunctionLabel ∷ W
 abbrev function_rest : Rule
 function_rest = word t.FunctionLabel ~ params ~ return_type ~ kind k.Block
 
-function_pinned : (v : Version) → (for_all (λ c. whenever (could v t.Function c) (same_class t.Function c)) ≡ true) × (for_all (λ c. whenever (could v t.Ampersand c) (same_class t.Ampersand c)) ≡ true)
+function_pinned : (v : Version) → (for_all (λ c. whenever (could v t.Function c) (same_class t.Function c)) ≡ true)
+    × (for_all (λ c. whenever (could v t.Ampersand c) (same_class t.Ampersand c)) ≡ true)
 unfolding for_all
 function_pinned V74 = (refl, refl)
 function_pinned V83 = (refl, refl)
@@ -179,7 +197,9 @@ marked_function third h = rw h refl
 label_first : (v : Version) (r : Forest) (rest : List Token) → Fits v function_rest r → is_any_label (first_of (leaves r ++ rest)) ≡ true
 label_first v r rest y = where_is (starts v function_rest) is_any_label (first_of (leaves r ++ rest)) (name_begins v) (first_in v function_rest r rest y refl)
 
-function_by : (v : Version) (b r : Forest) (rest : List Token) → Fits v by_ref b → Fits v function_rest r → function_form (first_of (leaves (b +++ r) ++ rest)) (second_of (leaves (b +++ r) ++ rest)) ≡ (k.Function, function_items)
+function_by : (v : Version) (b r : Forest) (rest : List Token) → Fits v by_ref b → Fits v function_rest r
+    → function_form (first_of (leaves (b +++ r) ++ rest)) (second_of (leaves (b +++ r) ++ rest)) ≡
+    (k.Function, function_items)
 function_by v b r rest (is_first x) y =
     subst (λ (i : Forest). function_form (first_of (leaves (i +++ r) ++ rest)) (second_of (leaves (i +++ r) ++ rest)) ≡ (k.Function, function_items)) (sym (nothing_is v b x))
     (named_function (first_of (leaves r ++ rest)) (second_of (leaves r ++ rest)) (label_first v r rest y))
@@ -191,7 +211,9 @@ function_by v b r rest (is_second x) y =
 
 function_chosen : (v : Version) (c : Forest) (rest : List Token) → Fits v (form v k.Function) c → statement_form (leaves c ++ rest) ≡ Some (k.Function, function_items)
 function_chosen v c rest y =
-    let q : (x : Token) × (m : Forest) × (c ≡ leaf x m) × (terminal x ≡ t.Function) × Fits v (by_ref ~ function_rest) m = after_word v t.Function (by_ref ~ function_rest) c ((function_pinned v).0) y in
+    let q : (x : Token) × (m : Forest) × (c ≡ leaf x m) × (terminal x ≡ t.Function)
+    × Fits v (by_ref ~ function_rest) m = after_word v t.Function (by_ref ~ function_rest) c
+    ((function_pinned v).0) y in
     let p : (b : Forest) × (r : Forest) × Fits v by_ref b × Fits v function_rest r × (q.1 ≡ b +++ r) = both_is v by_ref function_rest q.1 q.4 in
     ap (λ (i : Forest). statement_form (leaves i ++ rest)) (q.2 ∙ ap (leaf q.0) p.4)
     ∙ form_by q.0 (leaves (p.0 +++ p.1) ++ rest) t.Function (k.Function, function_items) q.3 (ap Some (function_by v p.0 p.1 rest p.2 p.3))
@@ -228,7 +250,9 @@ label_chosen v c rest y =
     let p : (f : Forest) × (m : Forest) × Fits v (word t.FreeLabel) f × Fits v (word t.Colon) m × (c ≡ f +++ m) = both_is v (word t.FreeLabel) (word t.Colon) c y in
     let q : (z : Token) × (p.0 ≡ leaf z none) × (accepts v t.FreeLabel z ≡ true) = word_is v t.FreeLabel p.0 p.2 in
     let at : c ≡ leaf q.0 p.1 = p.4 ∙ ap (λ (i : Forest). i +++ p.1) q.1 in
-    label_by (first_of (leaves c ++ rest)) (leaves c ++ rest) (where_is (starts v (form v k.LabelStmt)) is_any_label (first_of (leaves c ++ rest)) (labels_begin v) (first_in v (form v k.LabelStmt) c rest y refl))
+    label_by (first_of (leaves c ++ rest)) (leaves c ++ rest)
+    (where_is (starts v (form v k.LabelStmt)) is_any_label (first_of (leaves c ++ rest)) (labels_begin v)
+    (first_in v (form v k.LabelStmt) c rest y refl))
     ∙ ap (λ (i : Forest). Some (label_form (second_of (leaves i ++ rest)))) at
     ∙ ap (λ (u : Terminal). Some (label_form u)) (begun v (word t.Colon) t.Colon p.1 rest p.3 refl (colon_begins v))
 

@@ -157,7 +157,8 @@ Stopped v (s.Operand m) x rest = Ends v m x (first_of rest)
 Stopped v s.Statement x rest = EndsStatement x (first_of rest)
 Stopped v s.Place x rest = Behind v x (first_of rest)
 Stopped v s.ClassRef x rest = Behind v x (first_of rest) ⊎ (first_of rest ≡ t.OpenParen)
-Stopped v s.Entry x rest = ((closes_item (first_of rest) ≡ true) × ((is_target x.0 || is_list x.0) ≡ true)) ⊎ ((first_of rest ≡ t.DoubleArrow) × (is_expression x.0 ≡ true) × (is_open_for_arrow x ≡ false))
+Stopped v s.Entry x rest = ((closes_item (first_of rest) ≡ true) × ((is_target x.0 || is_list x.0) ≡ true))
+    ⊎ ((first_of rest ≡ t.DoubleArrow) × (is_expression x.0 ≡ true) × (is_open_for_arrow x ≡ false))
 Stopped v sort x rest = stops sort (first_of rest) ≡ true
 
 pub stopped : (v : Version) (sort : Sort) (x : Tree) (rest : List Token) → stops sort (first_of rest) ≡ true → Stopped v sort x rest
@@ -207,6 +208,9 @@ reads_kind _ _ = false
 -- Nodes of fewer than n nodes that have the shape are read.
 pub record Below (v : Version) (n : ℕ) : Type 0 where
   -- at a place
-  pub placed : (p : Place) (sort : Sort) (j : NodeKind) (c : Forest) (rest : List Token) → suits p sort ≡ true → count c < n → may_stand v p (j, c) ≡ true → IsNode v j c → Stopped v sort (j, c) rest → Spells (php v) sort (j, c) rest
+  pub placed : (p : Place) (sort : Sort) (j : NodeKind) (c : Forest) (rest : List Token) → suits p sort ≡ true
+      → count c < n → may_stand v p (j, c) ≡ true → IsNode v j c → Stopped v sort (j, c) rest
+      → Spells (php v) sort (j, c) rest
   -- by their kind
-  pub kinded : (j : NodeKind) (sort : Sort) (c : Forest) (rest : List Token) → reads_kind j sort ≡ true → count c < n → IsNode v j c → Stopped v sort (j, c) rest → Spells (php v) sort (j, c) rest
+  pub kinded : (j : NodeKind) (sort : Sort) (c : Forest) (rest : List Token) → reads_kind j sort ≡ true → count c < n
+      → IsNode v j c → Stopped v sort (j, c) rest → Spells (php v) sort (j, c) rest

@@ -67,12 +67,21 @@ label_atom v t.Readonly ts h = refl
 label_atom v t.MixedOrNever ts h = refl
 label_atom v c ts h = absurd (false_true h)
 
-alone_by : (v : Version) (f : Forest) (us : List Token) → is_any_label (first_of (leaves f ++ us)) ≡ true → second_of (leaves f ++ us) ≡ t.Colon → Walks (php v) (parts v g.Name (leaves f ++ us)) f us → first_of us ≡ t.Colon
+alone_by : (v : Version) (f : Forest) (us : List Token) → is_any_label (first_of (leaves f ++ us)) ≡ true
+    → second_of (leaves f ++ us) ≡ t.Colon → Walks (php v) (parts v g.Name (leaves f ++ us)) f us
+    → first_of us ≡ t.Colon
 alone_by V74 f us h e w =
-    let p : (a : Forest) × (m : Forest) × (f ≡ a +++ m) × Walks (php V74) (name_lead (first_of (leaves a ++ (leaves m ++ us)))) a (leaves m ++ us) × Walks (php V74) (Word t.AnyLabel ∷ Turns g.NameMore ∷ []) m us = part_first (php V74) g.NameLead (Word t.AnyLabel ∷ Turns g.NameMore ∷ []) f us w in
+    let p : (a : Forest) × (m : Forest) × (f ≡ a +++ m) × Walks (php V74)
+    (name_lead (first_of (leaves a ++ (leaves m ++ us)))) a (leaves m ++ us)
+    × Walks (php V74) (Word t.AnyLabel ∷ Turns g.NameMore ∷ []) m us =
+    part_first (php V74) g.NameLead (Word t.AnyLabel ∷ Turns g.NameMore ∷ []) f us w in
     let same : leaves f ++ us ≡ leaves p.0 ++ (leaves p.1 ++ us) = ap (λ (i : Forest). leaves i ++ us) p.2 ∙ leaves_before p.0 p.1 us in
-    let no : p.0 ≡ none = no_items (php V74) p.0 (leaves p.1 ++ us) (subst (λ (is : List Item). Walks (php V74) is p.0 (leaves p.1 ++ us)) (ap name_lead (sym (ap first_of same)) ∙ label_leads (first_of (leaves f ++ us)) h) p.3) in
-    let q : (x : Token) × (m : Forest) × (p.1 ≡ leaf x m) × (accepts V74 t.AnyLabel x ≡ true) × Walks (php V74) (Turns g.NameMore ∷ []) m us = word_first (php V74) t.AnyLabel (Turns g.NameMore ∷ []) p.1 us p.4 in
+    let no : p.0 ≡ none = no_items (php V74) p.0 (leaves p.1 ++ us)
+    (subst (λ (is : List Item). Walks (php V74) is p.0 (leaves p.1 ++ us))
+    (ap name_lead (sym (ap first_of same)) ∙ label_leads (first_of (leaves f ++ us)) h) p.3) in
+    let q : (x : Token) × (m : Forest) × (p.1 ≡ leaf x m) × (accepts V74 t.AnyLabel x ≡ true)
+    × Walks (php V74) (Turns g.NameMore ∷ []) m us = word_first (php V74) t.AnyLabel (Turns g.NameMore ∷ []) p.1
+    us p.4 in
     let one : f ≡ leaf q.0 q.1 = p.2 ∙ ap (λ (i : Forest). i +++ p.1) no ∙ q.2 in
     let colon : first_of (leaves q.1 ++ us) ≡ t.Colon = ap (λ (i : Forest). second_of (leaves i ++ us)) (sym one) ∙ e in
     let stopped : q.1 ≡ none = no_items (php V74) q.1 us (no_turns (php V74) g.NameMore [] q.1 us (ap (λ (c : Terminal). name_more c (second_of (leaves q.1 ++ us))) colon) q.4) in
@@ -82,12 +91,18 @@ alone_by V83 f us h e w =
     ap (λ (i : Forest). second_of (leaves i ++ us)) (sym (q.2 ∙ ap (leaf q.0) (no_items (php V83) q.1 us q.4))) ∙ e
 
 -- a name of one label
-name_alone : (v : Version) (f : Forest) (us : List Token) → is_any_label (first_of (leaves f ++ us)) ≡ true → second_of (leaves f ++ us) ≡ t.Colon → Walks (php v) (Part g.Name ∷ []) f us → first_of us ≡ t.Colon
+name_alone : (v : Version) (f : Forest) (us : List Token) → is_any_label (first_of (leaves f ++ us)) ≡ true
+    → second_of (leaves f ++ us) ≡ t.Colon → Walks (php v) (Part g.Name ∷ []) f us → first_of us ≡ t.Colon
 name_alone v f us h e w =
-    let p : (a : Forest) × (m : Forest) × (f ≡ a +++ m) × Walks (php v) (parts v g.Name (leaves a ++ (leaves m ++ us))) a (leaves m ++ us) × Walks (php v) [] m us = part_first (php v) g.Name [] f us w in
+    let p : (a : Forest) × (m : Forest) × (f ≡ a +++ m) × Walks (php v)
+    (parts v g.Name (leaves a ++ (leaves m ++ us))) a (leaves m ++ us)
+    × Walks (php v) [] m us = part_first (php v) g.Name [] f us w in
     let no : p.1 ≡ none = no_items (php v) p.1 us p.4 in
     let same : f ≡ p.0 = p.2 ∙ ap (λ (i : Forest). p.0 +++ i) no ∙ before_none p.0 in
-    alone_by v p.0 us (subst (λ (i : Forest). is_any_label (first_of (leaves i ++ us)) ≡ true) same h) (ap (λ (i : Forest). second_of (leaves i ++ us)) (sym same) ∙ e) (subst (λ (i : Forest). Walks (php v) (parts v g.Name (leaves p.0 ++ (leaves i ++ us))) p.0 (leaves i ++ us)) no p.3)
+    alone_by v p.0 us (subst (λ (i : Forest). is_any_label (first_of (leaves i ++ us)) ≡ true) same h)
+    (ap (λ (i : Forest). second_of (leaves i ++ us)) (sym same) ∙ e)
+    (subst (λ (i : Forest). Walks (php v) (parts v g.Name (leaves p.0 ++ (leaves i ++ us))) p.0 (leaves i ++ us))
+    no p.3)
 
 -- before a colon no expression goes on
 ends_at_colon : (v : Version) (m : ℕ) (b : Forest) (us : List Token) → first_of us ≡ t.Colon → tail v (s.Operand m) (k.Constant, b) us ≡ None
@@ -97,16 +112,22 @@ ends_at_colon v m b us e = ends_here v m (k.Constant, b) us refl refl (subst (λ
 colon_form : (v : Version) (ts : List Token) → is_any_label (first_of ts) ≡ true → second_of ts ≡ t.Colon → operand_form v ts ≡ Some (k.Constant, Part g.Name ∷ [])
 colon_form v [] h e = absurd (false_true h)
 colon_form v (x ∷ []) h e = absurd (end_colon e)
-colon_form v (x ∷ (y ∷ us)) h e = label_atom v (terminal x) (x ∷ (y ∷ us)) h ∙ ap (λ (ts : List Token). Some (name_form ts)) (colon_name x y us h e) ∙ ap (λ (c : Terminal). Some (name_by c (y ∷ us))) e
+colon_form v (x ∷ (y ∷ us)) h e = label_atom v (terminal x) (x ∷ (y ∷ us)) h
+    ∙ ap (λ (ts : List Token). Some (name_form ts)) (colon_name x y us h e)
+    ∙ ap (λ (c : Terminal). Some (name_by c (y ∷ us))) e
 
 -- a colon behind a label that begins an expression stands behind the whole of it
-colon_behind : (v : Version) (m : ℕ) (j : NodeKind) (c : Forest) (us : List Token) → is_any_label (first_of (leaves c ++ us)) ≡ true → second_of (leaves c ++ us) ≡ t.Colon → Grows (php v) (s.Operand m) j c us → (j ≡ k.Constant) × (first_of us ≡ t.Colon)
+colon_behind : (v : Version) (m : ℕ) (j : NodeKind) (c : Forest) (us : List Token)
+    → is_any_label (first_of (leaves c ++ us)) ≡ true → second_of (leaves c ++ us) ≡ t.Colon
+    → Grows (php v) (s.Operand m) j c us → (j ≡ k.Constant) × (first_of us ≡ t.Colon)
 colon_behind v m j c us h e (head {is = is} o w) =
     let same : (j, is) ≡ (k.Constant, Part g.Name ∷ []) = some_form (j, is) (k.Constant, Part g.Name ∷ []) (sym o ∙ colon_form v (leaves c ++ us) h e) in
     (ap (λ (f : Form). f.0) same, name_alone v c us h e (subst (λ (f : Form). Walks (php v) f.1 c us) same w))
 colon_behind v m j c us h e (onward {j = i} {is = is} {b = b} {f = f} y o w) =
     let same : leaves c ++ us ≡ leaves b ++ (leaves f ++ us) = append_assoc (leaves b) (leaves f) us in
-    let q : (i ≡ k.Constant) × (first_of (leaves f ++ us) ≡ t.Colon) = colon_behind v m i b (leaves f ++ us) (subst (λ (ts : List Token). is_any_label (first_of ts) ≡ true) same h) (ap second_of (sym same) ∙ e) y in
+    let q : (i ≡ k.Constant) × (first_of (leaves f ++ us) ≡ t.Colon) =
+    colon_behind v m i b (leaves f ++ us) (subst (λ (ts : List Token). is_any_label (first_of ts) ≡ true) same h)
+    (ap second_of (sym same) ∙ e) y in
     absurd (none_some (j, is) (sym (ends_at_colon v m b (leaves f ++ us) q.1) ∙ ap (λ (x : NodeKind). tail v (s.Operand m) (x, b) (leaves f ++ us)) (sym q.0) ∙ o))
 
 -- ---- the statement
@@ -116,7 +137,9 @@ label_fine t.Colon f = absurd (f refl)
 label_fine d f = refl
 
 -- The tokens of an expression begin no other statement.
-expression_chosen : (v : Version) (ts : List Token) (c : Terminal) → first_of ts ≡ c → begins_expression c ≡ true → FirstForm v ts → (is_any_label c ≡ true → second_of ts ≡ t.Colon → ⊥) → or_else (chosen_by c ts) (Some (simple_form c)) ≡ Some expression_form
+expression_chosen : (v : Version) (ts : List Token) (c : Terminal) → first_of ts ≡ c → begins_expression c ≡ true
+    → FirstForm v ts → (is_any_label c ≡ true → second_of ts ≡ t.Colon → ⊥)
+    → or_else (chosen_by c ts) (Some (simple_form c)) ≡ Some expression_form
 expression_chosen v ts t.If e h f n = absurd (false_true h)
 expression_chosen v ts t.OpenBrace e h f n = absurd (false_true h)
 expression_chosen v ts t.Semi e h f n = absurd (false_true h)
@@ -166,7 +189,10 @@ semi_colon : t.Semi ≡ t.Colon → ⊥
 semi_colon e = cc
 
 -- an expression before a semicolon
-chosen_before : (v : Version) (j : NodeKind) (b : Forest) (z : Token) (rest : List Token) → Grows (php v) (s.Operand 24) j b (z ∷ rest) → terminal z ≡ t.Semi → begins_expression (first_of (leaves b ++ (z ∷ rest))) ≡ true → statement_form (leaves b ++ (z ∷ rest)) ≡ Some expression_form
+chosen_before : (v : Version) (j : NodeKind) (b : Forest) (z : Token) (rest : List Token)
+    → Grows (php v) (s.Operand 24) j b (z ∷ rest) → terminal z ≡ t.Semi
+    → begins_expression (first_of (leaves b ++ (z ∷ rest))) ≡ true
+    → statement_form (leaves b ++ (z ∷ rest)) ≡ Some expression_form
 chosen_before v j b z rest y e h =
     let ts : List Token = leaves b ++ (z ∷ rest) in
     expression_chosen v ts (first_of ts) refl h (first_form v 24 j b (z ∷ rest) ts y refl) (λ l c. semi_colon (sym e ∙ (colon_behind v 24 j b (z ∷ rest) l c y).1))
@@ -180,7 +206,13 @@ expression_grows v n below c rest le x e =
     let semi : terminal z.0 ≡ t.Semi = pinned v t.Semi z.0 (semi_pinned v) z.2 in
     let less : (count q.1 < n) × (count (leaf z.0 none) ≤ n) = node_counts q.0 q.1 (leaf z.0 none) n (subst (λ (i : Forest). count i ≤ n) at le) in
     let same : leaves c ++ rest ≡ leaves q.1 ++ (z.0 ∷ rest) = ap (λ (i : Forest). leaves i ++ rest) at ∙ append_assoc (leaves q.1) (z.0 ∷ []) rest in
-    let y : Spells (php v) (s.Operand 24) (q.0, q.1) (z.0 ∷ rest) = below.placed (Operand 24) (s.Operand 24) q.0 q.1 (z.0 ∷ rest) refl less.0 q.3 q.4 (inl (ap closes_expression semi)) in
-    let begins : begins_expression (first_of (leaves c ++ rest)) ≡ true = ap (λ (i : Forest). begins_expression (first_of (leaves i ++ rest))) p.4 ∙ ap (λ (ts : List Token). begins_expression (first_of ts)) (leaves_before p.0 p.1 rest) ∙ first_in v expr p.0 (leaves p.1 ++ rest) p.2 refl in
-    grows_by v n below s.Statement true k.ExprStmt (expression_form.1) follows_statement (expression_matches v) c rest le x (follows (k.ExprStmt, c) (first_of rest) e) (λ _. last_of k.ExprStmt c rest e)
+    let y : Spells (php v) (s.Operand 24) (q.0, q.1) (z.0 ∷ rest) =
+    below.placed (Operand 24) (s.Operand 24) q.0 q.1 (z.0 ∷ rest) refl less.0 q.3 q.4
+    (inl (ap closes_expression semi)) in
+    let begins : begins_expression (first_of (leaves c ++ rest)) ≡ true =
+    ap (λ (i : Forest). begins_expression (first_of (leaves i ++ rest))) p.4
+    ∙ ap (λ (ts : List Token). begins_expression (first_of ts)) (leaves_before p.0 p.1 rest)
+    ∙ first_in v expr p.0 (leaves p.1 ++ rest) p.2 refl in
+    grows_by v n below s.Statement true k.ExprStmt (expression_form.1) follows_statement (expression_matches v) c rest
+    le x (follows (k.ExprStmt, c) (first_of rest) e) (λ _. last_of k.ExprStmt c rest e)
     (ap statement_form same ∙ chosen_before v q.0 q.1 z.0 rest y.0 semi (subst (λ (ts : List Token). begins_expression (first_of ts) ≡ true) same begins))

@@ -14,7 +14,26 @@ use Rattle.php_grammar.specs.Bases.{is_callee, is_class_base, is_list, is_member
 use Rattle.php_exprs.proofs.Forests.{leaves_append}
 use Rattle.php_shapes.specs.Forms.{form}
 use Rattle.php_shapes.specs.Notation.{Rule, nothing, word, kind, place, inside, ◌~◌, ◌|||◌, many, tokens}
-use Rattle.php_shapes.specs.Places.{Place, Statement, Member, Operand, Left, LeftShort, OffsetBase, MemberBase, ClassBase, Callee, Target, TargetOrList, ClassName, is_expression, is_member, is_statement, may_stand, is_class_name}
+use Rattle.php_shapes.specs.Places.{
+  Place,
+  Statement,
+  Member,
+  Operand,
+  Left,
+  LeftShort,
+  OffsetBase,
+  MemberBase,
+  ClassBase,
+  Callee,
+  Target,
+  TargetOrList,
+  ClassName,
+  is_expression,
+  is_member,
+  is_statement,
+  may_stand,
+  is_class_name,
+}
 use Rattle.php_shapes.specs.Shapes.{Fits, is_nothing, is_word, is_kind, is_place, is_inside, is_both, is_first, is_second, no_more, once_more, is_tokens, IsNode, is_node}
 use Rattle.php_shapes.proofs.ReadClasses.{for_all, both, could, accepted, everywhere, whenever, or_is}
 
@@ -326,7 +345,11 @@ at_place v MemberBase j c h d b = stand is_member_base begins_place j (at_member
 at_place v ClassBase j c h d b = stand is_class_base begins_place j (at_class_base j) h d b
 at_place v Callee j c h d b = stand is_callee begins_place j (at_callee j) h d b
 at_place v Target j c h d b = stand is_target begins_place j (at_target j) h d b
-at_place v TargetOrList j c h d b = elim (or_is (is_target j) (is_list j) h) [ inl e ↦ place_expression d (stand is_target begins_place j (at_target j) e d b) | inr e ↦ stand is_list begins_expression j (at_list j) e d b ]
+at_place v TargetOrList j c h d b = elim (or_is (is_target j) (is_list j) h) [
+  | inl e ↦ place_expression d (stand is_target begins_place j (at_target j) e d b)
+  | inr e
+      ↦ stand is_list begins_expression j (at_list j) e d b
+]
 at_place v ClassName j c h d b = stand is_class_name begins_expression j (at_class_name j) ((both (is_class_name j) _ h).0) d b
 
 -- ---- trees
@@ -351,7 +374,8 @@ Begins-both P Q b c [] [] h k = rw (h, k) refl
 Begins-both P Q b c [] (y ∷ ys) h k = rw h (or_right (P (terminal y)) (Q (terminal y)) k)
 Begins-both P Q b c (x ∷ xs) us h k = rw h refl
 
-cover : (v : Version) (f g h : Forest) (P Q : Terminal → Bool) (b c : Bool) → f ≡ g +++ h → Begins P b (leaves g) → Begins Q c (leaves h) → Begins (λ d. P d || b && Q d) (b && c) (leaves f)
+cover : (v : Version) (f g h : Forest) (P Q : Terminal → Bool) (b c : Bool) → f ≡ g +++ h → Begins P b (leaves g)
+    → Begins Q c (leaves h) → Begins (λ d. P d || b && Q d) (b && c) (leaves f)
 cover v f g h P Q b c e x y = rw (e, leaves_append g h) (Begins-both P Q b c (leaves g) (leaves h) x y)
 
 Begins-more : (P : Terminal → Bool) (b : Bool) (ts us : List Token) → Begins P b ts → Begins P true us → Begins P true (ts ++ us)
@@ -392,15 +416,25 @@ mutual
   rule_begins v is_nothing = refl
   rule_begins v (is_word {c = w} {x = x} a) = accepted v w x a
   rule_begins v (is_kind {k = j} {c = c} n) = Begins-alone (begins j) (may_be_empty j) c (node_begins v n)
-  rule_begins v (is_place {p = p} {k = j} {c = c} m n) = Begins-alone (begins_at p) false c (Begins-weaken (begins j) (begins_at p) (may_be_empty j) false (leaves c) (at_place v p j c m) (not_empty v p j c m) (node_begins v n))
+  rule_begins v (is_place {p = p} {k = j} {c = c} m n) = Begins-alone (begins_at p) false c
+      (Begins-weaken (begins j) (begins_at p) (may_be_empty j) false (leaves c) (at_place v p j c m)
+      (not_empty v p j c m) (node_begins v n))
   rule_begins v (is_inside {k = j} {r = r} {c = c} x near) = Begins-alone (starts v r) (nullable r) c (rule_begins v x)
   rule_begins v (is_both {r = r} {s = s} {f = f} {g = g} {h = h} x y e) = cover v f g h (starts v r) (starts v s) (nullable r) (nullable s) e (rule_begins v x) (rule_begins v y)
-  rule_begins v (is_first {r = r} {s = s} {f = f} x) = Begins-weaken (starts v r) (starts v (r ||| s)) (nullable r) (nullable (r ||| s)) (leaves f) (λ d. or_left (starts v r d) (starts v s d)) (or_left (nullable r) (nullable s)) (rule_begins v x)
-  rule_begins v (is_second {r = r} {s = s} {f = f} x) = Begins-weaken (starts v s) (starts v (r ||| s)) (nullable s) (nullable (r ||| s)) (leaves f) (λ d. or_right (starts v r d) (starts v s d)) (or_right (nullable r) (nullable s)) (rule_begins v x)
+  rule_begins v (is_first {r = r} {s = s} {f = f} x) = Begins-weaken (starts v r) (starts v (r ||| s)) (nullable r)
+      (nullable (r ||| s)) (leaves f) (λ d. or_left (starts v r d) (starts v s d)) (or_left (nullable r) (nullable s))
+      (rule_begins v x)
+  rule_begins v (is_second {r = r} {s = s} {f = f} x) = Begins-weaken (starts v s) (starts v (r ||| s)) (nullable s)
+      (nullable (r ||| s)) (leaves f) (λ d. or_right (starts v r d) (starts v s d))
+      (or_right (nullable r) (nullable s)) (rule_begins v x)
   rule_begins v no_more = refl
-  rule_begins v (once_more {r = r} {f = f} {g = g} {h = h} x y e) = rw (e, leaves_append g h) (Begins-more (starts v r) (nullable r) (leaves g) (leaves h) (rule_begins v x) (rule_begins v y))
+  rule_begins v (once_more {r = r} {f = f} {g = g} {h = h} x y e) =
+      rw (e, leaves_append g h) (Begins-more (starts v r) (nullable r) (leaves g) (leaves h) (rule_begins v x)
+      (rule_begins v y))
   rule_begins v (is_tokens {f = f} b) = Begins-any (leaves f)
 
   pub node_begins : (v : Version) {j : NodeKind} {c : Forest} → IsNode v j c → Begins (begins j) (may_be_empty j) (leaves c)
   node_begins v (is_node {k = j} {c = c} x near straight) =
-      Begins-weaken (starts v (form v j)) (begins j) (nullable (form v j)) (may_be_empty j) (leaves c) (there (starts v (form v j)) (begins j) ((both _ _ (kinds_are_sound v j)).0)) (λ e. when_true _ _ e ((both _ _ (kinds_are_sound v j)).1)) (rule_begins v x)
+      Begins-weaken (starts v (form v j)) (begins j) (nullable (form v j)) (may_be_empty j) (leaves c)
+      (there (starts v (form v j)) (begins j) ((both _ _ (kinds_are_sound v j)).0))
+      (λ e. when_true _ _ e ((both _ _ (kinds_are_sound v j)).1)) (rule_begins v x)

@@ -48,13 +48,17 @@ Leads (leaf x f) = follows_statement (terminal x) ≡ true
 Leads (node j b f) = ⊥
 
 -- parts end before others that follow them
-pub near_end : (before : Bool) (a m : Forest) (rest : List Token) → Leads m → elses_are_nearest before (a +++ m) ≡ true → follows_statement (first_of rest) ≡ true → Last (a +++ m) rest → Last a (leaves m ++ rest) × (follows_statement (first_of (leaves m ++ rest)) ≡ true)
+pub near_end : (before : Bool) (a m : Forest) (rest : List Token) → Leads m
+    → elses_are_nearest before (a +++ m) ≡ true → follows_statement (first_of rest) ≡ true → Last (a +++ m) rest
+    → Last a (leaves m ++ rest) × (follows_statement (first_of (leaves m ++ rest)) ≡ true)
 near_end before a none rest d e f l = (subst (λ (x : Forest). Last x rest) (before_none a) l, f)
 near_end before a (leaf x m) rest d e f l = (last_near before a x m (leaves m ++ rest) e d, d)
 near_end before a (node j b m) rest d e f l = absurd d
 
 -- parts that begin with a token of a class
-leads_with : (v : Version) (w : Terminal) (r : Rule) (f m : Forest) → for_all (λ c. whenever (could v w c) (same_class w c)) ≡ true → follows_statement w ≡ true → Fits v (word w ~ r) f → Leads (f +++ m)
+leads_with : (v : Version) (w : Terminal) (r : Rule) (f m : Forest)
+    → for_all (λ c. whenever (could v w c) (same_class w c)) ≡ true → follows_statement w ≡ true
+    → Fits v (word w ~ r) f → Leads (f +++ m)
 leads_with v w r f m p d (is_both {g = g} {h = h} x y e) =
     let q : (z : Token) × (g ≡ leaf z none) × (accepts v w z ≡ true) = word_is v w g x in
     subst (λ (i : Forest). Leads (i +++ m)) (sym (e ∙ ap (λ (i : Forest). i +++ h) q.1))
@@ -122,7 +126,9 @@ else_if_begins V83 h rest x = begun V83 else_if t.ElseIf h rest x refl refl
 
 module _ (v : Version) (n : ℕ) (below : Below v n) where
   -- the `else`, or none
-  else_walks : (h : Forest) (rest : List Token) → Fits v (maybe else_rule) h → count h ≤ n → follows_statement (first_of rest) ≡ true → (h ≡ none → closes_statement (first_of rest) ≡ true) → Last h rest → Walks (php v) (Turns g.ElseIfs ∷ Part g.ElsePart ∷ []) h rest
+  else_walks : (h : Forest) (rest : List Token) → Fits v (maybe else_rule) h → count h ≤ n
+      → follows_statement (first_of rest) ≡ true → (h ≡ none → closes_statement (first_of rest) ≡ true) → Last h rest
+      → Walks (php v) (Turns g.ElseIfs ∷ Part g.ElsePart ∷ []) h rest
   else_walks h rest (is_first x) le f c l =
       let no : h ≡ none = nothing_is v h x in
       let z : (else_ifs (first_of rest) ≡ []) × (else_part (first_of rest) ≡ []) = closed_else (first_of rest) (c no) in
@@ -136,18 +142,23 @@ module _ (v : Version) (n : ℕ) (below : Below v n) where
       (matched v n below 60 true (else_rule ∷ []) else_items follows_statement h rest (else_matches v) (fits_alone v else_rule h x) le f (λ _. l))))
 
   -- each `elseif`, and then the `else`
-  else_ifs_walk : (before : Bool) (p h : Forest) (rest : List Token) → Fits v (many else_if) p → Fits v (maybe else_rule) h → elses_are_nearest before (p +++ h) ≡ true → count (p +++ h) ≤ n → follows_statement (first_of rest) ≡ true → (h ≡ none → closes_statement (first_of rest) ≡ true) → Last (p +++ h) rest → Walks (php v) (Turns g.ElseIfs ∷ Part g.ElsePart ∷ []) (p +++ h) rest
+  else_ifs_walk : (before : Bool) (p h : Forest) (rest : List Token) → Fits v (many else_if) p
+      → Fits v (maybe else_rule) h → elses_are_nearest before (p +++ h) ≡ true → count (p +++ h) ≤ n
+      → follows_statement (first_of rest) ≡ true → (h ≡ none → closes_statement (first_of rest) ≡ true)
+      → Last (p +++ h) rest → Walks (php v) (Turns g.ElseIfs ∷ Part g.ElsePart ∷ []) (p +++ h) rest
   else_ifs_walk before p h rest no_more y e le f c l = else_walks h rest y le f c l
   else_ifs_walk before p h rest (once_more {g = a} {h = m} x xs at) y e le f c l =
       let whole : p +++ h ≡ a +++ (m +++ h) = ap (λ (i : Forest). i +++ h) at ∙ forest_assoc a m h in
       let le2 : count (a +++ (m +++ h)) ≤ n = subst (λ (i : Forest). count i ≤ n) whole le in
       let e2 : elses_are_nearest before (a +++ (m +++ h)) ≡ true = subst (λ (i : Forest). elses_are_nearest before i ≡ true) whole e in
       let l2 : Last (a +++ (m +++ h)) rest = subst (λ (i : Forest). Last i rest) whole l in
-      let near : Last a (leaves (m +++ h) ++ rest) × (follows_statement (first_of (leaves (m +++ h) ++ rest)) ≡ true) = near_end before a (m +++ h) rest (leads_ifs v m h xs y) e2 f l2 in
+      let near : Last a (leaves (m +++ h) ++ rest) × (follows_statement (first_of (leaves (m +++ h) ++ rest)) ≡ true)
+      = near_end before a (m +++ h) rest (leads_ifs v m h xs y) e2 f l2 in
       let after : (b : Bool) × (elses_are_nearest b (m +++ h) ≡ true) = nearest_right before a (m +++ h) e2 in
       subst (λ (i : Forest). Walks (php v) (Turns g.ElseIfs ∷ Part g.ElsePart ∷ []) i rest) (sym whole)
       (turn {h = a} {f = m +++ h} (ap else_ifs (else_if_begins v a (leaves (m +++ h) ++ rest) x))
-      (matched v n below 60 true (else_if ∷ []) else_if_items follows_statement a (leaves (m +++ h) ++ rest) (else_if_matches v) (fits_alone v else_if a x) (left_le a (m +++ h) n le2) near.1 (λ _. near.0))
+      (matched v n below 60 true (else_if ∷ []) else_if_items follows_statement a (leaves (m +++ h) ++ rest)
+      (else_if_matches v) (fits_alone v else_if a x) (left_le a (m +++ h) n le2) near.1 (λ _. near.0))
       (has_token v else_if a x refl)
       (else_ifs_walk after.0 m h rest xs y after.1 (right_le a (m +++ h) n le2) f c (last_behind a (m +++ h) rest l2)))
 
@@ -210,14 +221,19 @@ past_condition V74 f us x = group_past V74 t.OpenParen t.CloseParen expr f us re
 past_condition V83 f us x = group_past V83 t.OpenParen t.CloseParen expr f us refl refl refl x
 
 -- what stands behind the condition tells the form
-pub if_chosen : (v : Version) (i d m : Forest) (rest : List Token) → Fits v (word t.If) i → Fits v condition d → statement_form (leaves (i +++ (d +++ m)) ++ rest) ≡ Some (if_form (first_of (leaves m ++ rest)))
+pub if_chosen : (v : Version) (i d m : Forest) (rest : List Token) → Fits v (word t.If) i → Fits v condition d
+    → statement_form (leaves (i +++ (d +++ m)) ++ rest) ≡ Some (if_form (first_of (leaves m ++ rest)))
 if_chosen v i d m rest x y =
     let q : (z : Token) × (i ≡ leaf z none) × (accepts v t.If z ≡ true) = word_is v t.If i x in
     subst (λ (f : Forest). statement_form (leaves (f +++ (d +++ m)) ++ rest) ≡ Some (if_form (first_of (leaves m ++ rest)))) (sym q.1)
     (if_told q.0 (leaves (d +++ m) ++ rest) (pinned v t.If q.0 (if_pinned v) q.2)
     ∙ ap (λ (ts : List Token). Some (if_form (first_of ts))) (ap (past_group 0) (leaves_before d m rest) ∙ past_condition v d (leaves m ++ rest) y))
 
-begins_if : (c : Terminal) → begins_statement c ≡ true → if_form c ≡ (k.If, Word t.If ∷ Word t.OpenParen ∷ any ∷ Word t.CloseParen ∷ Node s.Statement ∷ Turns g.ElseIfs ∷ Part g.ElsePart ∷ [])
+begins_if : (c : Terminal) → begins_statement c ≡ true → if_form c ≡ (
+  k.If,
+  Word t.If ∷ Word t.OpenParen ∷ any ∷ Word t.CloseParen ∷ Node s.Statement ∷ Turns g.ElseIfs
+      ∷ Part g.ElsePart ∷ [],
+)
 begins_if t.Colon h = absurd (false_true h)
 begins_if c h = refl
 
@@ -235,7 +251,10 @@ if_lacks V83 = refl
 pub regroup : (i d b m : Forest) → i +++ (d +++ (b +++ m)) ≡ (i +++ (d +++ b)) +++ m
 regroup i d b m = sym (forest_assoc i (d +++ b) m ∙ ap (λ (f : Forest). i +++ f) (forest_assoc d b m))
 
-if_parts : (v : Version) (n : ℕ) → Below v n → (c i d b q h : Forest) (rest : List Token) → Fits v (word t.If) i → Fits v condition d → Fits v statement b → Fits v (many else_if) q → Fits v (maybe else_rule) h → c ≡ i +++ (d +++ (b +++ (q +++ h))) → count c ≤ n → IsNode v k.If c → EndsStatement (k.If, c) (first_of rest) → Grows (php v) s.Statement k.If c rest
+if_parts : (v : Version) (n : ℕ) → Below v n → (c i d b q h : Forest) (rest : List Token) → Fits v (word t.If) i
+    → Fits v condition d → Fits v statement b → Fits v (many else_if) q → Fits v (maybe else_rule) h
+    → c ≡ i +++ (d +++ (b +++ (q +++ h))) → count c ≤ n → IsNode v k.If c → EndsStatement (k.If, c) (first_of rest)
+    → Grows (php v) s.Statement k.If c rest
 if_parts v n below c i d b q h rest xi xd xb xq xh e le x st =
     let a : Forest = i +++ (d +++ b) in
     let m : Forest = q +++ h in
@@ -246,19 +265,34 @@ if_parts v n below c i d b q h rest xi xd xb xq xh e le x st =
     let le2 : count (a +++ m) ≤ n = subst (λ (y : Forest). count y ≤ n) at le in
     let z : Last a (leaves m ++ rest) × (follows_statement (first_of (leaves m ++ rest)) ≡ true) = near_end false a m rest (leads_ifs v q h xq xh) near f last in
     let after : (o : Bool) × (elses_are_nearest o m ≡ true) = nearest_right false a m near in
-    let chosen : statement_form (leaves c ++ rest) ≡ Some (if_form (first_of (leaves (b +++ m) ++ rest))) = ap (λ (y : Forest). statement_form (leaves y ++ rest)) e ∙ if_chosen v i d (b +++ m) rest xi xd in
-    let begins : begins_statement (first_of (leaves (b +++ m) ++ rest)) ≡ true = subst (λ (ts : List Token). begins_statement (first_of ts) ≡ true) (sym (leaves_before b m rest)) (statement_begins v b (leaves m ++ rest) xb) in
-    let closes : h ≡ none → closes_statement (first_of rest) ≡ true = λ o. open_without c (first_of rest) (no_else v if_lead c (if_lacks v) (is_both xi (is_both xd (is_both xb (subst (λ (y : Forest). Fits v (many else_if) y) (sym (ap (λ (y : Forest). q +++ y) o ∙ before_none q)) xq) refl) refl) e)) st in
+    let chosen : statement_form (leaves c ++ rest) ≡ Some (if_form (first_of (leaves (b +++ m) ++ rest))) =
+    ap (λ (y : Forest). statement_form (leaves y ++ rest)) e ∙ if_chosen v i d (b +++ m) rest xi xd in
+    let begins : begins_statement (first_of (leaves (b +++ m) ++ rest)) ≡ true =
+    subst (λ (ts : List Token). begins_statement (first_of ts) ≡ true) (sym (leaves_before b m rest))
+    (statement_begins v b (leaves m ++ rest) xb) in
+    let closes : h ≡ none → closes_statement (first_of rest) ≡ true =
+    λ o. open_without c (first_of rest) (no_else v if_lead c (if_lacks v)
+    (is_both xi (is_both xd (is_both xb (subst (λ (y : Forest). Fits v (many else_if) y)
+    (sym (ap (λ (y : Forest). q +++ y) o ∙ before_none q)) xq) refl) refl) e)) st in
     head (chosen ∙ ap Some (begins_if (first_of (leaves (b +++ m) ++ rest)) begins))
     (subst (λ (y : Forest). Walks (php v) (if_items ++ (Turns g.ElseIfs ∷ Part g.ElsePart ∷ [])) y rest) (sym at)
     (walks_on (php v) if_items (Turns g.ElseIfs ∷ Part g.ElsePart ∷ []) a m rest
-    (matched v n below 60 true (word t.If ∷ condition ∷ statement ∷ []) if_items follows_statement a (leaves m ++ rest) (if_matches v) (i, d +++ b, xi, (d, b, xd, fits_alone v statement b xb, refl), refl) (left_le a m n le2) z.1 (λ _. z.0))
+    (matched v n below 60 true (word t.If ∷ condition ∷ statement ∷ []) if_items follows_statement a
+    (leaves m ++ rest) (if_matches v) (i, d +++ b, xi, (d, b, xd, fits_alone v statement b xb, refl), refl)
+    (left_le a m n le2) z.1 (λ _. z.0))
     (else_ifs_walk v n below after.0 q h rest xq xh after.1 (right_le a m n le2) f closes (last_behind a m rest last))))
 
 pub if_grows : (v : Version) (n : ℕ) → Below v n → StatementGrows v n k.If
 if_grows v n below c rest le x st =
-    let p1 : (i : Forest) × (r : Forest) × Fits v (word t.If) i × Fits v (condition ~ statement ~ many else_if ~ maybe else_rule) r × (c ≡ i +++ r) = both_is v (word t.If) (condition ~ statement ~ many else_if ~ maybe else_rule) c (shaped v k.If c x) in
-    let p2 : (d : Forest) × (r : Forest) × Fits v condition d × Fits v (statement ~ many else_if ~ maybe else_rule) r × (p1.1 ≡ d +++ r) = both_is v condition (statement ~ many else_if ~ maybe else_rule) p1.1 p1.3 in
-    let p3 : (b : Forest) × (r : Forest) × Fits v statement b × Fits v (many else_if ~ maybe else_rule) r × (p2.1 ≡ b +++ r) = both_is v statement (many else_if ~ maybe else_rule) p2.1 p2.3 in
+    let p1 : (i : Forest) × (r : Forest) × Fits v (word t.If) i
+    × Fits v (condition ~ statement ~ many else_if ~ maybe else_rule) r
+    × (c ≡ i +++ r) = both_is v (word t.If) (condition ~ statement ~ many else_if ~ maybe else_rule) c
+    (shaped v k.If c x) in
+    let p2 : (d : Forest) × (r : Forest) × Fits v condition d × Fits v (statement ~ many else_if ~ maybe else_rule) r
+    × (p1.1 ≡ d +++ r) = both_is v condition (statement ~ many else_if ~ maybe else_rule) p1.1 p1.3 in
+    let p3 : (b : Forest) × (r : Forest) × Fits v statement b × Fits v (many else_if ~ maybe else_rule) r
+    × (p2.1 ≡ b +++ r) = both_is v statement (many else_if ~ maybe else_rule) p2.1 p2.3 in
     let p4 : (q : Forest) × (h : Forest) × Fits v (many else_if) q × Fits v (maybe else_rule) h × (p3.1 ≡ q +++ h) = both_is v (many else_if) (maybe else_rule) p3.1 p3.3 in
-    if_parts v n below c p1.0 p2.0 p3.0 p4.0 p4.1 rest p1.2 p2.2 p3.2 p4.2 p4.3 (p1.4 ∙ ap (λ (f : Forest). p1.0 +++ f) (p2.4 ∙ ap (λ (f : Forest). p2.0 +++ f) (p3.4 ∙ ap (λ (f : Forest). p3.0 +++ f) p4.4))) le x st
+    if_parts v n below c p1.0 p2.0 p3.0 p4.0 p4.1 rest p1.2 p2.2 p3.2 p4.2 p4.3
+    (p1.4 ∙ ap (λ (f : Forest). p1.0 +++ f)
+    (p2.4 ∙ ap (λ (f : Forest). p2.0 +++ f) (p3.4 ∙ ap (λ (f : Forest). p3.0 +++ f) p4.4))) le x st

@@ -61,9 +61,13 @@ more_walks v f us (once_more {g = a} {h = m} x y at) e =
     let b : (z : Token) × (p.0 ≡ leaf z none) × (accepts v t.Backslash z ≡ true) = word_is v t.Backslash p.0 p.2 in
     let l : (z : Token) × (p.1 ≡ leaf z none) × (accepts v t.AnyLabel z ≡ true) = word_is v t.AnyLabel p.1 p.3 in
     let one : a ≡ leaf b.0 (leaf l.0 none) = p.4 ∙ ap (λ (i : Forest). i +++ p.1) b.1 ∙ ap (λ (i : Forest). leaf b.0 i) l.1 in
-    let turns : name_more (terminal b.0) (terminal l.0) ≡ Word t.Backslash ∷ Word t.AnyLabel ∷ [] = ap (λ (c : Terminal). name_more c (terminal l.0)) (pinned v t.Backslash b.0 (backslash_pinned v) b.2) ∙ label_turn (terminal l.0) (a_label v l.0 l.2) in
+    let turns : name_more (terminal b.0) (terminal l.0) ≡ Word t.Backslash ∷ Word t.AnyLabel
+    ∷ [] = ap (λ (c : Terminal). name_more c (terminal l.0)) (pinned v t.Backslash b.0 (backslash_pinned v) b.2)
+    ∙ label_turn (terminal l.0) (a_label v l.0 l.2) in
     subst (λ (i : Forest). Walks (php v) (Turns g.NameMore ∷ []) i us) (sym (at ∙ ap (λ (i : Forest). i +++ m) one))
-    (turn {h = leaf b.0 (leaf l.0 none)} {f = m} turns (a_word b.2 (a_word l.2 ends)) (subst (λ (i : Forest). 0 < length (leaves i)) one (has_token v (word t.Backslash ~ word t.AnyLabel) a x refl)) (more_walks v m us y e))
+    (turn {h = leaf b.0 (leaf l.0 none)} {f = m} turns (a_word b.2 (a_word l.2 ends))
+    (subst (λ (i : Forest). 0 < length (leaves i)) one
+    (has_token v (word t.Backslash ~ word t.AnyLabel) a x refl)) (more_walks v m us y e))
 
 -- a label and further parts
 label_walks : (v : Version) (f : Forest) (us : List Token) → Fits v (word t.AnyLabel ~ more_of_name) f → NameEnds us → Walks (php v) (Word t.AnyLabel ∷ Turns g.NameMore ∷ []) f us
@@ -81,19 +85,25 @@ label_starts v f us x =
 abbrev root_items : List Item
 root_items = Part g.RootLead ∷ Word t.AnyLabel ∷ Turns g.NameMore ∷ []
 
-root_by : (v : Version) (b m : Forest) (us : List Token) → Fits v (maybe (word t.Backslash)) b → Fits v (word t.AnyLabel ~ more_of_name) m → NameEnds us → Walks (php v) root_items (b +++ m) us
+root_by : (v : Version) (b m : Forest) (us : List Token) → Fits v (maybe (word t.Backslash)) b
+    → Fits v (word t.AnyLabel ~ more_of_name) m → NameEnds us → Walks (php v) root_items (b +++ m) us
 root_by v b m us (is_first x) y e =
     subst (λ (i : Forest). Walks (php v) root_items (i +++ m) us) (sym (nothing_is v b x))
-    (part {h = none} {f = m} (subst (λ (is : List Item). Walks (php v) is none (leaves m ++ us)) (sym (no_root (first_of (leaves m ++ us)) (label_starts v m us y))) ends) (label_walks v m us y e))
+    (part {h = none} {f = m} (subst (λ (is : List Item). Walks (php v) is none (leaves m ++ us))
+    (sym (no_root (first_of (leaves m ++ us)) (label_starts v m us y))) ends) (label_walks v m us y e))
 root_by v b m us (is_second x) y e =
     let q : (z : Token) × (b ≡ leaf z none) × (accepts v t.Backslash z ≡ true) = word_is v t.Backslash b x in
     subst (λ (i : Forest). Walks (php v) root_items (i +++ m) us) (sym q.1)
-    (part {h = leaf q.0 none} {f = m} (subst (λ (c : Terminal). Walks (php v) (root_lead c) (leaf q.0 none) (leaves m ++ us)) (sym (pinned v t.Backslash q.0 (backslash_pinned v) q.2)) (a_word q.2 ends)) (label_walks v m us y e))
+    (part {h = leaf q.0 none} {f = m} (subst (λ (c : Terminal). Walks (php v) (root_lead c) (leaf q.0 none)
+    (leaves m ++ us)) (sym (pinned v t.Backslash q.0 (backslash_pinned v) q.2)) (a_word q.2 ends))
+    (label_walks v m us y e))
 
 -- the same behind a backslash or none
 root_walks : (v : Version) (f : Forest) (us : List Token) → Fits v (maybe (word t.Backslash) ~ word t.AnyLabel ~ more_of_name) f → NameEnds us → Walks (php v) root_items f us
 root_walks v f us x e =
-    let p : (b : Forest) × (m : Forest) × Fits v (maybe (word t.Backslash)) b × Fits v (word t.AnyLabel ~ more_of_name) m × (f ≡ b +++ m) = both_is v (maybe (word t.Backslash)) (word t.AnyLabel ~ more_of_name) f x in
+    let p : (b : Forest) × (m : Forest) × Fits v (maybe (word t.Backslash)) b
+    × Fits v (word t.AnyLabel ~ more_of_name) m × (f ≡ b +++ m) =
+    both_is v (maybe (word t.Backslash)) (word t.AnyLabel ~ more_of_name) f x in
     subst (λ (i : Forest). Walks (php v) root_items i us) (sym p.4) (root_by v p.0 p.1 us p.2 p.3 e)
 
 whole_walks : (v : Version) (w : Terminal) (f : Forest) (us : List Token) → Fits v (word w) f → Walks (php v) (Word w ∷ []) f us
@@ -162,36 +172,49 @@ grouped_kept d h = refl
 behind_word : (v : Version) (w : Terminal) (f : Forest) (us : List Token) → Fits v (word w) f → second_of (leaves f ++ us) ≡ first_of us
 behind_word v w f us x = ap (λ (i : Forest). second_of (leaves i ++ us)) ((word_is v w f x).1)
 
-chosen : (v : Version) (gr : Group) (is : List Item) (f : Forest) (us : List Token) → (php v).parts gr (leaves f ++ us) ≡ is → Walks (php v) is f us → Walks (php v) (Part gr ∷ []) f us
+chosen : (v : Version) (gr : Group) (is : List Item) (f : Forest) (us : List Token)
+    → (php v).parts gr (leaves f ++ us) ≡ is → Walks (php v) is f us → Walks (php v) (Part gr ∷ []) f us
 chosen v gr is f us e w = group_alone v gr f us (subst (λ (js : List Item). Walks (php v) js f us) (sym e) w)
 
 -- a name with an alias, or before braces
-pub renamed_walks : (v : Version) (f : Forest) (us : List Token) → Fits v (imported_name v) f → renames (first_of us) ≡ true → NameEnds us → Walks (php v) (Part g.UsedClass ∷ []) f us
+pub renamed_walks : (v : Version) (f : Forest) (us : List Token) → Fits v (imported_name v) f
+    → renames (first_of us) ≡ true → NameEnds us → Walks (php v) (Part g.UsedClass ∷ []) f us
 renamed_walks V74 f us x h e = elim (used_of (second_of (leaves f ++ us))) [
   | inl o ↦ chosen V74 g.UsedClass (Part g.ImportedName ∷ []) f us o (imported_name_walks V74 f us x e)
   | inr o ↦ chosen V74 g.UsedClass (Part g.ImportedClass ∷ []) f us o (imported_class_walks V74 f us x e)
 ]
-renamed_walks V83 f us x h e = chosen V83 g.UsedClass (Part g.ImportedName ∷ []) f us (ap used_class (behind_word V83 t.ImportedName f us x) ∙ used_renamed (first_of us) h) (imported_name_walks V83 f us x e)
+renamed_walks V83 f us x h e = chosen V83 g.UsedClass (Part g.ImportedName ∷ []) f us
+    (ap used_class (behind_word V83 t.ImportedName f us x) ∙ used_renamed (first_of us) h)
+    (imported_name_walks V83 f us x e)
 
 -- a class's name
-pub kept_walks : (v : Version) (f : Forest) (us : List Token) → Fits v (imported_class v) f → renames (first_of us) ≡ false → NameEnds us → Walks (php v) (Part g.UsedClass ∷ []) f us
+pub kept_walks : (v : Version) (f : Forest) (us : List Token) → Fits v (imported_class v) f
+    → renames (first_of us) ≡ false → NameEnds us → Walks (php v) (Part g.UsedClass ∷ []) f us
 kept_walks V74 f us x h e = elim (used_of (second_of (leaves f ++ us))) [
   | inl o ↦ chosen V74 g.UsedClass (Part g.ImportedName ∷ []) f us o (imported_name_walks V74 f us x e)
   | inr o ↦ chosen V74 g.UsedClass (Part g.ImportedClass ∷ []) f us o (imported_class_walks V74 f us x e)
 ]
-kept_walks V83 f us x h e = chosen V83 g.UsedClass (Part g.ImportedClass ∷ []) f us (ap used_class (behind_word V83 t.ImportedClass f us x) ∙ used_kept (first_of us) h) (imported_class_walks V83 f us x e)
+kept_walks V83 f us x h e = chosen V83 g.UsedClass (Part g.ImportedClass ∷ []) f us
+    (ap used_class (behind_word V83 t.ImportedClass f us x) ∙ used_kept (first_of us) h)
+    (imported_class_walks V83 f us x e)
 
 -- the same two in braces
-pub grouped_renamed_walks : (v : Version) (f : Forest) (us : List Token) → Fits v (grouped_name v) f → renames_grouped (first_of us) ≡ true → NameEnds us → Walks (php v) (Part g.UsedGrouped ∷ []) f us
+pub grouped_renamed_walks : (v : Version) (f : Forest) (us : List Token) → Fits v (grouped_name v) f
+    → renames_grouped (first_of us) ≡ true → NameEnds us → Walks (php v) (Part g.UsedGrouped ∷ []) f us
 grouped_renamed_walks V74 f us x h e = elim (grouped_of (second_of (leaves f ++ us))) [
   | inl o ↦ chosen V74 g.UsedGrouped (Part g.GroupedName ∷ []) f us o (grouped_name_walks V74 f us x e)
   | inr o ↦ chosen V74 g.UsedGrouped (Part g.GroupedClass ∷ []) f us o (grouped_class_walks V74 f us x e)
 ]
-grouped_renamed_walks V83 f us x h e = chosen V83 g.UsedGrouped (Part g.GroupedName ∷ []) f us (ap used_grouped (behind_word V83 t.GroupedName f us x) ∙ grouped_renamed (first_of us) h) (grouped_name_walks V83 f us x e)
+grouped_renamed_walks V83 f us x h e = chosen V83 g.UsedGrouped (Part g.GroupedName ∷ []) f us
+    (ap used_grouped (behind_word V83 t.GroupedName f us x) ∙ grouped_renamed (first_of us) h)
+    (grouped_name_walks V83 f us x e)
 
-pub grouped_kept_walks : (v : Version) (f : Forest) (us : List Token) → Fits v (grouped_class v) f → renames_grouped (first_of us) ≡ false → NameEnds us → Walks (php v) (Part g.UsedGrouped ∷ []) f us
+pub grouped_kept_walks : (v : Version) (f : Forest) (us : List Token) → Fits v (grouped_class v) f
+    → renames_grouped (first_of us) ≡ false → NameEnds us → Walks (php v) (Part g.UsedGrouped ∷ []) f us
 grouped_kept_walks V74 f us x h e = elim (grouped_of (second_of (leaves f ++ us))) [
   | inl o ↦ chosen V74 g.UsedGrouped (Part g.GroupedName ∷ []) f us o (grouped_name_walks V74 f us x e)
   | inr o ↦ chosen V74 g.UsedGrouped (Part g.GroupedClass ∷ []) f us o (grouped_class_walks V74 f us x e)
 ]
-grouped_kept_walks V83 f us x h e = chosen V83 g.UsedGrouped (Part g.GroupedClass ∷ []) f us (ap used_grouped (behind_word V83 t.GroupedClass f us x) ∙ grouped_kept (first_of us) h) (grouped_class_walks V83 f us x e)
+grouped_kept_walks V83 f us x h e = chosen V83 g.UsedGrouped (Part g.GroupedClass ∷ []) f us
+    (ap used_grouped (behind_word V83 t.GroupedClass f us x) ∙ grouped_kept (first_of us) h)
+    (grouped_class_walks V83 f us x e)

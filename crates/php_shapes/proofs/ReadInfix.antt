@@ -1,5 +1,32 @@
 -- Operators between two operands.
-use Rattle.std.proofs.Common.{◌≡◌, ℕ, ◌<◌, ◌≤◌, Bool, true, false, ◌||◌, List, [], ◌∷◌, ◌++◌, inl, inr, Option, Some, None, refl, sym, ap, ◌∙◌, subst, nat_eq, nat_le, nat_lt, arith}
+use Rattle.std.proofs.Common.{
+  ◌≡◌,
+  ℕ,
+  ◌<◌,
+  ◌≤◌,
+  Bool,
+  true,
+  false,
+  ◌||◌,
+  List,
+  [],
+  ◌∷◌,
+  ◌++◌,
+  inl,
+  inr,
+  Option,
+  Some,
+  None,
+  refl,
+  sym,
+  ap,
+  ◌∙◌,
+  subst,
+  nat_eq,
+  nat_le,
+  nat_lt,
+  arith,
+}
 use Rattle.std.proofs.lemmas.Bool.{leb-true, lt-ltb}
 use Rattle.php_tree.specs.declared.kind.NodeKind.{NodeKind}
 use Rattle.php_tree.specs.declared.kind.NodeKind.TheVariants as k
@@ -69,7 +96,8 @@ le_refl n = omega arith
 lt_true0 : (p : ℕ) → 0 < p → nat_lt 0 p ≡ true
 lt_true0 p lt = lt-ltb 0 p lt
 
-binary_is : (v : Version) (op : Terminal) (l p q : ℕ) (m left : ℕ) → IsInfix v op l p q → p ≤ m → left ≤ l → binary_tail v m left op ≡ Some (k.Binary, Word t.BinaryOperator ∷ Node (s.Operand q) ∷ [])
+binary_is : (v : Version) (op : Terminal) (l p q : ℕ) (m left : ℕ) → IsInfix v op l p q → p ≤ m → left ≤ l
+    → binary_tail v m left op ≡ Some (k.Binary, Word t.BinaryOperator ∷ Node (s.Operand q) ∷ [])
 binary_is v op l p q m left i pm ll = rw (i.items, i.at_level, i.at_limit, lt_true0 p i.some, le_true p m pm, le_true left l ll) refl
 
 binary_chain : (v : Version) → ends_its_chain v k.Binary ≡ true
@@ -81,7 +109,8 @@ fits_binary : (v : Version) (m p : ℕ) (x : Tree) → x.0 ≡ k.Binary → leve
 fits_binary v m p x j e h = elim h [ inl le ↦ subst (λ (z : ℕ). z ≤ m) e le | inr pre ↦ absurd (false_true (subst (λ (z : NodeKind). is_prefix z ≡ true) j pre)) ]
 
 pub left_of : (v : Version) (l : ℕ) (i : NodeKind) (b : Forest) → may_stand v (Left l) (i, b) ≡ true → (is_expression i ≡ true) × (edge v (i, b) ≤ l)
-left_of v l i b h = let q : (is_expression i ≡ true) × (nat_le (edge v (i, b)) l ≡ true) = both (is_expression i) (nat_le (edge v (i, b)) l) h in (q.0, leb-true (edge v (i, b)) l q.1)
+left_of v l i b h = let q : (is_expression i ≡ true) × (nat_le (edge v (i, b)) l ≡ true) =
+    both (is_expression i) (nat_le (edge v (i, b)) l) h in (q.0, leb-true (edge v (i, b)) l q.1)
 
 pub or_list : (a b : Bool) → a ≡ true → (a || b) ≡ true
 or_list true b h = refl
@@ -90,7 +119,12 @@ or_list false b h = absurd (false_true h)
 pub left_edge_is : (v : Version) (i : NodeKind) (b : Forest) → is_list i ≡ false → left_edge v (i, b) ≡ edge v (i, b)
 left_edge_is v i b e = rw e refl
 
-infix_at : (v : Version) (n : ℕ) → Below v n → Grown v n → (m : ℕ) (op : Terminal) (l p q : ℕ) → IsInfix v op l p q → (i : NodeKind) (b : Forest) (x : Token) (i' : NodeKind) (b' : Forest) (c : Forest) (rest : List Token) → c ≡ node i b (leaf x (node i' b' none)) → may_stand v (Left l) (i, b) ≡ true → IsNode v i b → accepts v op x ≡ true → may_stand v (Operand q) (i', b') ≡ true → IsNode v i' b' → count c ≤ n → FitsLevel v m (k.Binary, c) → Before v (k.Binary, c) (first_of rest) → Grows (php v) (s.Operand m) k.Binary c rest
+infix_at : (v : Version) (n : ℕ) → Below v n → Grown v n → (m : ℕ) (op : Terminal) (l p q : ℕ) → IsInfix v op l p q
+    → (i : NodeKind) (b : Forest) (x : Token) (i' : NodeKind) (b' : Forest) (c : Forest) (rest : List Token)
+    → c ≡ node i b (leaf x (node i' b' none)) → may_stand v (Left l) (i, b) ≡ true → IsNode v i b
+    → accepts v op x ≡ true → may_stand v (Operand q) (i', b') ≡ true → IsNode v i' b' → count c ≤ n
+    → FitsLevel v m (k.Binary, c) → Before v (k.Binary, c) (first_of rest)
+    → Grows (php v) (s.Operand m) k.Binary c rest
 infix_at v n below grown m op l p q is i b x i' b' c rest at st nd acc st' nd' le fl h =
     let f : Forest = leaf x (node i' b' none) in
     let ts : List Token = leaves f ++ rest in
@@ -100,25 +134,50 @@ infix_at v n below grown m op l p q is i b x i' b' c rest at st nd acc st' nd' l
     let lp : level v (k.Binary, node i b f) ≡ p = ap (binary_level v) tx ∙ is.at_level in
     let pm : p ≤ m = fits_binary v m p (k.Binary, node i b f) refl lp (subst (λ (z : Forest). FitsLevel v m (k.Binary, z)) at fl) in
     let two : (count b < n) × (count f ≤ n) = nodes_count i b f n (subst (λ (z : Forest). count z ≤ n) at le) in
-    let left : Grows (php v) (s.Operand m) i b ts = grown.operand m i b ts two.0 (or_list (is_expression i) (is_list i) lq.0) (inl (le_trans3 (level v (i, b)) (edge v (i, b)) m (level_of_node v (i, b)) (le_trans3 (edge v (i, b)) l m lq.1 (le_trans3 l p m is.low pm)))) nd (inl (nl, inr (inr (subst (λ (z : ℕ). edge v (i, b) ≤ z) (sym (ap (behind_limit v) tx ∙ is.behind_l)) lq.1, subst (λ (z : ℕ). 0 < z) (sym (ap (behind_level v) tx ∙ is.behind_p)) is.some)))) in
+    let left : Grows (php v) (s.Operand m) i b ts = grown.operand m i b ts two.0
+    (or_list (is_expression i) (is_list i) lq.0)
+    (inl (le_trans3 (level v (i, b)) (edge v (i, b)) m (level_of_node v (i, b))
+    (le_trans3 (edge v (i, b)) l m lq.1 (le_trans3 l p m is.low pm)))) nd
+    (inl (
+      nl,
+      inr (inr (
+        subst (λ (z : ℕ). edge v (i, b) ≤ z) (sym (ap (behind_limit v) tx ∙ is.behind_l)) lq.1,
+        subst (λ (z : ℕ). 0 < z) (sym (ap (behind_level v) tx ∙ is.behind_p)) is.some,
+      )),
+    )) in
     let tail : read_tail v m (i, b) ts ≡ Some (k.Binary, Word t.BinaryOperator ∷ Node (s.Operand q) ∷ []) =
     tail_is v m i b ts (k.Binary, Word t.BinaryOperator ∷ Node (s.Operand q) ∷ []) nd
-    (third_tail (postfix_tail v i ts) (chosen_tail v m (left_edge v (i, b)) i ts) (binary_tail v m (left_edge v (i, b)) (first_of ts)) (k.Binary, Word t.BinaryOperator ∷ Node (s.Operand q) ∷ [])
+    (third_tail (postfix_tail v i ts) (chosen_tail v m (left_edge v (i, b)) i ts)
+    (binary_tail v m (left_edge v (i, b)) (first_of ts))
+    (k.Binary, Word t.BinaryOperator ∷ Node (s.Operand q) ∷ [])
     (subst (λ (z : Terminal). postfix_by v i z ts ≡ None) (sym tx) (is.no_postfix i ts))
     (subst (λ (z : Terminal). operator_by v m (left_edge v (i, b)) i z ts ≡ None) (sym tx) (is.no_chosen m (left_edge v (i, b)) i ts))
-    (subst (λ (z : Terminal). binary_tail v m (left_edge v (i, b)) z ≡ Some (k.Binary, Word t.BinaryOperator ∷ Node (s.Operand q) ∷ [])) (sym tx) (binary_is v op l p q m (left_edge v (i, b)) is pm (subst (λ (z : ℕ). z ≤ l) (sym (left_edge_is v i b nl)) lq.1)))) in
-    let right : Walks (php v) (Node (s.Operand q) ∷ []) (node i' b' none) rest = last_operand v n below p q k.Binary (node i b (leaf x none)) i' b' rest is.free is.same (subst (λ (z : ℕ). p ≤ z) (sym lp) (le_refl p)) ((nodes_count i' b' none n two.1).0) st' nd' (only_behind v k.Binary (node i b f) (first_of rest) (binary_chain v) (subst (λ (z : Forest). Before v (k.Binary, z) (first_of rest)) at h)) in
+    (subst (λ (z : Terminal). binary_tail v m (left_edge v (i, b)) z ≡ Some
+    (k.Binary, Word t.BinaryOperator ∷ Node (s.Operand q) ∷ [])) (sym tx)
+    (binary_is v op l p q m (left_edge v (i, b)) is pm
+    (subst (λ (z : ℕ). z ≤ l) (sym (left_edge_is v i b nl)) lq.1)))) in
+    let right : Walks (php v) (Node (s.Operand q) ∷ []) (node i' b' none) rest =
+    last_operand v n below p q k.Binary (node i b (leaf x none)) i' b' rest is.free is.same
+    (subst (λ (z : ℕ). p ≤ z) (sym lp) (le_refl p)) ((nodes_count i' b' none n two.1).0) st' nd'
+    (only_behind v k.Binary (node i b f) (first_of rest) (binary_chain v)
+    (subst (λ (z : Forest). Before v (k.Binary, z) (first_of rest)) at h)) in
     subst (λ (z : Forest). Grows (php v) (s.Operand m) k.Binary z rest) (sym at)
     (onward left tail (a_word (is.takes x tx) right))
 
-pub infix_grows : (v : Version) (n : ℕ) → Below v n → Grown v n → (m : ℕ) (op : Terminal) (l p q : ℕ) → IsInfix v op l p q → (c : Forest) (rest : List Token) → Fits v (place (Left l) ~ word op ~ place (Operand q)) c → count c ≤ n → FitsLevel v m (k.Binary, c) → Before v (k.Binary, c) (first_of rest) → Grows (php v) (s.Operand m) k.Binary c rest
+pub infix_grows : (v : Version) (n : ℕ) → Below v n → Grown v n → (m : ℕ) (op : Terminal) (l p q : ℕ)
+    → IsInfix v op l p q → (c : Forest) (rest : List Token) → Fits v (place (Left l) ~ word op ~ place (Operand q)) c
+    → count c ≤ n → FitsLevel v m (k.Binary, c) → Before v (k.Binary, c) (first_of rest)
+    → Grows (php v) (s.Operand m) k.Binary c rest
 infix_grows v n below grown m op l p q is c rest x le fl h =
-    let o : (g1 : Forest) × (g2 : Forest) × Fits v (place (Left l)) g1 × Fits v (word op ~ place (Operand q)) g2 × (c ≡ g1 +++ g2) = both_is v (place (Left l)) (word op ~ place (Operand q)) c x in
+    let o : (g1 : Forest) × (g2 : Forest) × Fits v (place (Left l)) g1 × Fits v (word op ~ place (Operand q)) g2
+    × (c ≡ g1 +++ g2) = both_is v (place (Left l)) (word op ~ place (Operand q)) c x in
     let a : (i : NodeKind) × (b : Forest) × (o.0 ≡ node i b none) × (may_stand v (Left l) (i, b) ≡ true) × IsNode v i b = place_is v (Left l) o.0 o.2 in
     let o2 : (g1 : Forest) × (g2 : Forest) × Fits v (word op) g1 × Fits v (place (Operand q)) g2 × (o.1 ≡ g1 +++ g2) = both_is v (word op) (place (Operand q)) o.1 o.3 in
     let u : (y : Token) × (o2.0 ≡ leaf y none) × (accepts v op y ≡ true) = word_is v op o2.0 o2.2 in
     let w : (i : NodeKind) × (b : Forest) × (o2.1 ≡ node i b none) × (may_stand v (Operand q) (i, b) ≡ true) × IsNode v i b = place_is v (Operand q) o2.1 o2.3 in
-    let at : c ≡ node a.0 a.1 (leaf u.0 (node w.0 w.1 none)) = o.4 ∙ ap (λ (z : Forest). z +++ o.1) a.2 ∙ ap (λ (z : Forest). node a.0 a.1 z) (o2.4 ∙ ap (λ (z : Forest). z +++ o2.1) u.1 ∙ ap (λ (z : Forest). leaf u.0 z) w.2) in
+    let at : c ≡ node a.0 a.1 (leaf u.0 (node w.0 w.1 none)) = o.4 ∙ ap (λ (z : Forest). z +++ o.1) a.2
+    ∙ ap (λ (z : Forest). node a.0 a.1 z)
+    (o2.4 ∙ ap (λ (z : Forest). z +++ o2.1) u.1 ∙ ap (λ (z : Forest). leaf u.0 z) w.2) in
     infix_at v n below grown m op l p q is a.0 a.1 u.0 w.0 w.1 c rest at a.3 a.4 u.2 w.3 w.4 le fl h
 
 infix_Power : (v : Version) → IsInfix v t.Power 1 2 2
@@ -685,22 +744,55 @@ infix_Or V83 = record {
   takes = λ x e. rw e refl;
 }
 
-pub binaries_grow : (v : Version) (n : ℕ) → Below v n → Grown v n → (m : ℕ) (c : Forest) (rest : List Token) → Fits v (binary v) c → count c ≤ n → FitsLevel v m (k.Binary, c) → Before v (k.Binary, c) (first_of rest) → Grows (php v) (s.Operand m) k.Binary c rest
+pub binaries_grow : (v : Version) (n : ℕ) → Below v n → Grown v n → (m : ℕ) (c : Forest) (rest : List Token)
+    → Fits v (binary v) c → count c ≤ n → FitsLevel v m (k.Binary, c) → Before v (k.Binary, c) (first_of rest)
+    → Grows (php v) (s.Operand m) k.Binary c rest
 binaries_grow v n below grown m c rest (is_first x) le fl h = infix_grows v n below grown m t.Power 1 2 2 (infix_Power v) c rest x le fl h
 binaries_grow v n below grown m c rest (is_second (is_first x)) le fl h = infix_grows v n below grown m t.Factor 6 6 5 (infix_Factor v) c rest x le fl h
 binaries_grow v n below grown m c rest (is_second (is_second (is_first x))) le fl h = infix_grows v n below grown m t.Plus 7 7 6 (infix_Plus v) c rest x le fl h
 binaries_grow v n below grown m c rest (is_second (is_second (is_second (is_first x)))) le fl h = infix_grows v n below grown m t.Minus 7 7 6 (infix_Minus v) c rest x le fl h
-binaries_grow v n below grown m c rest (is_second (is_second (is_second (is_second (is_first x))))) le fl h = infix_grows v n below grown m t.Shift 8 8 7 (infix_Shift v) c rest x le fl h
-binaries_grow V74 n below grown m c rest (is_second (is_second (is_second (is_second (is_second (is_first x)))))) le fl h = infix_grows V74 n below grown m t.Dot 7 7 6 infix_Dot_V74 c rest x le fl h
-binaries_grow V83 n below grown m c rest (is_second (is_second (is_second (is_second (is_second (is_first x)))))) le fl h = infix_grows V83 n below grown m t.Dot 9 9 8 infix_Dot_V83 c rest x le fl h
-binaries_grow v n below grown m c rest (is_second (is_second (is_second (is_second (is_second (is_second (is_first x))))))) le fl h = infix_grows v n below grown m t.Order 9 10 9 (infix_Order v) c rest x le fl h
-binaries_grow v n below grown m c rest (is_second (is_second (is_second (is_second (is_second (is_second (is_second (is_first x)))))))) le fl h = infix_grows v n below grown m t.Equality 10 11 10 (infix_Equality v) c rest x le fl h
-binaries_grow v n below grown m c rest (is_second (is_second (is_second (is_second (is_second (is_second (is_second (is_second (is_first x))))))))) le fl h = infix_grows v n below grown m t.Ampersand 12 12 11 (infix_Ampersand v) c rest x le fl h
-binaries_grow v n below grown m c rest (is_second (is_second (is_second (is_second (is_second (is_second (is_second (is_second (is_second (is_first x)))))))))) le fl h = infix_grows v n below grown m t.Caret 13 13 12 (infix_Caret v) c rest x le fl h
-binaries_grow v n below grown m c rest (is_second (is_second (is_second (is_second (is_second (is_second (is_second (is_second (is_second (is_second (is_first x))))))))))) le fl h = infix_grows v n below grown m t.Bar 14 14 13 (infix_Bar v) c rest x le fl h
-binaries_grow v n below grown m c rest (is_second (is_second (is_second (is_second (is_second (is_second (is_second (is_second (is_second (is_second (is_second (is_first x)))))))))))) le fl h = infix_grows v n below grown m t.BooleanAnd 15 15 14 (infix_BooleanAnd v) c rest x le fl h
-binaries_grow v n below grown m c rest (is_second (is_second (is_second (is_second (is_second (is_second (is_second (is_second (is_second (is_second (is_second (is_second (is_first x))))))))))))) le fl h = infix_grows v n below grown m t.BooleanOr 16 16 15 (infix_BooleanOr v) c rest x le fl h
-binaries_grow v n below grown m c rest (is_second (is_second (is_second (is_second (is_second (is_second (is_second (is_second (is_second (is_second (is_second (is_second (is_second (is_first x)))))))))))))) le fl h = infix_grows v n below grown m t.Coalesce 16 17 17 (infix_Coalesce v) c rest x le fl h
-binaries_grow v n below grown m c rest (is_second (is_second (is_second (is_second (is_second (is_second (is_second (is_second (is_second (is_second (is_second (is_second (is_second (is_second (is_first x))))))))))))))) le fl h = infix_grows v n below grown m t.And 21 21 20 (infix_And v) c rest x le fl h
-binaries_grow v n below grown m c rest (is_second (is_second (is_second (is_second (is_second (is_second (is_second (is_second (is_second (is_second (is_second (is_second (is_second (is_second (is_second (is_first x)))))))))))))))) le fl h = infix_grows v n below grown m t.Xor 22 22 21 (infix_Xor v) c rest x le fl h
-binaries_grow v n below grown m c rest (is_second (is_second (is_second (is_second (is_second (is_second (is_second (is_second (is_second (is_second (is_second (is_second (is_second (is_second (is_second (is_second x)))))))))))))))) le fl h = infix_grows v n below grown m t.Or 23 23 22 (infix_Or v) c rest x le fl h
+binaries_grow v n below grown m c rest (is_second (is_second (is_second (is_second (is_first x))))) le fl h =
+    infix_grows v n below grown m t.Shift 8 8 7 (infix_Shift v) c rest x le fl h
+binaries_grow V74 n below grown m c rest (is_second (is_second (is_second (is_second (is_second (is_first x)))))) le
+    fl h = infix_grows V74 n below grown m t.Dot 7 7 6 infix_Dot_V74 c rest x le fl h
+binaries_grow V83 n below grown m c rest (is_second (is_second (is_second (is_second (is_second (is_first x)))))) le
+    fl h = infix_grows V83 n below grown m t.Dot 9 9 8 infix_Dot_V83 c rest x le fl h
+binaries_grow v n below grown m c rest (is_second (is_second
+    (is_second (is_second (is_second (is_second (is_first x))))))) le fl h =
+    infix_grows v n below grown m t.Order 9 10 9 (infix_Order v) c rest x le fl h
+binaries_grow v n below grown m c rest (is_second (is_second
+    (is_second (is_second (is_second (is_second (is_second (is_first x)))))))) le fl h =
+    infix_grows v n below grown m t.Equality 10 11 10 (infix_Equality v) c rest x le fl h
+binaries_grow v n below grown m c rest (is_second (is_second
+    (is_second (is_second (is_second (is_second (is_second (is_second (is_first x))))))))) le fl h =
+    infix_grows v n below grown m t.Ampersand 12 12 11 (infix_Ampersand v) c rest x le fl h
+binaries_grow v n below grown m c rest (is_second (is_second
+    (is_second (is_second (is_second (is_second (is_second (is_second (is_second (is_first x)))))))))) le fl h =
+    infix_grows v n below grown m t.Caret 13 13 12 (infix_Caret v) c rest x le fl h
+binaries_grow v n below grown m c rest (is_second (is_second
+    (is_second (is_second (is_second (is_second (is_second (is_second (is_second (is_second (is_first x))))))))))) le
+    fl h = infix_grows v n below grown m t.Bar 14 14 13 (infix_Bar v) c rest x le fl h
+binaries_grow v n below grown m c rest (is_second (is_second
+    (is_second (is_second (is_second (is_second (is_second (is_second
+    (is_second (is_second (is_second (is_first x)))))))))))) le fl h =
+    infix_grows v n below grown m t.BooleanAnd 15 15 14 (infix_BooleanAnd v) c rest x le fl h
+binaries_grow v n below grown m c rest (is_second (is_second
+    (is_second (is_second (is_second (is_second (is_second (is_second
+    (is_second (is_second (is_second (is_second (is_first x))))))))))))) le fl h =
+    infix_grows v n below grown m t.BooleanOr 16 16 15 (infix_BooleanOr v) c rest x le fl h
+binaries_grow v n below grown m c rest (is_second (is_second
+    (is_second (is_second (is_second (is_second (is_second (is_second
+    (is_second (is_second (is_second (is_second (is_second (is_first x)))))))))))))) le fl h =
+    infix_grows v n below grown m t.Coalesce 16 17 17 (infix_Coalesce v) c rest x le fl h
+binaries_grow v n below grown m c rest (is_second (is_second
+    (is_second (is_second (is_second (is_second (is_second (is_second
+    (is_second (is_second (is_second (is_second (is_second (is_second (is_first x))))))))))))))) le fl h =
+    infix_grows v n below grown m t.And 21 21 20 (infix_And v) c rest x le fl h
+binaries_grow v n below grown m c rest (is_second (is_second
+    (is_second (is_second (is_second (is_second (is_second (is_second
+    (is_second (is_second (is_second (is_second (is_second (is_second (is_second (is_first x)))))))))))))))) le fl h =
+    infix_grows v n below grown m t.Xor 22 22 21 (infix_Xor v) c rest x le fl h
+binaries_grow v n below grown m c rest (is_second (is_second
+    (is_second (is_second (is_second (is_second (is_second (is_second
+    (is_second (is_second (is_second (is_second (is_second (is_second (is_second (is_second x)))))))))))))))) le fl h
+    = infix_grows v n below grown m t.Or 23 23 22 (infix_Or v) c rest x le fl h

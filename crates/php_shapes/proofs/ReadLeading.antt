@@ -86,20 +86,44 @@ pub record LedBy (v : Version) (L : Place → Bool) (K : Terminal → Bool) (c :
   pub same : c ≡ node i b f
   pub next : K (first_of (leaves f ++ us)) ≡ true
 
-no_bracket : (v : Version) (L : Place → Bool) (K : Terminal → Bool) (r : Rule) (c : Forest) (us : List Token) → (for_all (λ d. where_it (starts v r d) (is_no_bracket d)) && not (nullable r)) ≡ true → Fits v r c → first_of (leaves c ++ us) ≡ t.OpenBracket → LedBy v L K c us
+no_bracket : (v : Version) (L : Place → Bool) (K : Terminal → Bool) (r : Rule) (c : Forest) (us : List Token)
+    → (for_all (λ d. where_it (starts v r d) (is_no_bracket d)) && not (nullable r)) ≡ true → Fits v r c
+    → first_of (leaves c ++ us) ≡ t.OpenBracket → LedBy v L K c us
 no_bracket v L K r c us h x e =
-    let q : (for_all (λ d. where_it (starts v r d) (is_no_bracket d)) ≡ true) × (not (nullable r) ≡ true) = both (for_all (λ d. where_it (starts v r d) (is_no_bracket d))) (not (nullable r)) h in
-    absurd (false_true (ap is_no_bracket (sym e) ∙ where_is (starts v r) is_no_bracket (first_of (leaves c ++ us)) q.0 (begins_there (starts v r) (leaves c) us (subst (λ (z : Bool). Begins (starts v r) z (leaves c)) (not_true (nullable r) q.1) (rule_begins v x)))))
+    let q : (for_all (λ d. where_it (starts v r d) (is_no_bracket d)) ≡ true)
+    × (not (nullable r) ≡ true) = both (for_all (λ d. where_it (starts v r d) (is_no_bracket d)))
+    (not (nullable r)) h in
+    absurd (false_true (ap is_no_bracket (sym e) ∙ where_is (starts v r) is_no_bracket (first_of (leaves c ++ us)) q.0
+    (begins_there (starts v r) (leaves c) us
+    (subst (λ (z : Bool). Begins (starts v r) z (leaves c)) (not_true (nullable r) q.1) (rule_begins v x)))))
 
-place_led : (v : Version) (L : Place → Bool) (K : Terminal → Bool) (p : Place) (z : Rule) (c : Forest) (us : List Token) → (L p && (not (nullable z) && for_all (λ d. where_it (starts v z d) (K d)))) ≡ true → Fits v (place p ~ z) c → LedBy v L K c us
+place_led : (v : Version) (L : Place → Bool) (K : Terminal → Bool) (p : Place) (z : Rule) (c : Forest)
+    (us : List Token) → (L p && (not (nullable z) && for_all (λ d. where_it (starts v z d) (K d)))) ≡ true
+    → Fits v (place p ~ z) c → LedBy v L K c us
 place_led v L K p z c us h x =
-    let q : (L p ≡ true) × ((not (nullable z) && for_all (λ d. where_it (starts v z d) (K d))) ≡ true) = both (L p) (not (nullable z) && for_all (λ d. where_it (starts v z d) (K d))) h in
+    let q : (L p ≡ true) × ((not (nullable z) && for_all (λ d. where_it (starts v z d) (K d))) ≡ true) =
+    both (L p) (not (nullable z) && for_all (λ d. where_it (starts v z d) (K d))) h in
     let q2 : (not (nullable z) ≡ true) × (for_all (λ d. where_it (starts v z d) (K d)) ≡ true) = both (not (nullable z)) (for_all (λ d. where_it (starts v z d) (K d))) q.1 in
     let o : (g1 : Forest) × (g2 : Forest) × Fits v (place p) g1 × Fits v z g2 × (c ≡ g1 +++ g2) = both_is v (place p) z c x in
     let w : (i : NodeKind) × (b : Forest) × (o.0 ≡ node i b none) × (may_stand v p (i, b) ≡ true) × IsNode v i b = place_is v p o.0 o.2 in
-    record { i = w.0; b = w.1; f = o.1; p = p; allowed = q.0; stands = w.3; node_ = w.4; same = o.4 ∙ ap (λ (m : Forest). m +++ o.1) w.2; next = where_is (starts v z) K (first_of (leaves o.1 ++ us)) q2.1 (begins_there (starts v z) (leaves o.1) us (subst (λ (m : Bool). Begins (starts v z) m (leaves o.1)) (not_true (nullable z) q2.0) (rule_begins v o.3))) }
+    record {
+      i = w.0;
+      b = w.1;
+      f = o.1;
+      p = p;
+      allowed = q.0;
+      stands = w.3;
+      node_ = w.4;
+      same = o.4
+          ∙ ap (λ (m : Forest). m +++ o.1) w.2;
+      next = where_is (starts v z) K (first_of (leaves o.1 ++ us)) q2.1
+          (begins_there (starts v z) (leaves o.1) us
+          (subst (λ (m : Bool). Begins (starts v z) m (leaves o.1)) (not_true (nullable z) q2.0) (rule_begins v o.3)));
+    }
 
-front_by : (v : Version) (L : Place → Bool) (K : Terminal → Bool) (r z : Rule) (c g h : Forest) (us : List Token) → led_front v L K r z ≡ true → Fits v r g → Fits v z h → c ≡ g +++ h → first_of (leaves c ++ us) ≡ t.OpenBracket → LedBy v L K c us
+front_by : (v : Version) (L : Place → Bool) (K : Terminal → Bool) (r z : Rule) (c g h : Forest) (us : List Token)
+    → led_front v L K r z ≡ true → Fits v r g → Fits v z h → c ≡ g +++ h → first_of (leaves c ++ us) ≡ t.OpenBracket
+    → LedBy v L K c us
 front_by v L K (r ||| q) z c g h us l (is_first x) y e m = front_by v L K r z c g h us ((both (led_front v L K r z) (led_front v L K q z) l).0) x y e m
 front_by v L K (r ||| q) z c g h us l (is_second x) y e m = front_by v L K q z c g h us ((both (led_front v L K r z) (led_front v L K q z) l).1) x y e m
 front_by v L K (place p) z c g h us l x y e m = place_led v L K p z c us l (is_both x y e)
@@ -111,7 +135,8 @@ front_by v L K (r ~ q) z c g h us l x y e m = no_bracket v L K ((r ~ q) ~ z) c u
 front_by v L K (many r) z c g h us l x y e m = no_bracket v L K ((many r) ~ z) c us l (is_both x y e) m
 front_by v L K tokens z c g h us l x y e m = no_bracket v L K (tokens ~ z) c us l (is_both x y e) m
 
-pub led_by : (v : Version) (L : Place → Bool) (K : Terminal → Bool) (r : Rule) (c : Forest) (us : List Token) → led v L K r ≡ true → Fits v r c → first_of (leaves c ++ us) ≡ t.OpenBracket → LedBy v L K c us
+pub led_by : (v : Version) (L : Place → Bool) (K : Terminal → Bool) (r : Rule) (c : Forest) (us : List Token)
+    → led v L K r ≡ true → Fits v r c → first_of (leaves c ++ us) ≡ t.OpenBracket → LedBy v L K c us
 led_by v L K (r ~ z) c us l (is_both {g = g} {h = h} x y e) m = front_by v L K r z c g h us l x y e m
 led_by v L K (r ||| q) c us h (is_first x) m = led_by v L K r c us ((both (led v L K r) (led v L K q) h).0) x m
 led_by v L K (r ||| q) c us h (is_second x) m = led_by v L K q c us ((both (led v L K r) (led v L K q) h).1) x m
@@ -143,7 +168,8 @@ pub record Leading (v : Version) (S : NodeKind → Bool) (K : Terminal → Bool)
   pub lefts : (p : Place) (i : NodeKind) (b : Forest) → L p ≡ true → may_stand v p (i, b) ≡ true → S i ≡ true
   pub led_ : (j : NodeKind) → S j ≡ true → is_bracketed j ≡ false → led v L K (shape_of v j) ≡ true
 
-bracket_words : (v : Version) → (word_opens v t.OpenBracket ≡ true) × (word_closes v t.CloseBracket ≡ true) × (only_class v (word t.Array ~ parens items) t.Array ≡ true) × (pass v items 0 ≡ Some 0)
+bracket_words : (v : Version) → (word_opens v t.OpenBracket ≡ true) × (word_closes v t.CloseBracket ≡ true)
+    × (only_class v (word t.Array ~ parens items) t.Array ≡ true) × (pass v items 0 ≡ Some 0)
 unfolding for_all
 bracket_words V74 = (refl, refl, refl, refl)
 bracket_words V83 = (refl, refl, refl, refl)
@@ -158,13 +184,18 @@ other_word a b ts e f h g = false_true (sym g ∙ ap is_no_bracket (sym f ∙ e)
 
 array_past : (v : Version) (c : Forest) (us : List Token) → IsNode v k.Array c → first_of (leaves c ++ us) ≡ t.OpenBracket → past_group 0 (leaves c ++ us) ≡ us
 array_past v c us (is_node (is_first x) near st) e = group_past v t.OpenBracket t.CloseBracket items c us ((bracket_words v).0) ((bracket_words v).1) ((bracket_words v).3) x
-array_past v c us (is_node (is_second x) near st) e = absurd (other_word t.Array t.OpenBracket (leaves c ++ us) (first_is v (word t.Array ~ parens items) t.Array c us ((bracket_words v).2) refl x) e refl refl)
+array_past v c us (is_node (is_second x) near st) e = absurd
+    (other_word t.Array t.OpenBracket (leaves c ++ us)
+    (first_is v (word t.Array ~ parens items) t.Array c us ((bracket_words v).2) refl x) e refl refl)
 
 pub list_past : (v : Version) (c : Forest) (us : List Token) → IsNode v k.List c → first_of (leaves c ++ us) ≡ t.OpenBracket → past_group 0 (leaves c ++ us) ≡ us
 list_past v c us (is_node (is_first x) near st) e = group_past v t.OpenBracket t.CloseBracket list_parts c us ((bracket_words v).0) ((bracket_words v).1) ((list_words v).1) x
-list_past v c us (is_node (is_second x) near st) e = absurd (other_word t.List t.OpenBracket (leaves c ++ us) (first_is v list_word t.List c us ((list_words v).0) refl x) e refl refl)
+list_past v c us (is_node (is_second x) near st) e =
+    absurd (other_word t.List t.OpenBracket (leaves c ++ us)
+    (first_is v list_word t.List c us ((list_words v).0) refl x) e refl refl)
 
-pub bracketed_past : (v : Version) (j : NodeKind) (c : Forest) (us : List Token) → is_bracketed j ≡ true → IsNode v j c → first_of (leaves c ++ us) ≡ t.OpenBracket → past_group 0 (leaves c ++ us) ≡ us
+pub bracketed_past : (v : Version) (j : NodeKind) (c : Forest) (us : List Token) → is_bracketed j ≡ true
+    → IsNode v j c → first_of (leaves c ++ us) ≡ t.OpenBracket → past_group 0 (leaves c ++ us) ≡ us
 bracketed_past v k.Array c us h x e = array_past v c us x e
 bracketed_past v k.List c us h x e = list_past v c us x e
 bracketed_past v other c us h x e = absurd (false_true h)
@@ -181,27 +212,44 @@ self n = omega arith
 left_count : (n : ℕ) (i : NodeKind) (c b f : Forest) → c ≡ node i b f → count c < suc n → count b < n
 left_count n i c b f e lt = let eq : count c ≡ count (node i b f) = ap count e in omega arith
 
-further : (v : Version) (K : Terminal → Bool) (c b f : Forest) (i : NodeKind) (us : List Token) → c ≡ node i b f → K (first_of (leaves f ++ us)) ≡ true → Leads v K b (leaves f ++ us) → K (first_of (past_group 0 (leaves c ++ us))) ≡ true
+further : (v : Version) (K : Terminal → Bool) (c b f : Forest) (i : NodeKind) (us : List Token) → c ≡ node i b f
+    → K (first_of (leaves f ++ us)) ≡ true → Leads v K b (leaves f ++ us)
+    → K (first_of (past_group 0 (leaves c ++ us))) ≡ true
 further v K c b f i us e next z =
     subst (λ (m : List Token). K (first_of (past_group 0 m)) ≡ true) (sym (ap (λ (m : Forest). leaves m ++ us) e ∙ append_assoc (leaves b) (leaves f) us))
     (elim z [ inl a ↦ subst (λ (m : List Token). K (first_of m) ≡ true) (sym a) next | inr a ↦ a ])
 
-lead_step : (v : Version) (S : NodeKind → Bool) (K : Terminal → Bool) → Leading v S K → (n : ℕ) → ((i : NodeKind) (b : Forest) (ts : List Token) → count b < n → S i ≡ true → IsNode v i b → first_of (leaves b ++ ts) ≡ t.OpenBracket → Leads v K b ts) → (j : NodeKind) (c : Forest) (us : List Token) → count c < suc n → S j ≡ true → IsNode v j c → first_of (leaves c ++ us) ≡ t.OpenBracket → (a : Bool) → is_bracketed j ≡ a → Leads v K c us
+lead_step : (v : Version) (S : NodeKind → Bool) (K : Terminal → Bool) → Leading v S K → (n : ℕ)
+    → ((i : NodeKind) (b : Forest) (ts : List Token) → count b < n → S i ≡ true → IsNode v i b
+    → first_of (leaves b ++ ts) ≡ t.OpenBracket → Leads v K b ts) → (j : NodeKind) (c : Forest) (us : List Token)
+    → count c < suc n → S j ≡ true → IsNode v j c → first_of (leaves c ++ us) ≡ t.OpenBracket → (a : Bool)
+    → is_bracketed j ≡ a → Leads v K c us
 lead_step v S K T n ih j c us lt h x e true a = inl (bracketed_past v j c us a x e)
 lead_step v S K T n ih j c us lt h x e false a =
     let q : LedBy v T.L K c us = led_by v T.L K (shape_of v j) c us (T.led_ j h a) (shape_is v j c x) e in
-    inr (further v K c q.b q.f q.i us q.same q.next (ih q.i q.b (leaves q.f ++ us) (left_count n q.i c q.b q.f q.same lt) (T.lefts q.p q.i q.b q.allowed q.stands) q.node_ (ap first_of (sym (ap (λ (m : Forest). leaves m ++ us) q.same ∙ append_assoc (leaves q.b) (leaves q.f) us)) ∙ e)))
+    inr (further v K c q.b q.f q.i us q.same q.next
+    (ih q.i q.b (leaves q.f ++ us) (left_count n q.i c q.b q.f q.same lt) (T.lefts q.p q.i q.b q.allowed q.stands)
+    q.node_ (ap first_of (sym (ap (λ (m : Forest). leaves m ++ us) q.same
+    ∙ append_assoc (leaves q.b) (leaves q.f) us)) ∙ e)))
 
 -- behind the bracket that leads a node stands what goes on with its left part; or the node is that bracket
-pub leading : (v : Version) (S : NodeKind → Bool) (K : Terminal → Bool) → Leading v S K → (n : ℕ) (j : NodeKind) (c : Forest) (us : List Token) → count c < n → S j ≡ true → IsNode v j c → first_of (leaves c ++ us) ≡ t.OpenBracket → Leads v K c us
+pub leading : (v : Version) (S : NodeKind → Bool) (K : Terminal → Bool) → Leading v S K
+    → (n : ℕ) (j : NodeKind) (c : Forest) (us : List Token) → count c < n → S j ≡ true → IsNode v j c
+    → first_of (leaves c ++ us) ≡ t.OpenBracket → Leads v K c us
 leading v S K T zero j c us lt h x e = absurd (omega arith)
 leading v S K T (suc n) j c us lt h x e = lead_step v S K T n (leading v S K T n) j c us lt h x e (is_bracketed j) refl
 
 -- the same where the node is no such bracket itself
-pub inner_lead : (v : Version) (S : NodeKind → Bool) (K : Terminal → Bool) → Leading v S K → (j : NodeKind) (c : Forest) (us : List Token) → S j ≡ true → is_bracketed j ≡ false → IsNode v j c → first_of (leaves c ++ us) ≡ t.OpenBracket → K (first_of (past_group 0 (leaves c ++ us))) ≡ true
+pub inner_lead : (v : Version) (S : NodeKind → Bool) (K : Terminal → Bool) → Leading v S K
+    → (j : NodeKind) (c : Forest) (us : List Token) → S j ≡ true → is_bracketed j ≡ false → IsNode v j c
+    → first_of (leaves c ++ us) ≡ t.OpenBracket → K (first_of (past_group 0 (leaves c ++ us))) ≡ true
 inner_lead v S K T j c us h a x e =
     let q : LedBy v T.L K c us = led_by v T.L K (shape_of v j) c us (T.led_ j h a) (shape_is v j c x) e in
-    further v K c q.b q.f q.i us q.same q.next (leading v S K T (suc (count q.b)) q.i q.b (leaves q.f ++ us) (self (count q.b)) (T.lefts q.p q.i q.b q.allowed q.stands) q.node_ (ap first_of (sym (ap (λ (m : Forest). leaves m ++ us) q.same ∙ append_assoc (leaves q.b) (leaves q.f) us)) ∙ e))
+    further v K c q.b q.f q.i us q.same q.next
+    (leading v S K T (suc (count q.b)) q.i q.b (leaves q.f ++ us) (self (count q.b))
+    (T.lefts q.p q.i q.b q.allowed q.stands) q.node_
+    (ap first_of (sym (ap (λ (m : Forest). leaves m ++ us) q.same ∙ append_assoc (leaves q.b) (leaves q.f) us))
+    ∙ e))
 
 -- ---- expressions, and what is written
 
@@ -309,7 +357,11 @@ expression_left v MemberBase i b l h = or_list (is_expression i) (is_list i) (ba
 expression_left v ClassBase i b l h = or_list (is_expression i) (is_list i) (base_expression i (class_offset (role_of i) h))
 expression_left v Callee i b l h = or_list (is_expression i) (is_list i) (base_expression i (callee_offset (role_of i) h))
 expression_left v Target i b l h = or_list (is_expression i) (is_list i) (base_expression i (target_offset (role_of i) h))
-expression_left v TargetOrList i b l h = elim (or_is (is_target i) (is_list i) h) [ inl e ↦ or_list (is_expression i) (is_list i) (base_expression i (target_offset (role_of i) e)) | inr e ↦ or_right (is_expression i) (is_list i) e ]
+expression_left v TargetOrList i b l h = elim (or_is (is_target i) (is_list i) h) [
+  | inl e ↦ or_list (is_expression i) (is_list i) (base_expression i (target_offset (role_of i) e))
+  | inr e
+      ↦ or_right (is_expression i) (is_list i) e
+]
 
 pub expressions_lead : (v : Version) → Leading v is_any_expression before_key
 expressions_lead v = record { L = left_places; lefts = expression_left v; led_ = expression_led v }

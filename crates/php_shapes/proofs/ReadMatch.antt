@@ -1,5 +1,34 @@
 -- Rules held against items: a test, and that parts which fit the rules are those of the items where it succeeds.
-use Rattle.std.proofs.Common.{◌≡◌, ℕ, zero, suc, ◌+◌, ◌<◌, ◌≤◌, Bool, true, false, not, ◌&&◌, ◌||◌, List, [], ◌∷◌, ◌++◌, length, ◌⊎◌, inl, inr, refl, sym, ap, ◌∙◌, subst, append_assoc, arith}
+use Rattle.std.proofs.Common.{
+  ◌≡◌,
+  ℕ,
+  zero,
+  suc,
+  ◌+◌,
+  ◌<◌,
+  ◌≤◌,
+  Bool,
+  true,
+  false,
+  not,
+  ◌&&◌,
+  ◌||◌,
+  List,
+  [],
+  ◌∷◌,
+  ◌++◌,
+  length,
+  ◌⊎◌,
+  inl,
+  inr,
+  refl,
+  sym,
+  ap,
+  ◌∙◌,
+  subst,
+  append_assoc,
+  arith,
+}
 use Rattle.php_tree.specs.declared.kind.NodeKind.{NodeKind}
 use Rattle.php_tree.specs.declared.token.Token.{Token}
 use Rattle.php_tree.specs.declared.version.Version.{Version}
@@ -55,7 +84,8 @@ first_begins P Q b [] us h q = rw (h, q) (or_true (P (first_of us)))
     or_true false = refl
 first_begins P Q b (x ∷ xs) us h q = rw h refl
 
-pub first_class : (v : Version) (rs : List Rule) (F : Terminal → Bool) (f : Forest) (rest : List Token) → FitsAll v rs f → F (first_of rest) ≡ true → first v rs F (first_of (leaves f ++ rest)) ≡ true
+pub first_class : (v : Version) (rs : List Rule) (F : Terminal → Bool) (f : Forest) (rest : List Token)
+    → FitsAll v rs f → F (first_of rest) ≡ true → first v rs F (first_of (leaves f ++ rest)) ≡ true
 first_class v [] F f rest e h = subst (λ (x : Forest). F (first_of (leaves x ++ rest)) ≡ true) (sym e) h
 first_class v (r ∷ rs) F f rest x h =
     subst (λ (ts : List Token). first v (r ∷ rs) F (first_of ts) ≡ true) (sym (ap (λ (y : Forest). leaves y ++ rest) x.4 ∙ leaves_before x.0 x.1 rest))
@@ -133,7 +163,11 @@ turning v go fin a rs group is F =
     looks_once group
     && (not (nullable a)
     && (for_all (λ c. where_it (first v rs F c) (is_empty (parts_by v group c)))
-    && (for_all (λ c. elim (starts v a c) as (λ x. Bool) [ true ↦ not (is_empty (parts_by v group c)) && go false (a ∷ []) (parts_by v group c) (first v (many a ∷ rs) F) | false ↦ true ])
+    && (for_all (λ c. elim (starts v a c) as (λ x. Bool) [
+      | true ↦ not (is_empty (parts_by v group c)) && go false (a ∷ []) (parts_by v group c)
+          (first v (many a ∷ rs) F)
+      | false ↦ true
+    ])
     && go fin rs is F)))
 
 -- two tokens choose no items of a group here
@@ -143,7 +177,14 @@ none_by_two v group F = for_all (λ c. where_it (F c) (for_all (λ d. is_empty (
 -- the items that two tokens choose are those of a rule that begins with a word
 abbrev pub turn_by_two : Version → Check → Terminal → (Terminal → Bool) → Rule → Group → (Terminal → Bool) → Bool
 turn_by_two v go w second a group F =
-    for_all (λ c. elim (could v w c) as (λ x. Bool) [ true ↦ for_all (λ d. elim (second d) as (λ x. Bool) [ true ↦ not (is_empty (parts_by_two v group c d)) && go false (a ∷ []) (parts_by_two v group c d) F | false ↦ true ]) | false ↦ true ])
+    for_all (λ c. elim (could v w c) as (λ x. Bool) [
+      | true ↦ for_all (λ d. elim (second d) as (λ x. Bool) [
+        | true ↦ not (is_empty (parts_by_two v group c d)) && go false (a ∷ []) (parts_by_two v group c d) F
+        | false
+            ↦ true
+      ])
+      | false ↦ true
+    ])
 
 -- the same where the next two tokens choose a turn
 abbrev pub turning_two : Version → Check → Bool → Rule → List Rule → Group → List Item → (Terminal → Bool) → Bool
@@ -167,7 +208,11 @@ turning_last v go fin (word w ~ b) ((nothing ||| word u) ∷ rs) group is F =
 turning_last v go fin _ rs group is F = false
 
 abbrev pub on_turns : Version → Check → Bool → Rule → List Rule → Group → List Item → (Terminal → Bool) → Bool
-on_turns v go fin (many a) rs group is F = elim (looks_once group) as (λ x. Bool) [ true ↦ turning v go fin a rs group is F | false ↦ elim (turning_two v go fin a rs group is F) as (λ x. Bool) [ true ↦ true | false ↦ turning_last v go fin a rs group is F ] ]
+on_turns v go fin (many a) rs group is F = elim (looks_once group) as (λ x. Bool) [
+  | true ↦ turning v go fin a rs group is F
+  | false ↦ elim (turning_two v go fin a rs group is F) as (λ x. Bool)
+      [ true ↦ true | false ↦ turning_last v go fin a rs group is F ]
+]
 on_turns v go fin _ rs group is F = false
 
 -- a group stands where no rule does
@@ -242,7 +287,9 @@ last_right (node j b g) h rest l = last_right g h rest (last_of_more j b (g +++ 
 
 -- the parts that fit the rules are those of the items
 abbrev pub Holds : Version → ℕ → Check → Type 0
-Holds v n go = (fin : Bool) (rs : List Rule) (is : List Item) (F : Terminal → Bool) (f : Forest) (rest : List Token) → go fin rs is F ≡ true → FitsAll v rs f → count f ≤ n → F (first_of rest) ≡ true → (fin ≡ true → Last f rest) → Walks (php v) is f rest
+Holds v n go = (fin : Bool) (rs : List Rule) (is : List Item) (F : Terminal → Bool) (f : Forest) (rest : List Token)
+    → go fin rs is F ≡ true → FitsAll v rs f → count f ≤ n → F (first_of rest) ≡ true → (fin ≡ true → Last f rest)
+    → Walks (php v) is f rest
 
 pub choice : (v : Version) (P Q : Terminal → Bool) (c : Terminal) → for_all (λ d. elim (P d) as (λ x. Bool) [ true ↦ Q d | false ↦ true ]) ≡ true → P c ≡ true → Q c ≡ true
 choice v P Q c h p = go (P c) p (everywhere (λ d. elim (P d) as (λ x. Bool) [ true ↦ Q d | false ↦ true ]) h c)
@@ -263,17 +310,59 @@ empty_is [] e = refl
 empty_is (i ∷ is) e = absurd cc
 
 -- one alternative
-one_of : (v : Version) (check : Rule → Terminal → Bool) (F : Terminal → Bool) (r : Rule) (g : Forest) (us : List Token) → alternatives v check F r ≡ true → Fits v r g → F (first_of us) ≡ true → (a : Rule) × Fits v a g × (check a (first_of (leaves g ++ us)) ≡ true)
+one_of : (v : Version) (check : Rule → Terminal → Bool) (F : Terminal → Bool) (r : Rule) (g : Forest)
+    (us : List Token) → alternatives v check F r ≡ true → Fits v r g → F (first_of us) ≡ true → (a : Rule)
+    × Fits v a g × (check a (first_of (leaves g ++ us)) ≡ true)
 one_of v check F (r ||| q) g us h (is_first x) f = one_of v check F r g us ((both (alternatives v check F r) (alternatives v check F q) h).0) x f
 one_of v check F (r ||| q) g us h (is_second x) f = one_of v check F q g us ((both (alternatives v check F r) (alternatives v check F q) h).1) x f
-one_of v check F nothing g us h x f = (nothing, x, choice v (first v (nothing ∷ []) F) (check nothing) (first_of (leaves g ++ us)) h (first_class v (nothing ∷ []) F g us (fits_alone v nothing g x) f))
-one_of v check F (word w) g us h x f = (word w, x, choice v (first v (word w ∷ []) F) (check (word w)) (first_of (leaves g ++ us)) h (first_class v (word w ∷ []) F g us (fits_alone v (word w) g x) f))
-one_of v check F (kind j) g us h x f = (kind j, x, choice v (first v (kind j ∷ []) F) (check (kind j)) (first_of (leaves g ++ us)) h (first_class v (kind j ∷ []) F g us (fits_alone v (kind j) g x) f))
-one_of v check F (place p) g us h x f = (place p, x, choice v (first v (place p ∷ []) F) (check (place p)) (first_of (leaves g ++ us)) h (first_class v (place p ∷ []) F g us (fits_alone v (place p) g x) f))
-one_of v check F (inside j r) g us h x f = (inside j r, x, choice v (first v (inside j r ∷ []) F) (check (inside j r)) (first_of (leaves g ++ us)) h (first_class v (inside j r ∷ []) F g us (fits_alone v (inside j r) g x) f))
-one_of v check F (r ~ q) g us h x f = (r ~ q, x, choice v (first v ((r ~ q) ∷ []) F) (check (r ~ q)) (first_of (leaves g ++ us)) h (first_class v ((r ~ q) ∷ []) F g us (fits_alone v (r ~ q) g x) f))
-one_of v check F (many r) g us h x f = (many r, x, choice v (first v (many r ∷ []) F) (check (many r)) (first_of (leaves g ++ us)) h (first_class v (many r ∷ []) F g us (fits_alone v (many r) g x) f))
-one_of v check F tokens g us h x f = (tokens, x, choice v (first v (tokens ∷ []) F) (check tokens) (first_of (leaves g ++ us)) h (first_class v (tokens ∷ []) F g us (fits_alone v tokens g x) f))
+one_of v check F nothing g us h x f = (
+  nothing,
+  x,
+  choice v (first v (nothing ∷ []) F) (check nothing)
+      (first_of (leaves g ++ us)) h (first_class v (nothing ∷ []) F g us (fits_alone v nothing g x) f),
+)
+one_of v check F (word w) g us h x f = (
+  word w,
+  x,
+  choice v (first v (word w ∷ []) F) (check (word w))
+      (first_of (leaves g ++ us)) h (first_class v (word w ∷ []) F g us (fits_alone v (word w) g x) f),
+)
+one_of v check F (kind j) g us h x f = (
+  kind j,
+  x,
+  choice v (first v (kind j ∷ []) F) (check (kind j))
+      (first_of (leaves g ++ us)) h (first_class v (kind j ∷ []) F g us (fits_alone v (kind j) g x) f),
+)
+one_of v check F (place p) g us h x f = (
+  place p,
+  x,
+  choice v (first v (place p ∷ []) F) (check (place p))
+      (first_of (leaves g ++ us)) h (first_class v (place p ∷ []) F g us (fits_alone v (place p) g x) f),
+)
+one_of v check F (inside j r) g us h x f = (
+  inside j r,
+  x,
+  choice v (first v (inside j r ∷ []) F) (check (inside j r))
+      (first_of (leaves g ++ us)) h (first_class v (inside j r ∷ []) F g us (fits_alone v (inside j r) g x) f),
+)
+one_of v check F (r ~ q) g us h x f = (
+  r ~ q,
+  x,
+  choice v (first v ((r ~ q) ∷ []) F) (check (r ~ q))
+      (first_of (leaves g ++ us)) h (first_class v ((r ~ q) ∷ []) F g us (fits_alone v (r ~ q) g x) f),
+)
+one_of v check F (many r) g us h x f = (
+  many r,
+  x,
+  choice v (first v (many r ∷ []) F) (check (many r))
+      (first_of (leaves g ++ us)) h (first_class v (many r ∷ []) F g us (fits_alone v (many r) g x) f),
+)
+one_of v check F tokens g us h x f = (
+  tokens,
+  x,
+  choice v (first v (tokens ∷ []) F) (check tokens)
+      (first_of (leaves g ++ us)) h (first_class v (tokens ∷ []) F g us (fits_alone v tokens g x) f),
+)
 
 -- ---- what fits a rule
 
@@ -320,8 +409,10 @@ middle : (a c : Bool) → (a && false && c) ≡ true → false ≡ true
 middle true c h = h
 middle false c h = h
 
-inner_last : (v : Version) (fin : Bool) (rs : List Rule) (g h : Forest) (rest : List Token) → FitsAll v rs h → (fin ≡ true → Last (g +++ h) rest) → (fin && is_last rs) ≡ true → Last g (leaves h ++ rest)
-inner_last v true [] g h rest y l e = subst (λ (f : Forest). Last g (leaves f ++ rest)) (sym y) (subst (λ (f : Forest). Last f rest) (ap (λ (f : Forest). g +++ f) y ∙ before_none g) (l refl))
+inner_last : (v : Version) (fin : Bool) (rs : List Rule) (g h : Forest) (rest : List Token) → FitsAll v rs h
+    → (fin ≡ true → Last (g +++ h) rest) → (fin && is_last rs) ≡ true → Last g (leaves h ++ rest)
+inner_last v true [] g h rest y l e = subst (λ (f : Forest). Last g (leaves f ++ rest)) (sym y)
+    (subst (λ (f : Forest). Last f rest) (ap (λ (f : Forest). g +++ f) y ∙ before_none g) (l refl))
 inner_last v true (r ∷ rs) g h rest y l e = absurd (false_true e)
 inner_last v false rs g h rest y l e = absurd (false_true e)
 
@@ -363,28 +454,43 @@ three_ways false b false d h = inr (inr h)
 -- ---- steps
 
 module _ (v : Version) where
-  no_group : (group : Group) (is : List Item) (f : Forest) (rest : List Token) → parts v group (leaves f ++ rest) ≡ [] → Walks (php v) is f rest → Walks (php v) (Part group ∷ is) f rest
+  no_group : (group : Group) (is : List Item) (f : Forest) (rest : List Token) → parts v group (leaves f ++ rest) ≡ []
+      → Walks (php v) is f rest → Walks (php v) (Part group ∷ is) f rest
   no_group group is f rest e w = part {h = none} (subst (λ (js : List Item). Walks (php v) js none (leaves f ++ rest)) (sym e) ends) w
 
-  empty_here : (group : Group) (F : Terminal → Bool) (ts : List Token) → looks_once group ≡ true → for_all (λ c. where_it (F c) (is_empty (parts_by v group c))) ≡ true → F (first_of ts) ≡ true → parts v group ts ≡ []
+  empty_here : (group : Group) (F : Terminal → Bool) (ts : List Token) → looks_once group ≡ true
+      → for_all (λ c. where_it (F c) (is_empty (parts_by v group c))) ≡ true → F (first_of ts) ≡ true
+      → parts v group ts ≡ []
   empty_here group F ts o a h = parts_are v group ts o ∙ empty_is (parts_by v group (first_of ts)) (where_is F (λ c. is_empty (parts_by v group c)) (first_of ts) a h)
 
 module _ (v : Version) (n : ℕ) (below : Below v n) (go : Check) (holds : Holds v n go) where
-  skip_holds : (turns : Bool) (fin : Bool) (rs : List Rule) (group : Group) (is : List Item) (F : Terminal → Bool) (f : Forest) (rest : List Token) → skipping v go fin rs group is F ≡ true → FitsAll v rs f → count f ≤ n → F (first_of rest) ≡ true → (fin ≡ true → Last f rest) → (parts v group (leaves f ++ rest) ≡ []) × Walks (php v) is f rest
+  skip_holds : (turns : Bool) (fin : Bool) (rs : List Rule) (group : Group) (is : List Item) (F : Terminal → Bool)
+      (f : Forest) (rest : List Token) → skipping v go fin rs group is F ≡ true → FitsAll v rs f → count f ≤ n
+      → F (first_of rest) ≡ true → (fin ≡ true → Last f rest) → (parts v group (leaves f ++ rest) ≡ [])
+      × Walks (php v) is f rest
   skip_holds turns fin rs group is F f rest c x le h l =
-      let one : (looks_once group ≡ true) × ((for_all (λ d. where_it (first v rs F d) (is_empty (parts_by v group d))) && go fin rs is F) ≡ true) = both (looks_once group) (for_all (λ d. where_it (first v rs F d) (is_empty (parts_by v group d))) && go fin rs is F) c in
-      let two : (for_all (λ d. where_it (first v rs F d) (is_empty (parts_by v group d))) ≡ true) × (go fin rs is F ≡ true) = both (for_all (λ d. where_it (first v rs F d) (is_empty (parts_by v group d)))) (go fin rs is F) one.1 in
+      let one : (looks_once group ≡ true) × ((for_all (λ d. where_it (first v rs F d) (is_empty (parts_by v group d)))
+      && go fin rs is F) ≡ true) = both (looks_once group)
+      (for_all (λ d. where_it (first v rs F d) (is_empty (parts_by v group d))) && go fin rs is F) c in
+      let two : (for_all (λ d. where_it (first v rs F d) (is_empty (parts_by v group d))) ≡ true)
+      × (go fin rs is F ≡ true) = both (for_all (λ d. where_it (first v rs F d) (is_empty (parts_by v group d))))
+      (go fin rs is F) one.1 in
       (empty_here v group (first v rs F) (leaves f ++ rest) one.0 two.0 (first_class v rs F f rest x h), holds fin rs is F f rest two.1 x le h l)
 
   nothing_holds : (fin : Bool) (is : List Item) (F : Terminal → Bool) (rest : List Token) → on_nothing v go fin is F ≡ true → F (first_of rest) ≡ true → Walks (php v) is none rest
   nothing_holds fin [] F rest c h = ends
-  nothing_holds fin (Part group ∷ is) F rest c h = let r : (parts v group rest ≡ []) × Walks (php v) is none rest = skip_holds true fin [] group is F none rest c refl (zero_le n) h (λ e. tt) in no_group v group is none rest r.0 r.1
-  nothing_holds fin (Turns group ∷ is) F rest c h = let r : (parts v group rest ≡ []) × Walks (php v) is none rest = skip_holds true fin [] group is F none rest c refl (zero_le n) h (λ e. tt) in stop r.0 r.1
+  nothing_holds fin (Part group ∷ is) F rest c h = let r : (parts v group rest ≡ [])
+      × Walks (php v) is none rest = skip_holds true fin [] group is F none rest c refl (zero_le n) h (λ e. tt)
+      in no_group v group is none rest r.0 r.1
+  nothing_holds fin (Turns group ∷ is) F rest c h = let r : (parts v group rest ≡ [])
+      × Walks (php v) is none rest = skip_holds true fin [] group is F none rest c refl (zero_le n) h (λ e. tt)
+      in stop r.0 r.1
   nothing_holds fin (Word w ∷ is) F rest c h = absurd (false_true c)
   nothing_holds fin (Node sort ∷ is) F rest c h = absurd (false_true c)
   nothing_holds fin (Span ∷ is) F rest c h = absurd (false_true c)
 
-  word_holds : (r : Rule) (w : Terminal) (is : List Item) (g h : Forest) (rest : List Token) → takes_word r w ≡ true → Fits v r g → Walks (php v) is h rest → Walks (php v) (Word w ∷ is) (g +++ h) rest
+  word_holds : (r : Rule) (w : Terminal) (is : List Item) (g h : Forest) (rest : List Token) → takes_word r w ≡ true
+      → Fits v r g → Walks (php v) is h rest → Walks (php v) (Word w ∷ is) (g +++ h) rest
   word_holds (word a) w is g h rest c x k =
       let q : (y : Token) × (g ≡ leaf y none) × (accepts v a y ≡ true) = word_is v a g x in
       subst (λ (f : Forest). Walks (php v) (Word w ∷ is) (f +++ h) rest) (sym q.1) (a_word (subst (λ (u : Terminal). accepts v u q.0 ≡ true) (same_is a w c) q.2) k)
@@ -398,7 +504,10 @@ module _ (v : Version) (n : ℕ) (below : Below v n) (go : Check) (holds : Holds
   word_holds tokens w is g h rest c x k = absurd (false_true c)
 
   -- a node of a rule is read where it stops
-  node_read : (r : Rule) (sort : Sort) (is : List Item) (g h : Forest) (rest : List Token) → takes_node r sort ≡ true → Fits v r g → count (g +++ h) ≤ n → ((j : NodeKind) (c : Forest) → g ≡ node j c none → Stopped v sort (j, c) (leaves h ++ rest)) → Walks (php v) is h rest → Walks (php v) (Node sort ∷ is) (g +++ h) rest
+  node_read : (r : Rule) (sort : Sort) (is : List Item) (g h : Forest) (rest : List Token) → takes_node r sort ≡ true
+      → Fits v r g → count (g +++ h) ≤ n → ((j : NodeKind) (c : Forest) → g ≡ node j c none
+      → Stopped v sort (j, c) (leaves h ++ rest)) → Walks (php v) is h rest
+      → Walks (php v) (Node sort ∷ is) (g +++ h) rest
   node_read (kind j) sort is g h rest c x le st k =
       let q : (b : Forest) × (g ≡ node j b none) × IsNode v j b = kind_is v j g x in
       let le' : count (node j q.0 h) ≤ n = subst (λ (f : Forest). count (f +++ h) ≤ n) q.1 le in
@@ -436,72 +545,143 @@ module _ (v : Version) (n : ℕ) (below : Below v n) (go : Check) (holds : Holds
   last_stops s.ClassRef j c rest e h = absurd (false_true e)
   last_stops s.Interpolated j c rest e h = absurd (false_true e)
 
-  stops_last : (fin : Bool) (rs : List Rule) (sort : Sort) (g h : Forest) (rest : List Token) → (fin && is_last rs && is_statement_sort sort) ≡ true → FitsAll v rs h → (fin ≡ true → Last (g +++ h) rest) → (j : NodeKind) (b : Forest) → g ≡ node j b none → Stopped v sort (j, b) (leaves h ++ rest)
+  stops_last : (fin : Bool) (rs : List Rule) (sort : Sort) (g h : Forest) (rest : List Token)
+      → (fin && is_last rs && is_statement_sort sort) ≡ true → FitsAll v rs h → (fin ≡ true → Last (g +++ h) rest)
+      → (j : NodeKind) (b : Forest) → g ≡ node j b none → Stopped v sort (j, b) (leaves h ++ rest)
   stops_last fin (r ∷ rs) sort g h rest y x l j b e = absurd (false_true (middle fin (is_statement_sort sort) y))
   stops_last fin [] sort g h rest y x l j b e =
-      let z : Last (node j b none) rest = subst (λ (f : Forest). Last f rest) (ap (λ (f : Forest). f +++ h) e ∙ ap (λ (f : Forest). node j b f) x) (l ((three fin true (is_statement_sort sort) y).0)) in
+      let z : Last (node j b none) rest = subst (λ (f : Forest). Last f rest)
+      (ap (λ (f : Forest). f +++ h) e ∙ ap (λ (f : Forest). node j b f) x)
+      (l ((three fin true (is_statement_sort sort) y).0)) in
       last_stops sort j b (leaves h ++ rest) ((three fin true (is_statement_sort sort) y).2) (subst (λ (f : Forest). EndsStatement (j, b) (first_of (leaves f ++ rest))) (sym x) z)
 
-  stops_here : (fin : Bool) (rs : List Rule) (F : Terminal → Bool) (sort : Sort) (g h : Forest) (rest : List Token) → node_ends v fin rs F sort ≡ true → FitsAll v rs h → F (first_of rest) ≡ true → (fin ≡ true → Last (g +++ h) rest) → (j : NodeKind) (c : Forest) → g ≡ node j c none → Stopped v sort (j, c) (leaves h ++ rest)
+  stops_here : (fin : Bool) (rs : List Rule) (F : Terminal → Bool) (sort : Sort) (g h : Forest) (rest : List Token)
+      → node_ends v fin rs F sort ≡ true → FitsAll v rs h → F (first_of rest) ≡ true
+      → (fin ≡ true → Last (g +++ h) rest) → (j : NodeKind) (c : Forest) → g ≡ node j c none
+      → Stopped v sort (j, c) (leaves h ++ rest)
   stops_here fin rs F sort g h rest c x f l j b e =
       elim (or_is (fin && is_last rs && is_statement_sort sort) (for_all (λ d. where_it (first v rs F d) (stops sort d))) c) [
         | inl y ↦ stops_last fin rs sort g h rest y x l j b e
         | inr y ↦ stopped v sort (j, b) (leaves h ++ rest) (where_is (first v rs F) (stops sort) (first_of (leaves h ++ rest)) y (first_class v rs F h rest x f))
       ]
 
-  aligned_holds : (fin : Bool) (r : Rule) (rs : List Rule) (group : Group) (is : List Item) (F : Terminal → Bool) (g h : Forest) (rest : List Token) → aligned v go fin r rs group is F ≡ true → Fits v r g → FitsAll v rs h → count (g +++ h) ≤ n → F (first_of rest) ≡ true → (fin ≡ true → Last (g +++ h) rest) → Walks (php v) (Part group ∷ is) (g +++ h) rest
+  aligned_holds : (fin : Bool) (r : Rule) (rs : List Rule) (group : Group) (is : List Item) (F : Terminal → Bool)
+      (g h : Forest) (rest : List Token) → aligned v go fin r rs group is F ≡ true → Fits v r g → FitsAll v rs h
+      → count (g +++ h) ≤ n → F (first_of rest) ≡ true → (fin ≡ true → Last (g +++ h) rest)
+      → Walks (php v) (Part group ∷ is) (g +++ h) rest
   aligned_holds fin r rs group is F g h rest c x y le f l =
       let check : Rule → Terminal → Bool = λ a d. go (fin && is_last rs) (a ∷ []) (parts_by v group d) (first v rs F) in
-      let one : (looks_once group ≡ true) × ((alternatives v check (first v rs F) r && go fin rs is F) ≡ true) = both (looks_once group) (alternatives v check (first v rs F) r && go fin rs is F) c in
+      let one : (looks_once group ≡ true) × ((alternatives v check (first v rs F) r && go fin rs is F) ≡ true) =
+      both (looks_once group) (alternatives v check (first v rs F) r && go fin rs is F) c in
       let two : (alternatives v check (first v rs F) r ≡ true) × (go fin rs is F ≡ true) = both (alternatives v check (first v rs F) r) (go fin rs is F) one.1 in
       let at : first v rs F (first_of (leaves h ++ rest)) ≡ true = first_class v rs F h rest y f in
       let o : (a : Rule) × Fits v a g × (check a (first_of (leaves g ++ (leaves h ++ rest))) ≡ true) = one_of v check (first v rs F) r g (leaves h ++ rest) two.0 x at in
       part
       (subst (λ (js : List Item). Walks (php v) js g (leaves h ++ rest)) (sym (parts_are v group (leaves g ++ (leaves h ++ rest)) one.0))
-      (holds (fin && is_last rs) (o.0 ∷ []) (parts_by v group (first_of (leaves g ++ (leaves h ++ rest)))) (first v rs F) g (leaves h ++ rest) o.2 (fits_alone v o.0 g o.1) (left_le g h n le) at (inner_last v fin rs g h rest y l)))
+      (holds (fin && is_last rs) (o.0 ∷ []) (parts_by v group (first_of (leaves g ++ (leaves h ++ rest))))
+      (first v rs F) g (leaves h ++ rest) o.2 (fits_alone v o.0 g o.1) (left_le g h n le) at
+      (inner_last v fin rs g h rest y l)))
       (holds fin rs is F h rest two.1 y (right_le g h n le) f (λ e. last_right g h rest (l e)))
 
   -- turns of a group
-  turns_hold : (a : Rule) (rs : List Rule) (group : Group) (is : List Item) (F : Terminal → Bool) (h : Forest) (rest : List Token) → looks_once group ≡ true → nullable a ≡ false → for_all (λ d. where_it (first v rs F d) (is_empty (parts_by v group d))) ≡ true → for_all (λ d. elim (starts v a d) as (λ x. Bool) [ true ↦ not (is_empty (parts_by v group d)) && go false (a ∷ []) (parts_by v group d) (first v (many a ∷ rs) F) | false ↦ true ]) ≡ true → FitsAll v rs h → F (first_of rest) ≡ true → Walks (php v) is h rest → (g : Forest) → Fits v (many a) g → count g ≤ n → Walks (php v) (Turns group ∷ is) (g +++ h) rest
+  turns_hold : (a : Rule) (rs : List Rule) (group : Group) (is : List Item) (F : Terminal → Bool) (h : Forest)
+      (rest : List Token) → looks_once group ≡ true → nullable a ≡ false
+      → for_all (λ d. where_it (first v rs F d) (is_empty (parts_by v group d))) ≡ true
+      → for_all (λ d. elim (starts v a d) as (λ x. Bool) [
+        | true ↦ not (is_empty (parts_by v group d)) && go false (a ∷ []) (parts_by v group d) (first v (many a ∷ rs) F)
+        | false ↦ true
+      ]) ≡ true → FitsAll v rs h → F (first_of rest) ≡ true → Walks (php v) is h rest → (g : Forest)
+      → Fits v (many a) g → count g ≤ n → Walks (php v) (Turns group ∷ is) (g +++ h) rest
   turns_hold a rs group is F h rest o nn st tu y f w g no_more le = stop (empty_here v group (first v rs F) (leaves h ++ rest) o st (first_class v rs F h rest y f)) w
   turns_hold a rs group is F h rest o nn st tu y f w g (once_more {g = g1} {h = g2} x more e) le =
       let le' : count (g1 +++ g2) ≤ n = subst (λ (z : Forest). count z ≤ n) e le in
       let us : List Token = leaves (g2 +++ h) ++ rest in
       let begins : Begins (starts v a) false (leaves g1) = subst (λ (b : Bool). Begins (starts v a) b (leaves g1)) nn (rule_begins v x) in
       let c : starts v a (first_of (leaves g1 ++ us)) ≡ true = begins_there (starts v a) (leaves g1) us begins in
-      let q : (not (is_empty (parts_by v group (first_of (leaves g1 ++ us)))) ≡ true) × (go false (a ∷ []) (parts_by v group (first_of (leaves g1 ++ us))) (first v (many a ∷ rs) F) ≡ true) = both (not (is_empty (parts_by v group (first_of (leaves g1 ++ us))))) (go false (a ∷ []) (parts_by v group (first_of (leaves g1 ++ us))) (first v (many a ∷ rs) F)) (choice v (starts v a) (λ d. not (is_empty (parts_by v group d)) && go false (a ∷ []) (parts_by v group d) (first v (many a ∷ rs) F)) (first_of (leaves g1 ++ us)) tu c) in
+      let q : (not (is_empty (parts_by v group (first_of (leaves g1 ++ us)))) ≡ true)
+      × (go false (a ∷ []) (parts_by v group (first_of (leaves g1 ++ us))) (first v (many a ∷ rs) F) ≡ true) =
+      both (not (is_empty (parts_by v group (first_of (leaves g1 ++ us)))))
+      (go false (a ∷ []) (parts_by v group (first_of (leaves g1 ++ us))) (first v (many a ∷ rs) F))
+      (choice v (starts v a) (λ d. not (is_empty (parts_by v group d))
+      && go false (a ∷ []) (parts_by v group d) (first v (many a ∷ rs) F)) (first_of (leaves g1 ++ us)) tu c) in
       let at : first v (many a ∷ rs) F (first_of us) ≡ true = first_class v (many a ∷ rs) F (g2 +++ h) rest (g2, h, more, y, refl) f in
-      let inner : Walks (php v) (parts v group (leaves g1 ++ us)) g1 us = subst (λ (js : List Item). Walks (php v) js g1 us) (sym (parts_are v group (leaves g1 ++ us) o)) (holds false (a ∷ []) (parts_by v group (first_of (leaves g1 ++ us))) (first v (many a ∷ rs) F) g1 us q.1 (fits_alone v a g1 x) (left_le g1 g2 n le') at (λ z. absurd (false_true z))) in
-      let some : (i : Item) × (js : List Item) × (parts v group (leaves g1 ++ us) ≡ i ∷ js) = some_items (parts v group (leaves g1 ++ us)) (ap (λ (js : List Item). not (is_empty js)) (parts_are v group (leaves g1 ++ us) o) ∙ q.0) in
-      let all : Walks (php v) (Turns group ∷ is) (g1 +++ (g2 +++ h)) rest = turn some.2 (subst (λ (js : List Item). Walks (php v) js g1 us) some.2 inner) (some_token (starts v a) (leaves g1) begins) (turns_hold a rs group is F h rest o nn st tu y f w g2 more (right_le g1 g2 n le')) in
+      let inner : Walks (php v) (parts v group (leaves g1 ++ us)) g1 us =
+      subst (λ (js : List Item). Walks (php v) js g1 us) (sym (parts_are v group (leaves g1 ++ us) o))
+      (holds false (a ∷ []) (parts_by v group (first_of (leaves g1 ++ us))) (first v (many a ∷ rs) F) g1 us q.1
+      (fits_alone v a g1 x) (left_le g1 g2 n le') at (λ z. absurd (false_true z))) in
+      let some : (i : Item) × (js : List Item) × (parts v group (leaves g1 ++ us) ≡ i ∷ js) =
+      some_items (parts v group (leaves g1 ++ us))
+      (ap (λ (js : List Item). not (is_empty js)) (parts_are v group (leaves g1 ++ us) o) ∙ q.0) in
+      let all : Walks (php v) (Turns group ∷ is) (g1 +++ (g2 +++ h)) rest =
+      turn some.2 (subst (λ (js : List Item). Walks (php v) js g1 us) some.2 inner)
+      (some_token (starts v a) (leaves g1) begins)
+      (turns_hold a rs group is F h rest o nn st tu y f w g2 more (right_le g1 g2 n le')) in
       subst (λ (z : Forest). Walks (php v) (Turns group ∷ is) z rest) (sym (ap (λ (z : Forest). z +++ h) e ∙ forest_assoc g1 g2 h)) all
 
-  turning_holds : (fin : Bool) (a : Rule) (rs : List Rule) (group : Group) (is : List Item) (F : Terminal → Bool) (g h : Forest) (rest : List Token) → turning v go fin a rs group is F ≡ true → Fits v (many a) g → FitsAll v rs h → count (g +++ h) ≤ n → F (first_of rest) ≡ true → (fin ≡ true → Last (g +++ h) rest) → Walks (php v) (Turns group ∷ is) (g +++ h) rest
+  turning_holds : (fin : Bool) (a : Rule) (rs : List Rule) (group : Group) (is : List Item) (F : Terminal → Bool)
+      (g h : Forest) (rest : List Token) → turning v go fin a rs group is F ≡ true → Fits v (many a) g
+      → FitsAll v rs h → count (g +++ h) ≤ n → F (first_of rest) ≡ true → (fin ≡ true → Last (g +++ h) rest)
+      → Walks (php v) (Turns group ∷ is) (g +++ h) rest
   turning_holds fin a rs group is F g h rest c x y le f l =
       let S : Bool = for_all (λ d. where_it (first v rs F d) (is_empty (parts_by v group d))) in
-      let U : Bool = for_all (λ d. elim (starts v a d) as (λ x. Bool) [ true ↦ not (is_empty (parts_by v group d)) && go false (a ∷ []) (parts_by v group d) (first v (many a ∷ rs) F) | false ↦ true ]) in
-      let q : (looks_once group ≡ true) × (not (nullable a) ≡ true) × (S ≡ true) × (U ≡ true) × (go fin rs is F ≡ true) = five (looks_once group) (not (nullable a)) S U (go fin rs is F) c in
-      turns_hold a rs group is F h rest q.0 (not_true (nullable a) q.1) q.2 q.3 y f (holds fin rs is F h rest q.4 y (right_le g h n le) f (λ e. last_right g h rest (l e))) g x (left_le g h n le)
+      let U : Bool = for_all (λ d. elim (starts v a d) as (λ x. Bool) [
+        | true ↦ not (is_empty (parts_by v group d)) && go false (a ∷ []) (parts_by v group d)
+            (first v (many a ∷ rs) F)
+        | false ↦ true
+      ]) in
+      let q : (looks_once group ≡ true) × (not (nullable a) ≡ true) × (S ≡ true) × (U ≡ true)
+      × (go fin rs is F ≡ true) = five (looks_once group) (not (nullable a)) S U (go fin rs is F) c in
+      turns_hold a rs group is F h rest q.0 (not_true (nullable a) q.1) q.2 q.3 y f
+      (holds fin rs is F h rest q.4 y (right_le g h n le) f (λ e. last_right g h rest (l e))) g x
+      (left_le g h n le)
 
   -- a turn that two tokens choose
-  turn_two : (w : Terminal) (second : Terminal → Bool) (a : Rule) (group : Group) (is : List Item) (F : Terminal → Bool) (x : Token) (g1 h : Forest) (rest : List Token) → looks_twice group ≡ true → turn_by_two v go w second a group F ≡ true → accepts v w x ≡ true → Fits v a (leaf x g1) → count g1 ≤ n → second (first_of (leaves g1 ++ (leaves h ++ rest))) ≡ true → F (first_of (leaves h ++ rest)) ≡ true → Walks (php v) (Turns group ∷ is) h rest → Walks (php v) (Turns group ∷ is) (leaf x g1 +++ h) rest
+  turn_two : (w : Terminal) (second : Terminal → Bool) (a : Rule) (group : Group) (is : List Item)
+      (F : Terminal → Bool) (x : Token) (g1 h : Forest) (rest : List Token) → looks_twice group ≡ true
+      → turn_by_two v go w second a group F ≡ true → accepts v w x ≡ true → Fits v a (leaf x g1) → count g1 ≤ n
+      → second (first_of (leaves g1 ++ (leaves h ++ rest))) ≡ true → F (first_of (leaves h ++ rest)) ≡ true
+      → Walks (php v) (Turns group ∷ is) h rest → Walks (php v) (Turns group ∷ is) (leaf x g1 +++ h) rest
   turn_two w second a group is F x g1 h rest tw t acc fit le sec f more =
       let us : List Token = leaves h ++ rest in
       let c : Terminal = terminal x in
       let d : Terminal = first_of (leaves g1 ++ us) in
-      let one : for_all (λ e. elim (second e) as (λ x. Bool) [ true ↦ not (is_empty (parts_by_two v group c e)) && go false (a ∷ []) (parts_by_two v group c e) F | false ↦ true ]) ≡ true = choice v (could v w) (λ c. for_all (λ e. elim (second e) as (λ x. Bool) [ true ↦ not (is_empty (parts_by_two v group c e)) && go false (a ∷ []) (parts_by_two v group c e) F | false ↦ true ])) c t (accepted v w x acc) in
-      let two : (not (is_empty (parts_by_two v group c d)) && go false (a ∷ []) (parts_by_two v group c d) F) ≡ true = choice v second (λ e. not (is_empty (parts_by_two v group c e)) && go false (a ∷ []) (parts_by_two v group c e) F) d one sec in
-      let q : (not (is_empty (parts_by_two v group c d)) ≡ true) × (go false (a ∷ []) (parts_by_two v group c d) F ≡ true) = both (not (is_empty (parts_by_two v group c d))) (go false (a ∷ []) (parts_by_two v group c d) F) two in
+      let one : for_all (λ e. elim (second e) as (λ x. Bool) [
+        | true ↦ not (is_empty (parts_by_two v group c e)) && go false (a ∷ []) (parts_by_two v group c e) F
+        | false
+            ↦ true
+      ]) ≡ true = choice v (could v w)
+      (λ c. for_all (λ e. elim (second e) as (λ x. Bool) [
+        | true ↦ not (is_empty (parts_by_two v group c e)) && go false (a ∷ []) (parts_by_two v group c e) F
+        | false
+            ↦ true
+      ])) c t (accepted v w x acc) in
+      let two : (not (is_empty (parts_by_two v group c d)) && go false (a ∷ []) (parts_by_two v group c d) F) ≡ true =
+      choice v second (λ e. not (is_empty (parts_by_two v group c e))
+      && go false (a ∷ []) (parts_by_two v group c e) F) d one sec in
+      let q : (not (is_empty (parts_by_two v group c d)) ≡ true)
+      × (go false (a ∷ []) (parts_by_two v group c d) F ≡ true) =
+      both (not (is_empty (parts_by_two v group c d))) (go false (a ∷ []) (parts_by_two v group c d) F) two in
       let are : parts v group (leaves (leaf x g1) ++ us) ≡ parts_by_two v group c d = parts_are_two v group (leaves (leaf x g1) ++ us) tw in
-      let inner : Walks (php v) (parts v group (leaves (leaf x g1) ++ us)) (leaf x g1) us = subst (λ (js : List Item). Walks (php v) js (leaf x g1) us) (sym are) (holds false (a ∷ []) (parts_by_two v group c d) F (leaf x g1) us q.1 (fits_alone v a (leaf x g1) fit) le f (λ z. absurd (false_true z))) in
-      let some : (i : Item) × (js : List Item) × (parts v group (leaves (leaf x g1) ++ us) ≡ i ∷ js) = some_items (parts v group (leaves (leaf x g1) ++ us)) (ap (λ (js : List Item). not (is_empty js)) are ∙ q.0) in
+      let inner : Walks (php v) (parts v group (leaves (leaf x g1) ++ us)) (leaf x g1) us =
+      subst (λ (js : List Item). Walks (php v) js (leaf x g1) us) (sym are)
+      (holds false (a ∷ []) (parts_by_two v group c d) F (leaf x g1) us q.1 (fits_alone v a (leaf x g1) fit) le f
+      (λ z. absurd (false_true z))) in
+      let some : (i : Item) × (js : List Item) × (parts v group (leaves (leaf x g1) ++ us) ≡ i ∷ js) =
+      some_items (parts v group (leaves (leaf x g1) ++ us)) (ap (λ (js : List Item). not (is_empty js)) are ∙ q.0)
+      in
       turn some.2 (subst (λ (js : List Item). Walks (php v) js (leaf x g1) us) some.2 inner) (one_token x (leaves g1)) more
 
   none_two : (group : Group) (F : Terminal → Bool) (ts : List Token) → looks_twice group ≡ true → none_by_two v group F ≡ true → F (first_of ts) ≡ true → parts v group ts ≡ []
   none_two group F ts tw a f =
-      parts_are_two v group ts tw ∙ empty_is (parts_by_two v group (first_of ts) (second_of ts)) (everywhere (λ d. is_empty (parts_by_two v group (first_of ts) d)) (where_is F (λ c. for_all (λ d. is_empty (parts_by_two v group c d))) (first_of ts) a f) (second_of ts))
+      parts_are_two v group ts tw ∙ empty_is (parts_by_two v group (first_of ts) (second_of ts))
+      (everywhere (λ d. is_empty (parts_by_two v group (first_of ts) d))
+      (where_is F (λ c. for_all (λ d. is_empty (parts_by_two v group c d))) (first_of ts) a f) (second_of ts))
 
-  turns_two : (w : Terminal) (b : Rule) (rs : List Rule) (group : Group) (is : List Item) (F : Terminal → Bool) (h : Forest) (rest : List Token) → looks_twice group ≡ true → nullable b ≡ false → turn_by_two v go w (starts v b) (word w ~ b) group (first v (many (word w ~ b) ∷ rs) F) ≡ true → FitsAll v rs h → F (first_of rest) ≡ true → Walks (php v) (Turns group ∷ is) h rest → (g : Forest) → Fits v (many (word w ~ b)) g → count g ≤ n → Walks (php v) (Turns group ∷ is) (g +++ h) rest
+  turns_two : (w : Terminal) (b : Rule) (rs : List Rule) (group : Group) (is : List Item) (F : Terminal → Bool)
+      (h : Forest) (rest : List Token) → looks_twice group ≡ true → nullable b ≡ false
+      → turn_by_two v go w (starts v b) (word w ~ b) group (first v (many (word w ~ b) ∷ rs) F) ≡ true
+      → FitsAll v rs h → F (first_of rest) ≡ true → Walks (php v) (Turns group ∷ is) h rest → (g : Forest)
+      → Fits v (many (word w ~ b)) g → count g ≤ n → Walks (php v) (Turns group ∷ is) (g +++ h) rest
   turns_two w b rs group is F h rest tw nn tu y f walk g no_more le = walk
   turns_two w b rs group is F h rest tw nn tu y f walk g (once_more {g = g1} {h = g2} x more e) le =
       let le' : count (g1 +++ g2) ≤ n = subst (λ (z : Forest). count z ≤ n) e le in
@@ -510,16 +690,28 @@ module _ (v : Version) (n : ℕ) (below : Below v n) (go : Check) (holds : Holds
       let at : g1 ≡ leaf q.0 p.1 = p.4 ∙ ap (λ (z : Forest). z +++ p.1) q.1 in
       let begins : Begins (starts v b) false (leaves p.1) = subst (λ (b' : Bool). Begins (starts v b) b' (leaves p.1)) nn (rule_begins v p.3) in
       let le1 : count p.1 ≤ n = subst (λ (z : Forest). count z ≤ n) at (left_le g1 g2 n le') in
-      let all : Walks (php v) (Turns group ∷ is) (leaf q.0 p.1 +++ (g2 +++ h)) rest = turn_two w (starts v b) (word w ~ b) group is (first v (many (word w ~ b) ∷ rs) F) q.0 p.1 (g2 +++ h) rest tw tu q.2 (subst (λ (z : Forest). Fits v (word w ~ b) z) at x) le1 (begins_there (starts v b) (leaves p.1) (leaves (g2 +++ h) ++ rest) begins) (first_class v (many (word w ~ b) ∷ rs) F (g2 +++ h) rest (g2, h, more, y, refl) f) (turns_two w b rs group is F h rest tw nn tu y f walk g2 more (right_le g1 g2 n le')) in
-      subst (λ (z : Forest). Walks (php v) (Turns group ∷ is) z rest) (sym (ap (λ (z : Forest). z +++ h) (e ∙ ap (λ (z : Forest). z +++ g2) at) ∙ forest_assoc (leaf q.0 p.1) g2 h)) all
+      let all : Walks (php v) (Turns group ∷ is) (leaf q.0 p.1 +++ (g2 +++ h)) rest =
+      turn_two w (starts v b) (word w ~ b) group is (first v (many (word w ~ b) ∷ rs) F) q.0 p.1 (g2 +++ h) rest
+      tw tu q.2 (subst (λ (z : Forest). Fits v (word w ~ b) z) at x) le1
+      (begins_there (starts v b) (leaves p.1) (leaves (g2 +++ h) ++ rest) begins)
+      (first_class v (many (word w ~ b) ∷ rs) F (g2 +++ h) rest (g2, h, more, y, refl) f)
+      (turns_two w b rs group is F h rest tw nn tu y f walk g2 more (right_le g1 g2 n le')) in
+      subst (λ (z : Forest). Walks (php v) (Turns group ∷ is) z rest)
+      (sym (ap (λ (z : Forest). z +++ h) (e ∙ ap (λ (z : Forest). z +++ g2) at)
+      ∙ forest_assoc (leaf q.0 p.1) g2 h)) all
 
-  turning_two_holds : (fin : Bool) (a : Rule) (rs : List Rule) (group : Group) (is : List Item) (F : Terminal → Bool) (g h : Forest) (rest : List Token) → turning_two v go fin a rs group is F ≡ true → Fits v (many a) g → FitsAll v rs h → count (g +++ h) ≤ n → F (first_of rest) ≡ true → (fin ≡ true → Last (g +++ h) rest) → Walks (php v) (Turns group ∷ is) (g +++ h) rest
+  turning_two_holds : (fin : Bool) (a : Rule) (rs : List Rule) (group : Group) (is : List Item) (F : Terminal → Bool)
+      (g h : Forest) (rest : List Token) → turning_two v go fin a rs group is F ≡ true → Fits v (many a) g
+      → FitsAll v rs h → count (g +++ h) ≤ n → F (first_of rest) ≡ true → (fin ≡ true → Last (g +++ h) rest)
+      → Walks (php v) (Turns group ∷ is) (g +++ h) rest
   turning_two_holds fin (word w ~ b) rs group is F g h rest c x y le f l =
       let S : Bool = none_by_two v group (first v rs F) in
       let U : Bool = turn_by_two v go w (starts v b) (word w ~ b) group (first v (many (word w ~ b) ∷ rs) F) in
-      let q : (looks_twice group ≡ true) × (not (nullable b) ≡ true) × (S ≡ true) × (U ≡ true) × (go fin rs is F ≡ true) = five (looks_twice group) (not (nullable b)) S U (go fin rs is F) c in
+      let q : (looks_twice group ≡ true) × (not (nullable b) ≡ true) × (S ≡ true) × (U ≡ true)
+      × (go fin rs is F ≡ true) = five (looks_twice group) (not (nullable b)) S U (go fin rs is F) c in
       turns_two w b rs group is F h rest q.0 (not_true (nullable b) q.1) q.3 y f
-      (stop (none_two group (first v rs F) (leaves h ++ rest) q.0 q.2 (first_class v rs F h rest y f)) (holds fin rs is F h rest q.4 y (right_le g h n le) f (λ e. last_right g h rest (l e))))
+      (stop (none_two group (first v rs F) (leaves h ++ rest) q.0 q.2 (first_class v rs F h rest y f))
+      (holds fin rs is F h rest q.4 y (right_le g h n le) f (λ e. last_right g h rest (l e))))
       g x (left_le g h n le)
   turning_two_holds fin nothing rs group is F g h rest c x y le f l = absurd (false_true c)
   turning_two_holds fin (word e) rs group is F g h rest c x y le f l = absurd (false_true c)
@@ -539,8 +731,14 @@ module _ (v : Version) (n : ℕ) (below : Below v n) (go : Check) (holds : Holds
   turning_two_holds fin ((r ~ q) ~ b) rs group is F g h rest c x y le f l = absurd (false_true c)
 
   -- behind the turns, a word alone or nothing
-  last_turn : (fin : Bool) (u : Terminal) (rs : List Rule) (group : Group) (is : List Item) (F : Terminal → Bool) (g h : Forest) (rest : List Token) → looks_twice group ≡ true → none_by_two v group (first v rs F) ≡ true → turn_by_two v go u (first v rs F) (word u) group (first v rs F) ≡ true → Fits v (nothing ||| word u) g → FitsAll v rs h → F (first_of rest) ≡ true → Walks (php v) is h rest → Walks (php v) (Turns group ∷ is) (g +++ h) rest
-  last_turn fin u rs group is F g h rest tw nn la (is_first x) y f walk = subst (λ (z : Forest). Walks (php v) (Turns group ∷ is) (z +++ h) rest) (sym (nothing_is v g x)) (stop (none_two group (first v rs F) (leaves h ++ rest) tw nn (first_class v rs F h rest y f)) walk)
+  last_turn : (fin : Bool) (u : Terminal) (rs : List Rule) (group : Group) (is : List Item) (F : Terminal → Bool)
+      (g h : Forest) (rest : List Token) → looks_twice group ≡ true → none_by_two v group (first v rs F) ≡ true
+      → turn_by_two v go u (first v rs F) (word u) group (first v rs F) ≡ true → Fits v (nothing ||| word u) g
+      → FitsAll v rs h → F (first_of rest) ≡ true → Walks (php v) is h rest
+      → Walks (php v) (Turns group ∷ is) (g +++ h) rest
+  last_turn fin u rs group is F g h rest tw nn la (is_first x) y f walk =
+      subst (λ (z : Forest). Walks (php v) (Turns group ∷ is) (z +++ h) rest) (sym (nothing_is v g x))
+      (stop (none_two group (first v rs F) (leaves h ++ rest) tw nn (first_class v rs F h rest y f)) walk)
   last_turn fin u rs group is F g h rest tw nn la (is_second x) y f walk =
       let q : (z : Token) × (g ≡ leaf z none) × (accepts v u z ≡ true) = word_is v u g x in
       let at : first v rs F (first_of (leaves h ++ rest)) ≡ true = first_class v rs F h rest y f in
@@ -548,15 +746,21 @@ module _ (v : Version) (n : ℕ) (below : Below v n) (go : Check) (holds : Holds
       (turn_two u (first v rs F) (word u) group is (first v rs F) q.0 none h rest tw la q.2 (subst (λ (z : Forest). Fits v (word u) z) q.1 x) (zero_le n) at at
       (stop (none_two group (first v rs F) (leaves h ++ rest) tw nn at) walk))
 
-  turning_last_holds : (fin : Bool) (a : Rule) (rs : List Rule) (group : Group) (is : List Item) (F : Terminal → Bool) (g h : Forest) (rest : List Token) → turning_last v go fin a rs group is F ≡ true → Fits v (many a) g → FitsAll v rs h → count (g +++ h) ≤ n → F (first_of rest) ≡ true → (fin ≡ true → Last (g +++ h) rest) → Walks (php v) (Turns group ∷ is) (g +++ h) rest
+  turning_last_holds : (fin : Bool) (a : Rule) (rs : List Rule) (group : Group) (is : List Item) (F : Terminal → Bool)
+      (g h : Forest) (rest : List Token) → turning_last v go fin a rs group is F ≡ true → Fits v (many a) g
+      → FitsAll v rs h → count (g +++ h) ≤ n → F (first_of rest) ≡ true → (fin ≡ true → Last (g +++ h) rest)
+      → Walks (php v) (Turns group ∷ is) (g +++ h) rest
   turning_last_holds fin (word w ~ b) ((nothing ||| word u) ∷ rs) group is F g h rest c x y le f l =
       let S : Bool = none_by_two v group (first v rs F) in
       let U : Bool = turn_by_two v go w (starts v b) (word w ~ b) group (first v (many (word w ~ b) ∷ (nothing ||| word u) ∷ rs) F) in
       let Z : Bool = turn_by_two v go u (first v rs F) (word u) group (first v rs F) in
-      let q : (looks_twice group ≡ true) × (not (nullable b) ≡ true) × (S ≡ true) × (U ≡ true) × ((Z && go fin rs is F) ≡ true) = five (looks_twice group) (not (nullable b)) S U (Z && go fin rs is F) c in
+      let q : (looks_twice group ≡ true) × (not (nullable b) ≡ true) × (S ≡ true) × (U ≡ true)
+      × ((Z && go fin rs is F) ≡ true) = five (looks_twice group) (not (nullable b)) S U (Z && go fin rs is F) c
+      in
       let z : (Z ≡ true) × (go fin rs is F ≡ true) = both Z (go fin rs is F) q.4 in
       let le2 : count y.1 ≤ n = right_le y.0 y.1 n (subst (λ (m : Forest). count m ≤ n) y.4 (right_le g h n le)) in
-      let last : Walks (php v) is y.1 rest = holds fin rs is F y.1 rest z.1 y.3 le2 f (λ e. last_right y.0 y.1 rest (subst (λ (m : Forest). Last m rest) y.4 (last_right g h rest (l e)))) in
+      let last : Walks (php v) is y.1 rest = holds fin rs is F y.1 rest z.1 y.3 le2 f
+      (λ e. last_right y.0 y.1 rest (subst (λ (m : Forest). Last m rest) y.4 (last_right g h rest (l e)))) in
       turns_two w b ((nothing ||| word u) ∷ rs) group is F h rest q.0 (not_true (nullable b) q.1) q.3 y f
       (subst (λ (m : Forest). Walks (php v) (Turns group ∷ is) m rest) (sym y.4) (last_turn fin u rs group is F y.0 y.1 rest q.0 q.2 z.0 y.2 y.3 f last))
       g x (left_le g h n le)
@@ -602,7 +806,10 @@ module _ (v : Version) (n : ℕ) (below : Below v n) (go : Check) (holds : Holds
   turning_last_holds fin (word w ~ b) ((nothing ||| tokens) ∷ rs) group is F g h rest c x y le f l = absurd (false_true c)
   turning_last_holds fin (word w ~ b) ((nothing ||| (r ~ q)) ∷ rs) group is F g h rest c x y le f l = absurd (false_true c)
 
-  on_turns_hold : (fin : Bool) (r : Rule) (rs : List Rule) (group : Group) (is : List Item) (F : Terminal → Bool) (g h : Forest) (rest : List Token) → on_turns v go fin r rs group is F ≡ true → Fits v r g → FitsAll v rs h → count (g +++ h) ≤ n → F (first_of rest) ≡ true → (fin ≡ true → Last (g +++ h) rest) → Walks (php v) (Turns group ∷ is) (g +++ h) rest
+  on_turns_hold : (fin : Bool) (r : Rule) (rs : List Rule) (group : Group) (is : List Item) (F : Terminal → Bool)
+      (g h : Forest) (rest : List Token) → on_turns v go fin r rs group is F ≡ true → Fits v r g → FitsAll v rs h
+      → count (g +++ h) ≤ n → F (first_of rest) ≡ true → (fin ≡ true → Last (g +++ h) rest)
+      → Walks (php v) (Turns group ∷ is) (g +++ h) rest
   on_turns_hold fin (many a) rs group is F g h rest c x y le f l =
       elim (three_ways (looks_once group) (turning v go fin a rs group is F) (turning_two v go fin a rs group is F) (turning_last v go fin a rs group is F) c) [
         | inl e ↦ turning_holds fin a rs group is F g h rest e x y le f l
@@ -617,7 +824,9 @@ module _ (v : Version) (n : ℕ) (below : Below v n) (go : Check) (holds : Holds
   on_turns_hold fin (r ||| q) rs group is F g h rest c x y le f l = absurd (false_true c)
   on_turns_hold fin tokens rs group is F g h rest c x y le f l = absurd (false_true c)
 
-  item_holds : (fin : Bool) (r : Rule) (rs : List Rule) (is : List Item) (F : Terminal → Bool) (g h : Forest) (rest : List Token) → on_item v go fin r rs is F ≡ true → Fits v r g → FitsAll v rs h → count (g +++ h) ≤ n → F (first_of rest) ≡ true → (fin ≡ true → Last (g +++ h) rest) → Walks (php v) is (g +++ h) rest
+  item_holds : (fin : Bool) (r : Rule) (rs : List Rule) (is : List Item) (F : Terminal → Bool) (g h : Forest)
+      (rest : List Token) → on_item v go fin r rs is F ≡ true → Fits v r g → FitsAll v rs h → count (g +++ h) ≤ n
+      → F (first_of rest) ≡ true → (fin ≡ true → Last (g +++ h) rest) → Walks (php v) is (g +++ h) rest
   item_holds fin r rs [] F g h rest c x y le f l = absurd (false_true c)
   item_holds fin r rs (Word w ∷ is) F g h rest c x y le f l =
       let q : (takes_word r w ≡ true) × (go fin rs is F ≡ true) = both (takes_word r w) (go fin rs is F) c in
@@ -630,23 +839,34 @@ module _ (v : Version) (n : ℕ) (below : Below v n) (go : Check) (holds : Holds
   item_holds fin r rs (Turns group ∷ is) F g h rest c x y le f l = on_turns_hold fin r rs group is F g h rest c x y le f l
   item_holds fin r rs (Span ∷ is) F g h rest c x y le f l = absurd (false_true c)
 
-  name_holds : (fin : Bool) (r : Rule) (rs : List Rule) (is : List Item) (F : Terminal → Bool) (g h : Forest) (rest : List Token) → on_name v go fin r rs is F ≡ true → Fits v r g → FitsAll v rs h → count (g +++ h) ≤ n → F (first_of rest) ≡ true → (fin ≡ true → Last (g +++ h) rest) → Walks (php v) is (g +++ h) rest
+  name_holds : (fin : Bool) (r : Rule) (rs : List Rule) (is : List Item) (F : Terminal → Bool) (g h : Forest)
+      (rest : List Token) → on_name v go fin r rs is F ≡ true → Fits v r g → FitsAll v rs h → count (g +++ h) ≤ n
+      → F (first_of rest) ≡ true → (fin ≡ true → Last (g +++ h) rest) → Walks (php v) is (g +++ h) rest
   name_holds fin r rs [] F g h rest c x y le f l = absurd (false_true c)
   name_holds fin r rs (Word w ∷ is) F g h rest c x y le f l = absurd (false_true c)
   name_holds fin r rs (Node sort ∷ is) F g h rest c x y le f l = absurd (false_true c)
-  name_holds fin r rs (Part group ∷ is) F g h rest c x y le f l = aligned_holds fin r rs group is F g h rest (chosen (is_fixed group) (aligned v go fin r rs group is F) c) x y le f l
+  name_holds fin r rs (Part group ∷ is) F g h rest c x y le f l =
+      aligned_holds fin r rs group is F g h rest (chosen (is_fixed group) (aligned v go fin r rs group is F) c) x y le
+      f l
   name_holds fin r rs (Turns group ∷ is) F g h rest c x y le f l = absurd (false_true c)
   name_holds fin r rs (Span ∷ is) F g h rest c x y le f l = absurd (false_true c)
 
-  both_hold : (fin : Bool) (r q : Rule) (rs : List Rule) (is : List Item) (F : Terminal → Bool) (g h : Forest) (rest : List Token) (b : Bool) → on_name v go fin (r ~ q) rs is F ≡ b → (elim b as (λ x. Bool) [ true ↦ true | false ↦ go fin (r ∷ q ∷ rs) is F ]) ≡ true → Fits v (r ~ q) g → FitsAll v rs h → count (g +++ h) ≤ n → F (first_of rest) ≡ true → (fin ≡ true → Last (g +++ h) rest) → Walks (php v) is (g +++ h) rest
+  both_hold : (fin : Bool) (r q : Rule) (rs : List Rule) (is : List Item) (F : Terminal → Bool) (g h : Forest)
+      (rest : List Token) (b : Bool) → on_name v go fin (r ~ q) rs is F ≡ b
+      → (elim b as (λ x. Bool) [ true ↦ true | false ↦ go fin (r ∷ q ∷ rs) is F ]) ≡ true → Fits v (r ~ q) g
+      → FitsAll v rs h → count (g +++ h) ≤ n → F (first_of rest) ≡ true → (fin ≡ true → Last (g +++ h) rest)
+      → Walks (php v) is (g +++ h) rest
   both_hold fin r q rs is F g h rest true e c x y le f l = name_holds fin (r ~ q) rs is F g h rest e x y le f l
   both_hold fin r q rs is F g h rest false e c x y le f l =
       let p : (g1 : Forest) × (g2 : Forest) × Fits v r g1 × Fits v q g2 × (g ≡ g1 +++ g2) = both_is v r q g x in
       let at : g +++ h ≡ p.0 +++ (p.1 +++ h) = ap (λ (z : Forest). z +++ h) p.4 ∙ forest_assoc p.0 p.1 h in
       subst (λ (z : Forest). Walks (php v) is z rest) (sym at)
-      (holds fin (r ∷ q ∷ rs) is F (p.0 +++ (p.1 +++ h)) rest c (p.0, p.1 +++ h, p.2, (p.1, h, p.3, y, refl), refl) (subst (λ (z : Forest). count z ≤ n) at le) f (λ e. subst (λ (z : Forest). Last z rest) at (l e)))
+      (holds fin (r ∷ q ∷ rs) is F (p.0 +++ (p.1 +++ h)) rest c (p.0, p.1 +++ h, p.2, (p.1, h, p.3, y, refl), refl)
+      (subst (λ (z : Forest). count z ≤ n) at le) f (λ e. subst (λ (z : Forest). Last z rest) at (l e)))
 
-  rule_holds : (fin : Bool) (r : Rule) (rs : List Rule) (is : List Item) (F : Terminal → Bool) (g h : Forest) (rest : List Token) → on_rule v go fin r rs is F ≡ true → Fits v r g → FitsAll v rs h → count (g +++ h) ≤ n → F (first_of rest) ≡ true → (fin ≡ true → Last (g +++ h) rest) → Walks (php v) is (g +++ h) rest
+  rule_holds : (fin : Bool) (r : Rule) (rs : List Rule) (is : List Item) (F : Terminal → Bool) (g h : Forest)
+      (rest : List Token) → on_rule v go fin r rs is F ≡ true → Fits v r g → FitsAll v rs h → count (g +++ h) ≤ n
+      → F (first_of rest) ≡ true → (fin ≡ true → Last (g +++ h) rest) → Walks (php v) is (g +++ h) rest
   rule_holds fin nothing rs is F g h rest c x y le f l = holds fin rs is F (g +++ h) rest c (subst (λ (z : Forest). FitsAll v rs (z +++ h)) (sym (nothing_is v g x)) y) le f l
   rule_holds fin (r ~ q) rs is F g h rest c x y le f l = both_hold fin r q rs is F g h rest (on_name v go fin (r ~ q) rs is F) refl c x y le f l
   rule_holds fin (word w) rs is F g h rest c x y le f l = item_holds fin (word w) rs is F g h rest c x y le f l

@@ -87,11 +87,18 @@ neither true b h = absurd (false_true h)
 neither false true h = absurd (false_true h)
 neither false false h = (refl, refl)
 
-plain_word : (v : Version) (w : Terminal) (g : Forest) (us : List Token) → for_all (λ c. where_it (could v w c) (not (is_dollar c) && not (is_open_brace c))) ≡ true → Fits v (word w) g → (is_dollar (first_of (leaves g ++ us)) ≡ false) × (behind_rest (leaves g ++ us) ≡ first_of us) × (behind_dollars (leaves g ++ us) ≡ first_of us)
+plain_word : (v : Version) (w : Terminal) (g : Forest) (us : List Token)
+    → for_all (λ c. where_it (could v w c) (not (is_dollar c) && not (is_open_brace c))) ≡ true → Fits v (word w) g
+    → (is_dollar (first_of (leaves g ++ us)) ≡ false) × (behind_rest (leaves g ++ us) ≡ first_of us)
+    × (behind_dollars (leaves g ++ us) ≡ first_of us)
 plain_word v w g us h x =
     let u : (y : Token) × (g ≡ leaf y none) × (accepts v w y ≡ true) = word_is v w g x in
-    let q : (is_dollar (terminal u.0) ≡ false) × (is_open_brace (terminal u.0) ≡ false) = neither (is_dollar (terminal u.0)) (is_open_brace (terminal u.0)) (where_is (could v w) (λ c. not (is_dollar c) && not (is_open_brace c)) (terminal u.0) h (accepted v w u.0 u.2)) in
-    subst (λ (z : Forest). (is_dollar (first_of (leaves z ++ us)) ≡ false) × (behind_rest (leaves z ++ us) ≡ first_of us) × (behind_dollars (leaves z ++ us) ≡ first_of us)) (sym u.1)
+    let q : (is_dollar (terminal u.0) ≡ false) × (is_open_brace (terminal u.0) ≡ false) =
+    neither (is_dollar (terminal u.0)) (is_open_brace (terminal u.0))
+    (where_is (could v w) (λ c. not (is_dollar c) && not (is_open_brace c)) (terminal u.0) h
+    (accepted v w u.0 u.2)) in
+    subst (λ (z : Forest). (is_dollar (first_of (leaves z ++ us)) ≡ false)
+    × (behind_rest (leaves z ++ us) ≡ first_of us) × (behind_dollars (leaves z ++ us) ≡ first_of us)) (sym u.1)
     (q.0, plain_rest u.0 us q.1, plain_dollars u.0 us q.0 ∙ plain_rest u.0 us q.1)
 
 dollar_step : (v : Version) (g h : Forest) (us : List Token) → Fits v (word t.Dollar) g → behind_dollars (leaves (g +++ h) ++ us) ≡ behind_dollars (leaves h ++ us)
@@ -106,8 +113,12 @@ append-none c us = ap (λ (z : List Token). z ++ us) (append-nil (leaves c))
 mutual
   variable_fits : (v : Version) {c : Forest} (us : List Token) → Fits v variable c → behind_dollars (leaves c ++ us) ≡ first_of us
   variable_fits v {c} us (is_first x) = (plain_word v t.Variable c us (variable_word v) x).2
-  variable_fits v us (is_second (is_both {g = g} {h = h} x (is_first y) e)) = ap (λ (z : Forest). behind_dollars (leaves z ++ us)) e ∙ dollar_step v g h us x ∙ no_dollars (leaves h ++ us) ((braces_behind v h us y).0) ∙ (braces_behind v h us y).1
-  variable_fits v us (is_second (is_both {g = g} {h = h} x (is_second (is_kind {c = b} y)) e)) = ap (λ (z : Forest). behind_dollars (leaves z ++ us)) e ∙ dollar_step v g (node k.Variable b none) us x ∙ ap behind_dollars (append-none b us) ∙ variable_behind v us y
+  variable_fits v us (is_second (is_both {g = g} {h = h} x (is_first y) e)) =
+      ap (λ (z : Forest). behind_dollars (leaves z ++ us)) e ∙ dollar_step v g h us x
+      ∙ no_dollars (leaves h ++ us) ((braces_behind v h us y).0) ∙ (braces_behind v h us y).1
+  variable_fits v us (is_second (is_both {g = g} {h = h} x (is_second (is_kind {c = b} y)) e)) =
+      ap (λ (z : Forest). behind_dollars (leaves z ++ us)) e ∙ dollar_step v g (node k.Variable b none) us x
+      ∙ ap behind_dollars (append-none b us) ∙ variable_behind v us y
 
   variable_behind : (v : Version) {c : Forest} (us : List Token) → IsNode v k.Variable c → behind_dollars (leaves c ++ us) ≡ first_of us
   variable_behind v us (is_node x near straight) = variable_fits v us x
@@ -133,7 +144,9 @@ member_of_variable ts us e = elim (from_dollars ts) [ inl h ↦ h ∙ e | inr h 
 pub behind_members : (v : Version) (g : Forest) (us : List Token) → Fits v member g → behind_member (leaves g ++ us) ≡ first_of us
 behind_members v g us (is_first (is_kind {c = b} x)) = ap behind_member (append-none b us) ∙ member_of_variable (leaves b ++ us) us (variable_behind v us x)
 behind_members v g us (is_second (is_first x)) = not_dollar (leaves g ++ us) (ap is_dollar ((braces_behind v g us x).0)) ∙ (braces_behind v g us x).1
-behind_members v g us (is_second (is_second x)) = let q : (is_dollar (first_of (leaves g ++ us)) ≡ false) × (behind_rest (leaves g ++ us) ≡ first_of us) × (behind_dollars (leaves g ++ us) ≡ first_of us) = plain_word v t.AnyWord g us (any_word v) x in not_dollar (leaves g ++ us) q.0 ∙ q.1
+behind_members v g us (is_second (is_second x)) = let q : (is_dollar (first_of (leaves g ++ us)) ≡ false)
+    × (behind_rest (leaves g ++ us) ≡ first_of us) × (behind_dollars (leaves g ++ us) ≡ first_of us) =
+    plain_word v t.AnyWord g us (any_word v) x in not_dollar (leaves g ++ us) q.0 ∙ q.1
 
 -- a static member: a variable, as a token, or one that begins with `$`
 pub behind_variables : (v : Version) (c : Forest) (us : List Token) → Fits v variable c → behind_member (leaves c ++ us) ≡ first_of us

@@ -64,9 +64,12 @@ namespace_matches V83 = refl
 
 namespace_chosen : (v : Version) (c : Forest) (rest : List Token) → Fits v (form v k.Namespace) c → statement_form (leaves c ++ rest) ≡ Some (k.Namespace, namespace_items)
 namespace_chosen v c rest y =
-    let q : (x : Token) × (m : Forest) × (c ≡ leaf x m) × (terminal x ≡ t.Namespace) × Fits v (namespace_rest v) m = after_word v t.Namespace (namespace_rest v) c (namespace_pinned v) y in
+    let q : (x : Token) × (m : Forest) × (c ≡ leaf x m) × (terminal x ≡ t.Namespace)
+    × Fits v (namespace_rest v) m = after_word v t.Namespace (namespace_rest v) c (namespace_pinned v) y in
     let next : Terminal = first_of (leaves q.1 ++ rest) in
-    let no : is_backslash next ≡ false = not_true (is_backslash next) (where_is (starts v (namespace_rest v)) (λ d. not (is_backslash d)) next (namespace_begins v) (first_in v (namespace_rest v) q.1 rest q.4 (namespace_nullable v))) in
+    let no : is_backslash next ≡ false = not_true (is_backslash next)
+    (where_is (starts v (namespace_rest v)) (λ d. not (is_backslash d)) next (namespace_begins v)
+    (first_in v (namespace_rest v) q.1 rest q.4 (namespace_nullable v))) in
     ap (λ (i : Forest). statement_form (leaves i ++ rest)) q.2 ∙ form_by q.0 (leaves q.1 ++ rest) t.Namespace (k.Namespace, namespace_items) q.3 (ap Some (no_name next no))
 
 pub namespace_grows : (v : Version) (n : ℕ) → Below v n → StatementGrows v n k.Namespace

@@ -65,7 +65,8 @@ not_both true false c h e = absurd (false_true e)
 not_both false b c h e = refl
 
 -- the last part ends before the token that follows it
-pub last_near : (before : Bool) (g : Forest) (x : Token) (k : Forest) (us : List Token) → elses_are_nearest before (g +++ leaf x k) ≡ true → follows_statement (terminal x) ≡ true → Last g (x ∷ us)
+pub last_near : (before : Bool) (g : Forest) (x : Token) (k : Forest) (us : List Token)
+    → elses_are_nearest before (g +++ leaf x k) ≡ true → follows_statement (terminal x) ≡ true → Last g (x ∷ us)
 last_near before none x k us e h = tt
 last_near before (leaf y g) x k us e h = last_near false g x k us ((both (not (before && goes_on_if (terminal y))) (elses_are_nearest false (g +++ leaf x k)) e).1) h
 last_near before (node j b none) x k us e h = elim (or_is (closes_statement (terminal x)) (goes_on_if (terminal x)) h) [

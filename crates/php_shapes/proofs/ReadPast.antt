@@ -1,5 +1,33 @@
 -- What stands behind brackets: each form has as many closing ones as opening ones.
-use Rattle.std.proofs.Common.{◌≡◌, ℕ, zero, suc, ◌+◌, ◌-◌, ◌<◌, Bool, true, false, not, cond, ◌&&◌, nat_eq, List, ◌∷◌, ◌++◌, Option, Some, None, refl, sym, ap, ◌∙◌, subst, append-nil, arith}
+use Rattle.std.proofs.Common.{
+  ◌≡◌,
+  ℕ,
+  zero,
+  suc,
+  ◌+◌,
+  ◌-◌,
+  ◌<◌,
+  Bool,
+  true,
+  false,
+  not,
+  cond,
+  ◌&&◌,
+  nat_eq,
+  List,
+  ◌∷◌,
+  ◌++◌,
+  Option,
+  Some,
+  None,
+  refl,
+  sym,
+  ap,
+  ◌∙◌,
+  subst,
+  append-nil,
+  arith,
+}
 use Rattle.std.proofs.lemmas.Bool.{lt-leb, eqb-true}
 use Rattle.php_tree.specs.declared.kind.NodeKind.{NodeKind}
 use Rattle.php_tree.specs.declared.kind.NodeKind.TheVariants as k
@@ -16,7 +44,23 @@ use Rattle.php_exprs.specs.Parsing.{◌>>=◌}
 use Rattle.php_exprs.proofs.Forests.{bind_some}
 use Rattle.php_shapes.specs.Forms.{form}
 use Rattle.php_shapes.specs.Notation.{Rule, nothing, word, kind, place, inside, ◌~◌, ◌|||◌, many, tokens}
-use Rattle.php_shapes.specs.Shapes.{Fits, is_nothing, is_word, is_kind, is_place, is_inside, is_both, is_first, is_second, no_more, once_more, is_tokens, IsNode, is_node, is_balanced}
+use Rattle.php_shapes.specs.Shapes.{
+  Fits,
+  is_nothing,
+  is_word,
+  is_kind,
+  is_place,
+  is_inside,
+  is_both,
+  is_first,
+  is_second,
+  no_more,
+  once_more,
+  is_tokens,
+  IsNode,
+  is_node,
+  is_balanced,
+}
 use Rattle.php_shapes.proofs.ReadClasses.{accepted, both, could, for_all}
 use Rattle.php_shapes.proofs.ReadMatch.{both_is, false_true, leaves_before, not_true, where_is, where_it, word_is}
 
@@ -79,7 +123,11 @@ down zero = None
 down (suc n) = Some n
 
 abbrev word_pass : Version → Terminal → ℕ → Option ℕ
-word_pass v w a = elim (word_is_plain v w) as (λ x. Option ℕ) [ true ↦ Some a | false ↦ elim (word_opens v w) as (λ x. Option ℕ) [ true ↦ Some (a + 1) | false ↦ elim (word_closes v w) as (λ x. Option ℕ) [ true ↦ down a | false ↦ None ] ] ]
+word_pass v w a = elim (word_is_plain v w) as (λ x. Option ℕ) [
+  | true ↦ Some a
+  | false ↦ elim (word_opens v w) as (λ x. Option ℕ)
+      [ true ↦ Some (a + 1) | false ↦ elim (word_closes v w) as (λ x. Option ℕ) [ true ↦ down a | false ↦ None ] ]
+]
 
 abbrev agree : Option ℕ → Option ℕ → Option ℕ
 agree None b = None
@@ -117,7 +165,14 @@ down_is (suc n) b e = omega (arith, some_ℕ n b e)
 two_false : (a b : Bool) → (not a && not b) ≡ true → (a ≡ false) × (b ≡ false)
 two_false a b h = let q : (not a ≡ true) × (not b ≡ true) = both (not a) (not b) h in (not_true a q.0, not_true b q.1)
 
-word_level : (v : Version) (w : Terminal) (x : Token) (a b : ℕ) (p o q : Bool) → word_is_plain v w ≡ p → word_opens v w ≡ o → word_closes v w ≡ q → (elim p as (λ x. Option ℕ) [ true ↦ Some a | false ↦ elim o as (λ x. Option ℕ) [ true ↦ Some (a + 1) | false ↦ elim q as (λ x. Option ℕ) [ true ↦ down a | false ↦ None ] ] ]) ≡ Some b → could v w (terminal x) ≡ true → Level (leaf x none) a b
+word_level : (v : Version) (w : Terminal) (x : Token) (a b : ℕ) (p o q : Bool) → word_is_plain v w ≡ p
+    → word_opens v w ≡ o → word_closes v w ≡ q
+    → (elim p as (λ x. Option ℕ) [
+      | true ↦ Some a
+      | false ↦ elim o as (λ x. Option ℕ)
+          [ true ↦ Some (a + 1) | false ↦ elim q as (λ x. Option ℕ) [ true ↦ down a | false ↦ None ] ]
+    ]) ≡ Some b
+    → could v w (terminal x) ≡ true → Level (leaf x none) a b
 word_level v w x a b true o q ep eo eq e c n ts lt =
     let z : (opens (terminal x) ≡ false) × (closes (terminal x) ≡ false) = two_false (opens (terminal x)) (closes (terminal x)) (where_is (could v w) is_plain (terminal x) ep c) in
     past_other x (n + a) ts z.0 z.1 ∙ ap (λ (i : ℕ). past_group (n + i) ts) (some_ℕ a b e)
@@ -127,7 +182,9 @@ word_level v w x a b false true q ep eo eq e c n ts lt =
     plus_one : (n a b : ℕ) → a + 1 ≡ b → n + a + 1 ≡ n + b
     plus_one n a b e = omega arith
 word_level v w x a b false false true ep eo eq e c n ts lt =
-    let z : (not (opens (terminal x)) ≡ true) × (closes (terminal x) ≡ true) = both (not (opens (terminal x))) (closes (terminal x)) (where_is (could v w) (λ d. not (opens d) && closes d) (terminal x) eq c) in
+    let z : (not (opens (terminal x)) ≡ true) × (closes (terminal x) ≡ true) =
+    both (not (opens (terminal x))) (closes (terminal x))
+    (where_is (could v w) (λ d. not (opens d) && closes d) (terminal x) eq c) in
     past_close x (n + a) ts (not_true (opens (terminal x)) z.0) z.1 (two_more n a b lt (down_is a b e)) ∙ ap (λ (i : ℕ). past_group i ts) (less_one n a b (down_is a b e))
   where
     two_more : (n a b : ℕ) → 0 < n → a ≡ b + 1 → 1 < n + a
@@ -141,14 +198,20 @@ word_level v w x a b false false false ep eo eq e c n ts lt = absurd (none_some 
     none_some b e = cc
 
 -- tokens with brackets in pairs
-balanced_at : (x : Token) (f : Forest) (b n : ℕ) (ts : List Token) (o c : Bool) → opens (terminal x) ≡ o → closes (terminal x) ≡ c → ((b' : ℕ) → is_balanced b' f ≡ true → (m : ℕ) → 0 < m → past_group (m + b') (leaves f ++ ts) ≡ past_group m ts) → cond o (is_balanced (b + 1) f) (cond c (not (nat_eq b 0) && is_balanced (b - 1) f) (is_balanced b f)) ≡ true → 0 < n → past_group (n + b) (x ∷ (leaves f ++ ts)) ≡ past_group n ts
+balanced_at : (x : Token) (f : Forest) (b n : ℕ) (ts : List Token) (o c : Bool) → opens (terminal x) ≡ o
+    → closes (terminal x) ≡ c → ((b' : ℕ) → is_balanced b' f ≡ true → (m : ℕ) → 0 < m
+    → past_group (m + b') (leaves f ++ ts) ≡ past_group m ts)
+    → cond o (is_balanced (b + 1) f) (cond c (not (nat_eq b 0) && is_balanced (b - 1) f) (is_balanced b f)) ≡ true
+    → 0 < n → past_group (n + b) (x ∷ (leaves f ++ ts)) ≡ past_group n ts
 balanced_at x f b n ts true c eo ec ih h lt = past_open x (n + b) (leaves f ++ ts) eo ∙ ap (λ (i : ℕ). past_group i (leaves f ++ ts)) (assoc n b) ∙ ih (b + 1) h n lt
   where
     assoc : (n b : ℕ) → n + b + 1 ≡ n + (b + 1)
     assoc n b = omega arith
 balanced_at x f zero n ts false true eo ec ih h lt = absurd (false_true h)
 balanced_at x f (suc b) n ts false true eo ec ih h lt =
-    past_close x (n + suc b) (leaves f ++ ts) eo ec (more n b lt) ∙ ap (λ (i : ℕ). past_group i (leaves f ++ ts)) (less n b) ∙ ih (suc b - 1) ((both (not (nat_eq (suc b) 0)) (is_balanced (suc b - 1) f) h).1) n lt
+    past_close x (n + suc b) (leaves f ++ ts) eo ec (more n b lt)
+    ∙ ap (λ (i : ℕ). past_group i (leaves f ++ ts)) (less n b)
+    ∙ ih (suc b - 1) ((both (not (nat_eq (suc b) 0)) (is_balanced (suc b - 1) f) h).1) n lt
   where
     more : (n b : ℕ) → 0 < n → 1 < n + suc b
     more n b lt = omega arith
@@ -198,7 +261,9 @@ mutual
   rule_passes v (is_word {c = w} {x = x} acc) a b e = word_level v w x a b (word_is_plain v w) (word_opens v w) (word_closes v w) refl refl refl e (accepted v w x acc)
   rule_passes v (is_kind {k = j} {c = c} x) a b e = same_level (node j c none) a b e (passes_alone j c (node_passes v x))
   rule_passes v (is_place {k = j} {c = c} m x) a b e = same_level (node j c none) a b e (passes_alone j c (node_passes v x))
-  rule_passes v (is_inside {k = j} {r = r} {c = c} x near) a b e = let q : (pass v r 0 ≡ Some 0) × (a ≡ b) = inner_zero v r a b e in same_level (node j c none) a b (ap (λ (z : ℕ). Some z) q.1) (passes_alone j c (level_zero c (rule_passes v x 0 0 q.0)))
+  rule_passes v (is_inside {k = j} {r = r} {c = c} x near) a b e = let q : (pass v r 0 ≡ Some 0)
+      × (a ≡ b) = inner_zero v r a b e in same_level (node j c none) a b (ap (λ (z : ℕ). Some z) q.1)
+      (passes_alone j c (level_zero c (rule_passes v x 0 0 q.0)))
   rule_passes v (is_both {r = r} {s = q} {f = f} {g = g} {h = h} x y e') a b e =
       let z : (m : ℕ) × (pass v r a ≡ Some m) × (pass v q m ≡ Some b) = bind_some (pass v r a) (λ m. pass v q m) b e in
       subst (λ (i : Forest). Level i a b) (sym e') (level_both g h a z.0 b (rule_passes v x a z.0 z.1) (rule_passes v y z.0 b z.2))
@@ -214,14 +279,18 @@ mutual
   node_passes v (is_node {k = j} {c = c} x near straight) = level_zero c (rule_passes v x 0 0 (pass_forms v j))
 
 -- what stands in brackets is passed over
-pub group_past : (v : Version) (o c : Terminal) (r : Rule) (g : Forest) (ts : List Token) → word_opens v o ≡ true → word_closes v c ≡ true → pass v r 0 ≡ Some 0 → Fits v (word o ~ r ~ word c) g → past_group 0 (leaves g ++ ts) ≡ ts
+pub group_past : (v : Version) (o c : Terminal) (r : Rule) (g : Forest) (ts : List Token) → word_opens v o ≡ true
+    → word_closes v c ≡ true → pass v r 0 ≡ Some 0 → Fits v (word o ~ r ~ word c) g
+    → past_group 0 (leaves g ++ ts) ≡ ts
 group_past v o c r g ts eo ec ep x =
     let p : (g1 : Forest) × (g2 : Forest) × Fits v (word o) g1 × Fits v (r ~ word c) g2 × (g ≡ g1 +++ g2) = both_is v (word o) (r ~ word c) g x in
     let u : (y : Token) × (p.0 ≡ leaf y none) × (accepts v o y ≡ true) = word_is v o p.0 p.2 in
     let q : (h1 : Forest) × (h2 : Forest) × Fits v r h1 × Fits v (word c) h2 × (p.1 ≡ h1 +++ h2) = both_is v r (word c) p.1 p.3 in
     let w : (y : Token) × (q.1 ≡ leaf y none) × (accepts v c y ≡ true) = word_is v c q.1 q.3 in
     let at : g ≡ leaf u.0 (q.0 +++ leaf w.0 none) = p.4 ∙ ap (λ (z : Forest). z +++ p.1) u.1 ∙ ap (λ (z : Forest). leaf u.0 z) (q.4 ∙ ap (λ (z : Forest). q.0 +++ z) w.1) in
-    let cl : (not (opens (terminal w.0)) ≡ true) × (closes (terminal w.0) ≡ true) = both (not (opens (terminal w.0))) (closes (terminal w.0)) (where_is (could v c) (λ d. not (opens d) && closes d) (terminal w.0) ec (accepted v c w.0 w.2)) in
+    let cl : (not (opens (terminal w.0)) ≡ true) × (closes (terminal w.0) ≡ true) =
+    both (not (opens (terminal w.0))) (closes (terminal w.0))
+    (where_is (could v c) (λ d. not (opens d) && closes d) (terminal w.0) ec (accepted v c w.0 w.2)) in
     ap (λ (z : Forest). past_group 0 (leaves z ++ ts)) at
     ∙ past_open u.0 0 (leaves (q.0 +++ leaf w.0 none) ++ ts) (where_is (could v o) opens (terminal u.0) eo (accepted v o u.0 u.2))
     ∙ ap (past_group 1) (leaves_before q.0 (leaf w.0 none) ts)

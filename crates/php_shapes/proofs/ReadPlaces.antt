@@ -32,7 +32,24 @@ use Rattle.php_forms.specs.Forms.{or_else, refused, when}
 use Rattle.php_grammar.specs.Bases.{is_callee, is_class_base, is_list, is_member_base, is_offset_base, is_target, role_of}
 use Rattle.php_grammar.specs.Operands.{entry_form, place_form, target_form, target_list_form}
 use Rattle.php_grammar.specs.Tables.{form, tail}
-use Rattle.php_grammar.specs.Tails.{binary_tail, chosen_tail, entry_end, entry_tail, left_edge, operand_tail, operator_by, operator_tail, place_tail, postfix_by, postfix_tail, read_tail, refused_unless, target_tail, ternary_tail, assign_tail}
+use Rattle.php_grammar.specs.Tails.{
+  binary_tail,
+  chosen_tail,
+  entry_end,
+  entry_tail,
+  left_edge,
+  operand_tail,
+  operator_by,
+  operator_tail,
+  place_tail,
+  postfix_by,
+  postfix_tail,
+  read_tail,
+  refused_unless,
+  target_tail,
+  ternary_tail,
+  assign_tail,
+}
 use Rattle.php_shapes.specs.Places.{OffsetBase, is_expression}
 use Rattle.php_shapes.proofs.ReadFirst.{at_place, begins, may_be_empty, node_begins}
 use Rattle.php_shapes.proofs.ReadEnds.{closes_target}
@@ -88,7 +105,8 @@ no_end c h = refl
 bracket_entry : (v : Version) (ts : List Token) → first_of ts ≡ t.OpenBracket → closes_item (first_of (past_group 0 ts)) ≡ false → entry_form v ts ≡ operand_form v ts
 bracket_entry v ts e g = rw (e, no_end (first_of (past_group 0 ts)) g) refl
 
-entry_at : (v : Version) (ts : List Token) (d : Terminal) → first_of ts ≡ d → (d ≡ t.OpenBracket → closes_item (first_of (past_group 0 ts)) ≡ false) → entry_form v ts ≡ operand_form v ts
+entry_at : (v : Version) (ts : List Token) (d : Terminal) → first_of ts ≡ d
+    → (d ≡ t.OpenBracket → closes_item (first_of (past_group 0 ts)) ≡ false) → entry_form v ts ≡ operand_form v ts
 entry_at v ts t.OpenBracket e g = bracket_entry v ts e (g refl)
 entry_at v ts d e g = rw e refl
 
@@ -113,13 +131,21 @@ target_end j t.CloseParen h e = rw e refl
 target_end j t.CloseBracket h e = rw e refl
 target_end j c h e = absurd (false_true h)
 
-key_past : (v : Version) (j : NodeKind) (c : Forest) (rest : List Token) → is_expression j ≡ true → IsNode v j c → first_of rest ≡ t.DoubleArrow → (a : Bool) → is_bracketed j ≡ a → first_of (leaves c ++ rest) ≡ t.OpenBracket → closes_item (first_of (past_group 0 (leaves c ++ rest))) ≡ false
+key_past : (v : Version) (j : NodeKind) (c : Forest) (rest : List Token) → is_expression j ≡ true → IsNode v j c
+    → first_of rest ≡ t.DoubleArrow → (a : Bool) → is_bracketed j ≡ a → first_of (leaves c ++ rest) ≡ t.OpenBracket
+    → closes_item (first_of (past_group 0 (leaves c ++ rest))) ≡ false
 key_past v j c rest h x e true b m = ap (λ (z : List Token). closes_item (first_of z)) (bracketed_past v j c rest b x m) ∙ ap closes_item e
-key_past v j c rest h x e false b m = not_true (closes_item (first_of (past_group 0 (leaves c ++ rest)))) (inner_lead v is_any (λ d. not (closes_item d)) (expressions_lead v) j c rest (or_list (is_expression j) (is_list j) h) b x m)
+key_past v j c rest h x e false b m = not_true (closes_item (first_of (past_group 0 (leaves c ++ rest))))
+    (inner_lead v is_any (λ d. not (closes_item d)) (expressions_lead v) j c rest
+    (or_list (is_expression j) (is_list j) h) b x m)
 
 -- ---- the same node at another sort
 
-pub grow_as : (v : Version) (m : ℕ) (S : Sort) (A : NodeKind → Bool) (ts : List Token) → form v S ts ≡ operand_form v ts → ((i : NodeKind) (b : Forest) (us : List Token) (j : NodeKind) (is : List Item) (f : Forest) (rest : List Token) → read_tail v m (i, b) us ≡ Some (j, is) → A j ≡ true → Walks (php v) is f rest → (tail v S (i, b) us ≡ Some (j, is)) × (A i ≡ true)) → {j : NodeKind} {c : Forest} {rest : List Token} → Grows (php v) (s.Operand m) j c rest → A j ≡ true → ts ≡ leaves c ++ rest → Grows (php v) S j c rest
+pub grow_as : (v : Version) (m : ℕ) (S : Sort) (A : NodeKind → Bool) (ts : List Token)
+    → form v S ts ≡ operand_form v ts → ((i : NodeKind) (b : Forest) (us : List Token) (j : NodeKind) (is : List Item)
+    (f : Forest) (rest : List Token) → read_tail v m (i, b) us ≡ Some (j, is) → A j ≡ true → Walks (php v) is f rest
+    → (tail v S (i, b) us ≡ Some (j, is)) × (A i ≡ true)) → {j : NodeKind} {c : Forest} {rest : List Token}
+    → Grows (php v) (s.Operand m) j c rest → A j ≡ true → ts ≡ leaves c ++ rest → Grows (php v) S j c rest
 grow_as v m S A ts same step (head e w) a at = head (ap (form v S) (sym at) ∙ same ∙ ap (operand_form v) at ∙ e) w
 grow_as v m S A ts same step (onward {j = i} {k = j} {is = is} {b = b} {f = f} {rest = rest} gr e w) a at =
     let q : (tail v S (i, b) (leaves f ++ rest) ≡ Some (j, is)) × (A i ≡ true) = step i b (leaves f ++ rest) j is f rest e a w in
@@ -179,11 +205,18 @@ postfix_base v i t.OpenParen ts g e = callee_offset (role_of i) ((when_is (is_ca
 postfix_base v i c ts g e = absurd (none_is g e)
 
 -- a form of a base comes from a postfix
-postfix_of : (v : Version) (m : ℕ) (x : Tree) (ts : List Token) (g : Form) (w : Bool) → is_misindented x ≡ w → cond w refused (or_else (operand_tail v m x ts) (refused_unless (not (is_list x.0)))) ≡ Some g → is_offset_base g.0 ≡ true → (postfix_tail v x.0 ts ≡ Some g) × (is_misindented x ≡ false)
+postfix_of : (v : Version) (m : ℕ) (x : Tree) (ts : List Token) (g : Form) (w : Bool) → is_misindented x ≡ w
+    → cond w refused (or_else (operand_tail v m x ts) (refused_unless (not (is_list x.0)))) ≡ Some g
+    → is_offset_base g.0 ≡ true → (postfix_tail v x.0 ts ≡ Some g) × (is_misindented x ≡ false)
 postfix_of v m x ts g true mi e y = absurd (kind_no (k.Empty, Word t.Never ∷ []) g is_offset_base (some_form (k.Empty, Word t.Never ∷ []) g e) refl y)
 postfix_of v m x ts g false mi e y =
-    let o : operand_tail v m x ts ≡ Some g = else_first (operand_tail v m x ts) (refused_unless (not (is_list x.0))) g (λ z. refused_no (not (is_list x.0)) g z y) e in
-    (else_first (postfix_tail v x.0 ts) (operator_tail v m (left_edge v x) x.0 ts) g (λ z. else_no (chosen_tail v m (left_edge v x) x.0 ts) (binary_tail v m (left_edge v x) (first_of ts)) g (λ q. chosen_no v m (left_edge v x) x.0 (first_of ts) ts g q y) (λ q. when_no _ (k.Binary, binary_items v (first_of ts)) g is_offset_base q refl y) z) o, mi)
+    let o : operand_tail v m x ts ≡ Some g = else_first (operand_tail v m x ts) (refused_unless (not (is_list x.0))) g (λ z. refused_no (not (is_list x.0)) g z y) e in (
+      else_first (postfix_tail v x.0 ts) (operator_tail v m (left_edge v x) x.0 ts) g
+          (λ z. else_no (chosen_tail v m (left_edge v x) x.0 ts) (binary_tail v m (left_edge v x) (first_of ts)) g
+          (λ q. chosen_no v m (left_edge v x) x.0 (first_of ts) ts g q y)
+          (λ q. when_no _ (k.Binary, binary_items v (first_of ts)) g is_offset_base q refl y) z) o,
+      mi,
+    )
 
 place_step : (v : Version) (x : Tree) (ts : List Token) (g : Form) → postfix_tail v x.0 ts ≡ Some g → is_misindented x ≡ false → place_tail v x ts ≡ Some g
 place_step v x ts g e mi = rw (mi, e) refl
@@ -197,14 +230,19 @@ target_step v x ts g n e = rw n e
 -- ---- what `++` and `--` write
 
 base_begins : (v : Version) (j : NodeKind) (c : Forest) (us : List Token) → is_offset_base j ≡ true → IsNode v j c → begins_place (first_of (leaves c ++ us)) ≡ true
-base_begins v j c us h x = at_place v OffsetBase j c h (first_of (leaves c ++ us)) (begins_there (begins j) (leaves c) us (subst (λ (b : Bool). Begins (begins j) b (leaves c)) (not_empty_base j h) (node_begins v x)))
+base_begins v j c us h x = at_place v OffsetBase j c h (first_of (leaves c ++ us))
+    (begins_there (begins j) (leaves c) us (subst (λ (b : Bool). Begins (begins j) b (leaves c)) (not_empty_base j h)
+    (node_begins v x)))
 
 place_form_is : (v : Version) (ts : List Token) → begins_place (first_of ts) ≡ true → place_form v ts ≡ operand_form v ts
 place_form_is v ts e = rw e refl
 
-as_place : (v : Version) (j : NodeKind) (c : Forest) (rest : List Token) → Grows (php v) (s.Operand 24) j c rest → is_offset_base j ≡ true → IsNode v j c → Grows (php v) s.Place j c rest
+as_place : (v : Version) (j : NodeKind) (c : Forest) (rest : List Token) → Grows (php v) (s.Operand 24) j c rest
+    → is_offset_base j ≡ true → IsNode v j c → Grows (php v) s.Place j c rest
 as_place v j c rest gr h x = grow_as v 24 s.Place is_offset_base (leaves c ++ rest) (place_form_is v (leaves c ++ rest) (base_begins v j c rest h x))
-    (λ i b us j' is f rest' e a w. let q : (postfix_tail v i us ≡ Some (j', is)) × (is_misindented (i, b) ≡ false) = postfix_of v 24 (i, b) us (j', is) (is_misindented (i, b)) refl e a in (place_step v (i, b) us (j', is) q.0 q.1, postfix_base v i (first_of us) us (j', is) q.0))
+    (λ i b us j' is f rest' e a w. let q : (postfix_tail v i us ≡ Some (j', is))
+    × (is_misindented (i, b) ≡ false) = postfix_of v 24 (i, b) us (j', is) (is_misindented (i, b)) refl e a
+    in (place_step v (i, b) us (j', is) q.0 q.1, postfix_base v i (first_of us) us (j', is) q.0))
     gr h refl
 
 place_none : (v : Version) (j : NodeKind) (c : Forest) (rest : List Token) → IsNode v j c → is_target j ≡ true → postfix_tail v j rest ≡ None → place_tail v (j, c) rest ≡ None
@@ -219,7 +257,9 @@ behind_postfix v x j rest e = elim e [
   ]
 ]
 
-pub places_read : (v : Version) (j : NodeKind) (c : Forest) (rest : List Token) → Grows (php v) (s.Operand 24) j c rest → is_target j ≡ true → IsNode v j c → Behind v (j, c) (first_of rest) → Spells (php v) s.Place (j, c) rest
+pub places_read : (v : Version) (j : NodeKind) (c : Forest) (rest : List Token)
+    → Grows (php v) (s.Operand 24) j c rest → is_target j ≡ true → IsNode v j c → Behind v (j, c) (first_of rest)
+    → Spells (php v) s.Place (j, c) rest
 places_read v j c rest gr h x b = (as_place v j c rest gr (target_offset (role_of j) h) x, place_none v j c rest x h (behind_postfix v (j, c) j rest b))
 
 -- ---- what a foreach or a list form writes
@@ -227,7 +267,8 @@ places_read v j c rest gr h x b = (as_place v j c rest gr (target_offset (role_o
 target_skip : (v : Version) (ts : List Token) → target_list_form ts ≡ None → target_form v ts ≡ place_form v ts
 target_skip v ts e = rw e refl
 
-target_at : (v : Version) (ts : List Token) (d : Terminal) → first_of ts ≡ d → begins_place d ≡ true → (d ≡ t.OpenBracket → goes_on (first_of (past_group 0 ts)) ≡ true) → target_form v ts ≡ operand_form v ts
+target_at : (v : Version) (ts : List Token) (d : Terminal) → first_of ts ≡ d → begins_place d ≡ true
+    → (d ≡ t.OpenBracket → goes_on (first_of (past_group 0 ts)) ≡ true) → target_form v ts ≡ operand_form v ts
 target_at v ts t.OpenBracket e b g = bracket_target v ts e (g refl)
 target_at v ts t.List e b g = absurd (false_true b)
 target_at v ts d e b g = target_skip v ts (rw e refl) ∙ plain_target v ts d e b
@@ -242,46 +283,71 @@ closes_target_all t.CloseParen h = refl
 closes_target_all t.CloseBracket h = refl
 closes_target_all c h = absurd (false_true h)
 
-as_target : (v : Version) (j : NodeKind) (c : Forest) (rest : List Token) → Grows (php v) (s.Operand 24) j c rest → is_target j ≡ true → is_bracketed j ≡ false → IsNode v j c → Grows (php v) s.Target j c rest
+as_target : (v : Version) (j : NodeKind) (c : Forest) (rest : List Token) → Grows (php v) (s.Operand 24) j c rest
+    → is_target j ≡ true → is_bracketed j ≡ false → IsNode v j c → Grows (php v) s.Target j c rest
 as_target v j c rest gr h nb x =
     let base : is_offset_base j ≡ true = target_offset (role_of j) h in
-    grow_as v 24 s.Target is_offset_base (leaves c ++ rest) (target_at v (leaves c ++ rest) (first_of (leaves c ++ rest)) refl (base_begins v j c rest base x) (λ e. inner_lead v is_offset_base goes_on (bases_lead v) j c rest base nb x e))
-    (λ i b us j' is f rest' e a w. let q : (postfix_tail v i us ≡ Some (j', is)) × (is_misindented (i, b) ≡ false) = postfix_of v 24 (i, b) us (j', is) (is_misindented (i, b)) refl e a in let bi : is_offset_base i ≡ true = postfix_base v i (first_of us) us (j', is) q.0 in (target_step v (i, b) us (j', is) (base_not_list i bi) (place_step v (i, b) us (j', is) q.0 q.1), bi))
+    grow_as v 24 s.Target is_offset_base (leaves c ++ rest)
+    (target_at v (leaves c ++ rest) (first_of (leaves c ++ rest)) refl (base_begins v j c rest base x)
+    (λ e. inner_lead v is_offset_base goes_on (bases_lead v) j c rest base nb x e))
+    (λ i b us j' is f rest' e a w. let q : (postfix_tail v i us ≡ Some (j', is))
+    × (is_misindented (i, b) ≡ false) = postfix_of v 24 (i, b) us (j', is) (is_misindented (i, b)) refl e a
+    in let bi : is_offset_base i ≡ true = postfix_base v i (first_of us) us (j', is) q.0
+    in (target_step v (i, b) us (j', is) (base_not_list i bi) (place_step v (i, b) us (j', is) q.0 q.1), bi))
     gr base refl
 
-pub targets_read : (v : Version) (j : NodeKind) (c : Forest) (rest : List Token) → Grows (php v) (s.Operand 24) j c rest → is_target j ≡ true → IsNode v j c → closes_target (first_of rest) ≡ true → Spells (php v) s.Target (j, c) rest
-targets_read v j c rest gr h x cl =
-    (as_target v j c rest gr h (target_plain j h) x, target_none v j c rest (base_not_list j (target_offset (role_of j) h)) (place_none v j c rest x h (closed_postfix v j (first_of rest) rest (closes_target_all (first_of rest) cl))))
+pub targets_read : (v : Version) (j : NodeKind) (c : Forest) (rest : List Token)
+    → Grows (php v) (s.Operand 24) j c rest → is_target j ≡ true → IsNode v j c → closes_target (first_of rest) ≡ true
+    → Spells (php v) s.Target (j, c) rest
+targets_read v j c rest gr h x cl = (
+  as_target v j c rest gr h (target_plain j h) x,
+  target_none v j c rest
+      (base_not_list j (target_offset (role_of j) h))
+      (place_none v j c rest x h (closed_postfix v j (first_of rest) rest (closes_target_all (first_of rest) cl))),
+)
 
 -- ---- the first expression of an item of a list form
 
 never_walks : (v : Version) (f : Forest) (rest : List Token) → Walks (php v) (Word t.Never ∷ []) f rest → ⊥
 never_walks v f rest (a_word {t = x} a w) = false_true (where_is (could v t.Never) (λ d. false) (terminal x) (never_word v) (accepted v t.Never x a))
 
-entry_of : (v : Version) (x : Tree) (ts : List Token) (g : Form) (f : Forest) (rest : List Token) (w : Bool) → is_misindented x ≡ w → cond w refused (or_else (operand_tail v 24 x ts) (refused_unless (not (is_list x.0)))) ≡ Some g → Walks (php v) (g.1) f rest → entry_tail v x ts ≡ Some g
+entry_of : (v : Version) (x : Tree) (ts : List Token) (g : Form) (f : Forest) (rest : List Token) (w : Bool)
+    → is_misindented x ≡ w → cond w refused (or_else (operand_tail v 24 x ts) (refused_unless (not (is_list x.0)))) ≡
+    Some g → Walks (php v) (g.1) f rest → entry_tail v x ts ≡ Some g
 entry_of v x ts g f rest true mi e wk = absurd (never_walks v f rest (subst (λ (z : Form). Walks (php v) (z.1) f rest) (sym (some_form (k.Empty, Word t.Never ∷ []) g e)) wk))
-entry_of v x ts g f rest false mi e wk = entry_some v x ts g mi (else_first (operand_tail v 24 x ts) (refused_unless (not (is_list x.0))) g (λ z. refused_walk (not (is_list x.0)) z) e)
+entry_of v x ts g f rest false mi e wk = entry_some v x ts g mi
+    (else_first (operand_tail v 24 x ts) (refused_unless (not (is_list x.0))) g
+    (λ z. refused_walk (not (is_list x.0)) z) e)
   where
     refused_walk : (b : Bool) → refused_unless b ≡ Some g → ⊥
     refused_walk true z = none_is g z
     refused_walk false z = never_walks v f rest (subst (λ (z : Form). Walks (php v) (z.1) f rest) (sym (some_form (k.Empty, Word t.Never ∷ []) g z)) wk)
 
 -- an expression as such a first one, where what stands behind its leading bracket is told
-pub as_entry : (v : Version) (j : NodeKind) (c : Forest) (rest : List Token) → Grows (php v) (s.Operand 24) j c rest → (first_of (leaves c ++ rest) ≡ t.OpenBracket → closes_item (first_of (past_group 0 (leaves c ++ rest))) ≡ false) → Grows (php v) s.Entry j c rest
+pub as_entry : (v : Version) (j : NodeKind) (c : Forest) (rest : List Token) → Grows (php v) (s.Operand 24) j c rest
+    → (first_of (leaves c ++ rest) ≡ t.OpenBracket → closes_item (first_of (past_group 0 (leaves c ++ rest))) ≡ false)
+    → Grows (php v) s.Entry j c rest
 as_entry v j c rest gr g = grow_as v 24 s.Entry (λ i. true) (leaves c ++ rest) (entry_at v (leaves c ++ rest) (first_of (leaves c ++ rest)) refl g)
     (λ i b us j' is f rest' e a w. (entry_of v (i, b) us (j', is) f rest' (is_misindented (i, b)) refl e w, refl)) gr refl refl
 
-pub entry_closed : (v : Version) (j : NodeKind) (c : Forest) (rest : List Token) → IsNode v j c → ends_all (first_of rest) ≡ true → entry_end j (first_of rest) ≡ None → entry_tail v (j, c) rest ≡ None
+pub entry_closed : (v : Version) (j : NodeKind) (c : Forest) (rest : List Token) → IsNode v j c
+    → ends_all (first_of rest) ≡ true → entry_end j (first_of rest) ≡ None → entry_tail v (j, c) rest ≡ None
 entry_closed v j c rest x h e = rw (straight v j c x) (none_else (operand_tail v 24 (j, c) rest) (entry_end j (first_of rest)) (all_closed v 24 (j, c) rest h) e)
 
 -- a key
-pub keys_read : (v : Version) (j : NodeKind) (c : Forest) (rest : List Token) → Grows (php v) (s.Operand 24) j c rest → is_expression j ≡ true → IsNode v j c → first_of rest ≡ t.DoubleArrow → Spells (php v) s.Entry (j, c) rest
+pub keys_read : (v : Version) (j : NodeKind) (c : Forest) (rest : List Token) → Grows (php v) (s.Operand 24) j c rest
+    → is_expression j ≡ true → IsNode v j c → first_of rest ≡ t.DoubleArrow → Spells (php v) s.Entry (j, c) rest
 keys_read v j c rest gr h x e =
     (as_entry v j c rest gr (key_past v j c rest h x e (is_bracketed j) refl), entry_closed v j c rest x (ap ends_all e) (key_end j (first_of rest) e (not_list j h)))
 
 -- a target
-pub entry_targets_read : (v : Version) (j : NodeKind) (c : Forest) (rest : List Token) → Grows (php v) (s.Operand 24) j c rest → is_target j ≡ true → IsNode v j c → closes_item (first_of rest) ≡ true → Spells (php v) s.Entry (j, c) rest
+pub entry_targets_read : (v : Version) (j : NodeKind) (c : Forest) (rest : List Token)
+    → Grows (php v) (s.Operand 24) j c rest → is_target j ≡ true → IsNode v j c → closes_item (first_of rest) ≡ true
+    → Spells (php v) s.Entry (j, c) rest
 entry_targets_read v j c rest gr h x cl = (
-  as_entry v j c rest gr (λ e. not_true (closes_item (first_of (past_group 0 (leaves c ++ rest)))) (inner_lead v is_any (λ d. not (closes_item d)) (expressions_lead v) j c rest (or_list (is_expression j) (is_list j) (base_expression j (target_offset (role_of j) h))) (target_plain j h) x e)),
+  as_entry v j c rest gr (λ e. not_true (closes_item (first_of (past_group 0 (leaves c ++ rest))))
+      (inner_lead v is_any (λ d. not (closes_item d)) (expressions_lead v) j c rest
+      (or_list (is_expression j) (is_list j) (base_expression j (target_offset (role_of j) h))) (target_plain j h) x
+      e)),
   entry_closed v j c rest x (closes_item_all (first_of rest) cl) (target_end j (first_of rest) cl (or_list (is_target j) (is_list j) h)),
 )

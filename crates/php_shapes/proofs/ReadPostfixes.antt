@@ -20,7 +20,18 @@ use Rattle.php_forms.specs.Grammar.{Walks, Grows, onward}
 use Rattle.php_grammar.specs.Accepts.{accepts}
 use Rattle.php_grammar.specs.declared.bases.Role.{Role}
 use Rattle.php_grammar.specs.declared.bases.Role.TheVariants as r
-use Rattle.php_grammar.specs.Bases.{is_callee, is_callee_role, is_class_base_role, is_list, is_member_base, is_member_base_role, is_offset_base, is_offset_base_role, is_target_role, role_of}
+use Rattle.php_grammar.specs.Bases.{
+  is_callee,
+  is_callee_role,
+  is_class_base_role,
+  is_list,
+  is_member_base,
+  is_member_base_role,
+  is_offset_base,
+  is_offset_base_role,
+  is_target_role,
+  role_of,
+}
 use Rattle.php_grammar.specs.Levels.{level}
 use Rattle.php_grammar.specs.Tables.{php}
 use Rattle.php_grammar.specs.Tails.{offset_form, operator_tail, left_edge, postfix_by, postfix_tail, prop_form}
@@ -128,7 +139,13 @@ or_list true b h = refl
 or_list false b h = absurd (false_true h)
 
 -- a form that goes on behind a base
-pub postfix_grows : (v : Version) (n : ℕ) → Below v n → Grown v n → (m : ℕ) (P : Place) (w : Terminal) (j : NodeKind) (r : Rule) (items : List Item) (c : Forest) (rest : List Token) → IsBase v P w → only_class v r w ≡ true → nullable r ≡ false → ((i : NodeKind) (b f : Forest) → may_stand v P (i, b) ≡ true → Fits v r f → first_of (leaves f ++ rest) ≡ w → postfix_by v i (first_of (leaves f ++ rest)) (leaves f ++ rest) ≡ Some (j, items)) → ((f : Forest) → Fits v r f → count f ≤ n → before_class v j (first_of rest) ≡ true → Walks (php v) items f rest) → Fits v (place P ~ r) c → count c ≤ n → Before v (j, c) (first_of rest) → Grows (php v) (s.Operand m) j c rest
+pub postfix_grows : (v : Version) (n : ℕ) → Below v n → Grown v n
+    → (m : ℕ) (P : Place) (w : Terminal) (j : NodeKind) (r : Rule) (items : List Item) (c : Forest)
+    (rest : List Token) → IsBase v P w → only_class v r w ≡ true → nullable r ≡ false
+    → ((i : NodeKind) (b f : Forest) → may_stand v P (i, b) ≡ true → Fits v r f → first_of (leaves f ++ rest) ≡ w
+    → postfix_by v i (first_of (leaves f ++ rest)) (leaves f ++ rest) ≡ Some (j, items))
+    → ((f : Forest) → Fits v r f → count f ≤ n → before_class v j (first_of rest) ≡ true → Walks (php v) items f rest)
+    → Fits v (place P ~ r) c → count c ≤ n → Before v (j, c) (first_of rest) → Grows (php v) (s.Operand m) j c rest
 postfix_grows v n below grown m P w j r items c rest base on nn tail walk x le h =
     let o : (g1 : Forest) × (g2 : Forest) × Fits v (place P) g1 × Fits v r g2 × (c ≡ g1 +++ g2) = both_is v (place P) r c x in
     let a : (i : NodeKind) × (b : Forest) × (o.0 ≡ node i b none) × (may_stand v P (i, b) ≡ true) × IsNode v i b = place_is v P o.0 o.2 in
@@ -137,15 +154,22 @@ postfix_grows v n below grown m P w j r items c rest base on nn tail walk x le h
     let fw : first_of ts ≡ w = first_is v r w o.1 rest on nn o.3 in
     let two : (count a.1 < n) × (count o.1 ≤ n) = nodes_count a.0 a.1 o.1 n (subst (λ (z : Forest). count z ≤ n) at le) in
     let b : is_offset_base a.0 ≡ true = base.is_base a.0 a.1 a.3 in
-    let left : Grows (php v) (s.Operand m) a.0 a.1 ts = grown.operand m a.0 a.1 ts two.0 (or_list (is_expression a.0) (is_list a.0) (base_expression a.0 b)) (inl (low m (level v (a.0, a.1)) (base_level v a.0 a.1 b))) a.4 (inr (subst (λ (z : Terminal). goes_behind v a.0 z ≡ true) (sym fw) (base.goes a.0 a.1 a.3))) in
+    let left : Grows (php v) (s.Operand m) a.0 a.1 ts = grown.operand m a.0 a.1 ts two.0
+    (or_list (is_expression a.0) (is_list a.0) (base_expression a.0 b))
+    (inl (low m (level v (a.0, a.1)) (base_level v a.0 a.1 b))) a.4
+    (inr (subst (λ (z : Terminal). goes_behind v a.0 z ≡ true) (sym fw) (base.goes a.0 a.1 a.3))) in
     subst (λ (z : Forest). Grows (php v) (s.Operand m) j z rest) (sym at)
-    (onward left (tail_is v m a.0 a.1 ts (j, items) a.4 (first_tail (postfix_tail v a.0 ts) (operator_tail v m (left_edge v (a.0, a.1)) a.0 ts) (j, items) (tail a.0 a.1 o.1 a.3 o.3 fw))) (walk o.1 o.3 two.1 (class_before v j c (first_of rest) h)))
+    (onward left (tail_is v m a.0 a.1 ts (j, items) a.4
+    (first_tail (postfix_tail v a.0 ts) (operator_tail v m (left_edge v (a.0, a.1)) a.0 ts) (j, items)
+    (tail a.0 a.1 o.1 a.3 o.3 fw))) (walk o.1 o.3 two.1 (class_before v j c (first_of rest) h)))
   where
     low : (m l : ℕ) → l ≡ 0 → l ≤ m
     low m l e = omega arith
 
 -- the walk that the test gives
-pub tested : (v : Version) (n : ℕ) → Below v n → (j : NodeKind) (r : Rule) (items : List Item) (rest : List Token) → matches v 60 false (r ∷ []) items (before_class v j) ≡ true → (f : Forest) → Fits v r f → count f ≤ n → before_class v j (first_of rest) ≡ true → Walks (php v) items f rest
+pub tested : (v : Version) (n : ℕ) → Below v n → (j : NodeKind) (r : Rule) (items : List Item) (rest : List Token)
+    → matches v 60 false (r ∷ []) items (before_class v j) ≡ true → (f : Forest) → Fits v r f → count f ≤ n
+    → before_class v j (first_of rest) ≡ true → Walks (php v) items f rest
 tested v n below j r items rest t f x le b = matched v n below 60 false (r ∷ []) items (before_class v j) f rest t (fits_alone v r f x) le b (λ z. absurd (false_true z))
 
 offset_base : (v : Version) → IsBase v OffsetBase t.OpenBracket
@@ -181,8 +205,13 @@ offset_first V83 = refl
 offset_tail : (v : Version) (i : NodeKind) (w : Terminal) (ts : List Token) → w ≡ t.OpenBracket → is_offset_base i ≡ true → postfix_by v i w ts ≡ Some offset_form
 offset_tail v i w ts e b = rw (e, b) refl
 
-pub offsets_grow : (v : Version) (n : ℕ) → Below v n → Grown v n → (m : ℕ) (c : Forest) (rest : List Token) → Fits v offset c → count c ≤ n → Before v (k.Offset, c) (first_of rest) → Grows (php v) (s.Operand m) k.Offset c rest
-offsets_grow v n below grown m c rest x le h = postfix_grows v n below grown m OffsetBase t.OpenBracket k.Offset in_brackets (offset_form.1) c rest (offset_base v) (offset_first v) refl (λ i b f st y e. offset_tail v i (first_of (leaves f ++ rest)) (leaves f ++ rest) e st) (tested v n below k.Offset in_brackets (offset_form.1) rest (offset_test v)) x le h
+pub offsets_grow : (v : Version) (n : ℕ) → Below v n → Grown v n → (m : ℕ) (c : Forest) (rest : List Token)
+    → Fits v offset c → count c ≤ n → Before v (k.Offset, c) (first_of rest)
+    → Grows (php v) (s.Operand m) k.Offset c rest
+offsets_grow v n below grown m c rest x le h = postfix_grows v n below grown m OffsetBase t.OpenBracket k.Offset
+    in_brackets (offset_form.1) c rest (offset_base v) (offset_first v) refl
+    (λ i b f st y e. offset_tail v i (first_of (leaves f ++ rest)) (leaves f ++ rest) e st)
+    (tested v n below k.Offset in_brackets (offset_form.1) rest (offset_test v)) x le h
 
 brace_test : matches V74 60 false (braces expr ∷ []) (Word t.OpenBrace ∷ any ∷ Word t.CloseBrace ∷ []) (before_class V74 k.BraceOffset) ≡ true
 unfolding for_all
@@ -192,16 +221,26 @@ brace_first : only_class V74 (braces expr) t.OpenBrace ≡ true
 unfolding for_all
 brace_first = refl
 
-brace_tail_is : (i : NodeKind) (w : Terminal) (ts : List Token) → w ≡ t.OpenBrace → is_offset_base i ≡ true → postfix_by V74 i w ts ≡ Some (k.BraceOffset, Word t.OpenBrace ∷ any ∷ Word t.CloseBrace ∷ [])
+brace_tail_is : (i : NodeKind) (w : Terminal) (ts : List Token) → w ≡ t.OpenBrace → is_offset_base i ≡ true
+    → postfix_by V74 i w ts ≡ Some (k.BraceOffset, Word t.OpenBrace ∷ any ∷ Word t.CloseBrace ∷ [])
 brace_tail_is i w ts e b = rw (e, b) refl
 
 never_word : for_all (λ c. where_it (could V83 t.Never c) false) ≡ true
 unfolding for_all
 never_word = refl
 
-pub braces_grow : (v : Version) (n : ℕ) → Below v n → Grown v n → (m : ℕ) (c : Forest) (rest : List Token) → Fits v (brace_offset v) c → count c ≤ n → Before v (k.BraceOffset, c) (first_of rest) → Grows (php v) (s.Operand m) k.BraceOffset c rest
-braces_grow V74 n below grown m c rest x le h = postfix_grows V74 n below grown m OffsetBase t.OpenBrace k.BraceOffset (braces expr) (Word t.OpenBrace ∷ any ∷ Word t.CloseBrace ∷ []) c rest brace_base brace_first refl (λ i b f st y e. brace_tail_is i (first_of (leaves f ++ rest)) (leaves f ++ rest) e st) (tested V74 n below k.BraceOffset (braces expr) (Word t.OpenBrace ∷ any ∷ Word t.CloseBrace ∷ []) rest brace_test) x le h
-braces_grow V83 n below grown m c rest x le h = let q : (y : Token) × (c ≡ leaf y none) × (accepts V83 t.Never y ≡ true) = word_is V83 t.Never c x in absurd (false_true (where_is (could V83 t.Never) (λ d. false) (terminal q.0) never_word (accepted V83 t.Never q.0 q.2)))
+pub braces_grow : (v : Version) (n : ℕ) → Below v n → Grown v n → (m : ℕ) (c : Forest) (rest : List Token)
+    → Fits v (brace_offset v) c → count c ≤ n → Before v (k.BraceOffset, c) (first_of rest)
+    → Grows (php v) (s.Operand m) k.BraceOffset c rest
+braces_grow V74 n below grown m c rest x le h = postfix_grows V74 n below grown m OffsetBase t.OpenBrace k.BraceOffset
+    (braces expr) (Word t.OpenBrace ∷ any ∷ Word t.CloseBrace ∷ []) c rest brace_base brace_first refl
+    (λ i b f st y e. brace_tail_is i (first_of (leaves f ++ rest)) (leaves f ++ rest) e st)
+    (tested V74 n below k.BraceOffset (braces expr) (Word t.OpenBrace ∷ any ∷ Word t.CloseBrace ∷ []) rest brace_test)
+    x le h
+braces_grow V83 n below grown m c rest x le h = let q : (y : Token) × (c ≡ leaf y none)
+    × (accepts V83 t.Never y ≡ true) = word_is V83 t.Never c x
+    in absurd (false_true (where_is (could V83 t.Never) (λ d. false) (terminal q.0) never_word
+    (accepted V83 t.Never q.0 q.2)))
 
 -- ---- members
 
@@ -214,7 +253,9 @@ split_word v w q f x =
 
 -- what stands behind a member and its word
 pub member_ahead : (v : Version) (w : Terminal) (f : Forest) (rest : List Token) → Fits v (word w ~ member) f → behind_member (drop 1 (leaves f ++ rest)) ≡ first_of rest
-member_ahead v w f rest x = let q : (y : Token) × (f' : Forest) × (f ≡ leaf y f') × Fits v member f' = split_word v w member f x in ap (λ (z : Forest). behind_member (drop 1 (leaves z ++ rest))) q.2 ∙ behind_members v q.1 rest q.3
+member_ahead v w f rest x = let q : (y : Token) × (f' : Forest) × (f ≡ leaf y f')
+    × Fits v member f' = split_word v w member f x in ap (λ (z : Forest). behind_member (drop 1 (leaves z ++ rest)))
+    q.2 ∙ behind_members v q.1 rest q.3
 
 pub call_paren : (v : Version) → only_class v called t.OpenParen ≡ true
 unfolding for_all
@@ -225,7 +266,9 @@ pub call_ahead : (v : Version) (w : Terminal) (f : Forest) (rest : List Token) �
 call_ahead v w f rest x =
     let q : (y : Token) × (f' : Forest) × (f ≡ leaf y f') × Fits v (member ~ called) f' = split_word v w (member ~ called) f x in
     let o : (g1 : Forest) × (g2 : Forest) × Fits v member g1 × Fits v called g2 × (q.1 ≡ g1 +++ g2) = both_is v member called q.1 q.3 in
-    ap (λ (z : Forest). behind_member (drop 1 (leaves z ++ rest))) (q.2 ∙ ap (λ (z : Forest). leaf q.0 z) o.4) ∙ ap behind_member (leaves_before o.0 o.1 rest) ∙ behind_members v o.0 (leaves o.1 ++ rest) o.2 ∙ first_is v called t.OpenParen o.1 rest (call_paren v) refl o.3
+    ap (λ (z : Forest). behind_member (drop 1 (leaves z ++ rest))) (q.2 ∙ ap (λ (z : Forest). leaf q.0 z) o.4)
+    ∙ ap behind_member (leaves_before o.0 o.1 rest) ∙ behind_members v o.0 (leaves o.1 ++ rest) o.2
+    ∙ first_is v called t.OpenParen o.1 rest (call_paren v) refl o.3
 
 -- a node of this kind stands before no `(`
 abbrev pub no_paren : Version → NodeKind → Bool
@@ -238,7 +281,8 @@ not_called v j c h b = flip (is_open_paren c) (where_is (before_class v j) (λ d
     flip true e = absurd (false_true e)
     flip false e = refl
 
-prop_tail : (v : Version) (i : NodeKind) (w : Terminal) (ts : List Token) → w ≡ t.Arrow → is_member_base i ≡ true → is_open_paren (behind_member (drop 1 ts)) ≡ false → postfix_by v i w ts ≡ Some prop_form
+prop_tail : (v : Version) (i : NodeKind) (w : Terminal) (ts : List Token) → w ≡ t.Arrow → is_member_base i ≡ true
+    → is_open_paren (behind_member (drop 1 ts)) ≡ false → postfix_by v i w ts ≡ Some prop_form
 prop_tail v i w ts e b p = rw (e, b, p) refl
 
 prop_paren : (v : Version) → no_paren v k.Prop ≡ true
@@ -256,13 +300,20 @@ unfolding for_all
 prop_test V74 = refl
 prop_test V83 = refl
 
-pub props_grow : (v : Version) (n : ℕ) → Below v n → Grown v n → (m : ℕ) (c : Forest) (rest : List Token) → Fits v prop c → count c ≤ n → Before v (k.Prop, c) (first_of rest) → Grows (php v) (s.Operand m) k.Prop c rest
-props_grow v n below grown m c rest x le h = postfix_grows v n below grown m MemberBase t.Arrow k.Prop (word t.Arrow ~ member) (prop_form.1) c rest (member_base v) (prop_first v) refl (λ i b f st y e. prop_tail v i (first_of (leaves f ++ rest)) (leaves f ++ rest) e st (ap is_open_paren (member_ahead v t.Arrow f rest y) ∙ not_called v k.Prop (first_of rest) (prop_paren v) (class_before v k.Prop c (first_of rest) h))) (tested v n below k.Prop (word t.Arrow ~ member) (prop_form.1) rest (prop_test v)) x le h
+pub props_grow : (v : Version) (n : ℕ) → Below v n → Grown v n → (m : ℕ) (c : Forest) (rest : List Token)
+    → Fits v prop c → count c ≤ n → Before v (k.Prop, c) (first_of rest) → Grows (php v) (s.Operand m) k.Prop c rest
+props_grow v n below grown m c rest x le h = postfix_grows v n below grown m MemberBase t.Arrow k.Prop
+    (word t.Arrow ~ member) (prop_form.1) c rest (member_base v) (prop_first v) refl
+    (λ i b f st y e. prop_tail v i (first_of (leaves f ++ rest)) (leaves f ++ rest) e st
+    (ap is_open_paren (member_ahead v t.Arrow f rest y) ∙ not_called v k.Prop (first_of rest) (prop_paren v)
+    (class_before v k.Prop c (first_of rest) h)))
+    (tested v n below k.Prop (word t.Arrow ~ member) (prop_form.1) rest (prop_test v)) x le h
 
 abbrev method_items : List Item
 method_items = Word t.Arrow ∷ Part g.Member ∷ Word t.OpenParen ∷ Node s.Args ∷ Word t.CloseParen ∷ []
 
-method_tail : (v : Version) (i : NodeKind) (w : Terminal) (ts : List Token) → w ≡ t.Arrow → is_member_base i ≡ true → behind_member (drop 1 ts) ≡ t.OpenParen → postfix_by v i w ts ≡ Some (k.MethodCall, method_items)
+method_tail : (v : Version) (i : NodeKind) (w : Terminal) (ts : List Token) → w ≡ t.Arrow → is_member_base i ≡ true
+    → behind_member (drop 1 ts) ≡ t.OpenParen → postfix_by v i w ts ≡ Some (k.MethodCall, method_items)
 method_tail v i w ts e b p = rw (e, b, p) refl
 
 method_first : (v : Version) → only_class v (word t.Arrow ~ member ~ called) t.Arrow ≡ true
@@ -275,8 +326,14 @@ unfolding for_all
 method_test V74 = refl
 method_test V83 = refl
 
-pub methods_grow : (v : Version) (n : ℕ) → Below v n → Grown v n → (m : ℕ) (c : Forest) (rest : List Token) → Fits v method_call c → count c ≤ n → Before v (k.MethodCall, c) (first_of rest) → Grows (php v) (s.Operand m) k.MethodCall c rest
-methods_grow v n below grown m c rest x le h = postfix_grows v n below grown m MemberBase t.Arrow k.MethodCall (word t.Arrow ~ member ~ called) method_items c rest (member_base v) (method_first v) refl (λ i b f st y e. method_tail v i (first_of (leaves f ++ rest)) (leaves f ++ rest) e st (call_ahead v t.Arrow f rest y)) (tested v n below k.MethodCall (word t.Arrow ~ member ~ called) method_items rest (method_test v)) x le h
+pub methods_grow : (v : Version) (n : ℕ) → Below v n → Grown v n → (m : ℕ) (c : Forest) (rest : List Token)
+    → Fits v method_call c → count c ≤ n → Before v (k.MethodCall, c) (first_of rest)
+    → Grows (php v) (s.Operand m) k.MethodCall c rest
+methods_grow v n below grown m c rest x le h = postfix_grows v n below grown m MemberBase t.Arrow k.MethodCall
+    (word t.Arrow ~ member ~ called) method_items c rest (member_base v) (method_first v) refl
+    (λ i b f st y e. method_tail v i (first_of (leaves f ++ rest)) (leaves f ++ rest) e st
+    (call_ahead v t.Arrow f rest y)) (tested v n below k.MethodCall (word t.Arrow ~ member ~ called) method_items rest
+    (method_test v)) x le h
 
 -- ---- calls of what an expression gives
 
@@ -291,5 +348,10 @@ unfolding for_all
 call_test V74 = refl
 call_test V83 = refl
 
-pub calls_grow : (v : Version) (n : ℕ) → Below v n → Grown v n → (m : ℕ) (c : Forest) (rest : List Token) → Fits v (place Callee ~ called) c → count c ≤ n → Before v (k.Call, c) (first_of rest) → Grows (php v) (s.Operand m) k.Call c rest
-calls_grow v n below grown m c rest x le h = postfix_grows v n below grown m Callee t.OpenParen k.Call called call_items c rest (callee_base v) (call_paren v) refl (λ i b f st y e. call_tail v i (first_of (leaves f ++ rest)) (leaves f ++ rest) e st) (tested v n below k.Call called call_items rest (call_test v)) x le h
+pub calls_grow : (v : Version) (n : ℕ) → Below v n → Grown v n → (m : ℕ) (c : Forest) (rest : List Token)
+    → Fits v (place Callee ~ called) c → count c ≤ n → Before v (k.Call, c) (first_of rest)
+    → Grows (php v) (s.Operand m) k.Call c rest
+calls_grow v n below grown m c rest x le h = postfix_grows v n below grown m Callee t.OpenParen k.Call called
+    call_items c rest (callee_base v) (call_paren v) refl
+    (λ i b f st y e. call_tail v i (first_of (leaves f ++ rest)) (leaves f ++ rest) e st)
+    (tested v n below k.Call called call_items rest (call_test v)) x le h

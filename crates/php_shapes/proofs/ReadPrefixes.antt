@@ -60,7 +60,9 @@ unfolding for_all
 clone_chain V74 = refl
 clone_chain V83 = refl
 
-pub clone_grows : (v : Version) (n : ℕ) → Below v n → (m : ℕ) (c : Forest) (rest : List Token) → Fits v (word t.Clone ~ place (Operand 1)) c → count c ≤ n → Before v (k.Prefix, c) (first_of rest) → Grows (php v) (s.Operand m) k.Prefix c rest
+pub clone_grows : (v : Version) (n : ℕ) → Below v n → (m : ℕ) (c : Forest) (rest : List Token)
+    → Fits v (word t.Clone ~ place (Operand 1)) c → count c ≤ n → Before v (k.Prefix, c) (first_of rest)
+    → Grows (php v) (s.Operand m) k.Prefix c rest
 clone_grows v n below m c rest x le h = prefixed v n below m 1 1 k.Prefix t.Clone c rest (clone_looser v) refl (clone_chain v) (clone_level v) (clone_form v) x le h
 
 not__word : (v : Version) → word_test v t.Not (λ c. same_class c t.Not) ≡ true
@@ -85,7 +87,9 @@ unfolding for_all
 not__chain V74 = refl
 not__chain V83 = refl
 
-pub not__grows : (v : Version) (n : ℕ) → Below v n → (m : ℕ) (c : Forest) (rest : List Token) → Fits v (word t.Not ~ place (Operand 5)) c → count c ≤ n → Before v (k.Prefix, c) (first_of rest) → Grows (php v) (s.Operand m) k.Prefix c rest
+pub not__grows : (v : Version) (n : ℕ) → Below v n → (m : ℕ) (c : Forest) (rest : List Token)
+    → Fits v (word t.Not ~ place (Operand 5)) c → count c ≤ n → Before v (k.Prefix, c) (first_of rest)
+    → Grows (php v) (s.Operand m) k.Prefix c rest
 not__grows v n below m c rest x le h = prefixed v n below m 5 5 k.Prefix t.Not c rest (not__looser v) refl (not__chain v) (not__level v) (not__form v) x le h
 
 cast__word : (v : Version) → word_test v t.Cast (λ c. same_class c t.Cast) ≡ true
@@ -110,7 +114,9 @@ unfolding for_all
 cast__chain V74 = refl
 cast__chain V83 = refl
 
-pub cast__grows : (v : Version) (n : ℕ) → Below v n → (m : ℕ) (c : Forest) (rest : List Token) → Fits v (word t.Cast ~ place (Operand 3)) c → count c ≤ n → Before v (k.Cast, c) (first_of rest) → Grows (php v) (s.Operand m) k.Cast c rest
+pub cast__grows : (v : Version) (n : ℕ) → Below v n → (m : ℕ) (c : Forest) (rest : List Token)
+    → Fits v (word t.Cast ~ place (Operand 3)) c → count c ≤ n → Before v (k.Cast, c) (first_of rest)
+    → Grows (php v) (s.Operand m) k.Cast c rest
 cast__grows v n below m c rest x le h = prefixed v n below m 3 3 k.Cast t.Cast c rest (cast__looser v) refl (cast__chain v) (cast__level v) (cast__form v) x le h
 
 print__word : (v : Version) → word_test v t.Print (λ c. same_class c t.Print) ≡ true
@@ -135,7 +141,9 @@ unfolding for_all
 print__chain V74 = refl
 print__chain V83 = refl
 
-pub print__grows : (v : Version) (n : ℕ) → Below v n → (m : ℕ) (c : Forest) (rest : List Token) → Fits v (word t.Print ~ place (Operand 20)) c → count c ≤ n → Before v (k.Print, c) (first_of rest) → Grows (php v) (s.Operand m) k.Print c rest
+pub print__grows : (v : Version) (n : ℕ) → Below v n → (m : ℕ) (c : Forest) (rest : List Token)
+    → Fits v (word t.Print ~ place (Operand 20)) c → count c ≤ n → Before v (k.Print, c) (first_of rest)
+    → Grows (php v) (s.Operand m) k.Print c rest
 print__grows v n below m c rest x le h = prefixed v n below m 20 20 k.Print t.Print c rest (print__looser v) refl (print__chain v) (print__level v) (print__form v) x le h
 
 include__word : (v : Version) → word_test v t.Include (λ c. same_class c t.Include) ≡ true
@@ -160,12 +168,16 @@ unfolding for_all
 include__chain V74 = refl
 include__chain V83 = refl
 
-pub include__grows : (v : Version) (n : ℕ) → Below v n → (m : ℕ) (c : Forest) (rest : List Token) → Fits v (word t.Include ~ place (Operand 24)) c → count c ≤ n → Before v (k.Include, c) (first_of rest) → Grows (php v) (s.Operand m) k.Include c rest
-include__grows v n below m c rest x le h = prefixed v n below m 24 24 k.Include t.Include c rest (include__looser v) refl (include__chain v) (include__level v) (include__form v) x le h
+pub include__grows : (v : Version) (n : ℕ) → Below v n → (m : ℕ) (c : Forest) (rest : List Token)
+    → Fits v (word t.Include ~ place (Operand 24)) c → count c ≤ n → Before v (k.Include, c) (first_of rest)
+    → Grows (php v) (s.Operand m) k.Include c rest
+include__grows v n below m c rest x le h = prefixed v n below m 24 24 k.Include t.Include c rest (include__looser v)
+    refl (include__chain v) (include__level v) (include__form v) x le h
 
 -- ---- signs, `~` and `@`
 
-sign_at : (v : Version) (us : List Token) (c : Terminal) → first_of us ≡ c → is_sign_or_tight c ≡ true → operand_form v us ≡ Some (k.Prefix, Word t.SignOrTight ∷ Node (s.Operand 3) ∷ [])
+sign_at : (v : Version) (us : List Token) (c : Terminal) → first_of us ≡ c → is_sign_or_tight c ≡ true
+    → operand_form v us ≡ Some (k.Prefix, Word t.SignOrTight ∷ Node (s.Operand 3) ∷ [])
 sign_at v us t.Plus e h = rw e refl
 sign_at v us t.Minus e h = rw e refl
 sign_at v us t.Tight e h = rw e refl
@@ -189,7 +201,9 @@ sign_level_at c h = absurd (false_true h)
 sign_level : (v : Version) (x : Token) (f : Forest) → accepts v t.SignOrTight x ≡ true → 3 ≤ level v (k.Prefix, leaf x f)
 sign_level v x f e = sign_level_at (terminal x) (word_class v t.SignOrTight is_sign_or_tight x (sign_word v) e)
 
-pub sign_grows : (v : Version) (n : ℕ) → Below v n → (m : ℕ) (c : Forest) (rest : List Token) → Fits v (word t.SignOrTight ~ place (Operand 3)) c → count c ≤ n → Before v (k.Prefix, c) (first_of rest) → Grows (php v) (s.Operand m) k.Prefix c rest
+pub sign_grows : (v : Version) (n : ℕ) → Below v n → (m : ℕ) (c : Forest) (rest : List Token)
+    → Fits v (word t.SignOrTight ~ place (Operand 3)) c → count c ≤ n → Before v (k.Prefix, c) (first_of rest)
+    → Grows (php v) (s.Operand m) k.Prefix c rest
 sign_grows v n below m c rest x le h = prefixed v n below m 3 3 k.Prefix t.SignOrTight c rest (cast__looser v) refl (not__chain v) (sign_level v) (sign_form v) x le h
 
 -- ---- casts of 7.4
@@ -205,10 +219,13 @@ old_form (x ∷ xs) e = rw (alone_class V74 t.OldCast x old_word e) refl
 old_level : (x : Token) (f : Forest) → accepts V74 t.OldCast x ≡ true → 3 ≤ level V74 (k.Cast, leaf x f)
 old_level x f e = omega arith
 
-old_grows : (n : ℕ) → Below V74 n → (m : ℕ) (c : Forest) (rest : List Token) → Fits V74 (word t.OldCast ~ place (Operand 3)) c → count c ≤ n → Before V74 (k.Cast, c) (first_of rest) → Grows (php V74) (s.Operand m) k.Cast c rest
+old_grows : (n : ℕ) → Below V74 n → (m : ℕ) (c : Forest) (rest : List Token)
+    → Fits V74 (word t.OldCast ~ place (Operand 3)) c → count c ≤ n → Before V74 (k.Cast, c) (first_of rest)
+    → Grows (php V74) (s.Operand m) k.Cast c rest
 old_grows n below m c rest x le h = prefixed V74 n below m 3 3 k.Cast t.OldCast c rest (cast__looser V74) refl (cast__chain V74) old_level old_form x le h
 
-pub casts_grow : (v : Version) (n : ℕ) → Below v n → (m : ℕ) (c : Forest) (rest : List Token) → Fits v (cast v) c → count c ≤ n → Before v (k.Cast, c) (first_of rest) → Grows (php v) (s.Operand m) k.Cast c rest
+pub casts_grow : (v : Version) (n : ℕ) → Below v n → (m : ℕ) (c : Forest) (rest : List Token) → Fits v (cast v) c
+    → count c ≤ n → Before v (k.Cast, c) (first_of rest) → Grows (php v) (s.Operand m) k.Cast c rest
 casts_grow V83 n below m c rest x le h = cast__grows V83 n below m c rest x le h
 casts_grow V74 n below m c rest (is_both (is_first x) y e) le h = cast__grows V74 n below m c rest (is_both x y e) le h
 casts_grow V74 n below m c rest (is_both (is_second x) y e) le h = old_grows n below m c rest (is_both x y e) le h
@@ -233,17 +250,24 @@ place_behind v j g i b c e = elim e [
   ]
 ]
 
-pub step_grows : (v : Version) (n : ℕ) → Below v n → (m : ℕ) (c : Forest) (rest : List Token) → Fits v (word t.Step ~ place Target) c → count c ≤ n → Before v (k.Prefix, c) (first_of rest) → Grows (php v) (s.Operand m) k.Prefix c rest
+pub step_grows : (v : Version) (n : ℕ) → Below v n → (m : ℕ) (c : Forest) (rest : List Token)
+    → Fits v (word t.Step ~ place Target) c → count c ≤ n → Before v (k.Prefix, c) (first_of rest)
+    → Grows (php v) (s.Operand m) k.Prefix c rest
 step_grows v n below m c rest x le h =
     let o : (g1 : Forest) × (g2 : Forest) × Fits v (word t.Step) g1 × Fits v (place Target) g2 × (c ≡ g1 +++ g2) = both_is v (word t.Step) (place Target) c x in
     let u : (y : Token) × (o.0 ≡ leaf y none) × (accepts v t.Step y ≡ true) = word_is v t.Step o.0 o.2 in
     let w : (i : NodeKind) × (b : Forest) × (o.1 ≡ node i b none) × (may_stand v Target (i, b) ≡ true) × IsNode v i b = place_is v Target o.1 o.3 in
     let at : c ≡ leaf u.0 (node w.0 w.1 none) = o.4 ∙ ap (λ (z : Forest). z +++ o.1) u.1 ∙ ap (λ (z : Forest). leaf u.0 z) w.2 in
-    let y : Spells (php v) s.Place (w.0, w.1) rest = below.placed Target s.Place w.0 w.1 rest refl ((nodes_count w.0 w.1 none n (subst (λ (z : Forest). count z ≤ n) at le)).0) w.3 w.4 (place_behind v k.Prefix (leaf u.0 none) w.0 w.1 (first_of rest) (only_behind v k.Prefix (leaf u.0 (node w.0 w.1 none)) (first_of rest) (not__chain v) (subst (λ (z : Forest). Before v (k.Prefix, z) (first_of rest)) at h))) in
+    let y : Spells (php v) s.Place (w.0, w.1) rest = below.placed Target s.Place w.0 w.1 rest refl
+    ((nodes_count w.0 w.1 none n (subst (λ (z : Forest). count z ≤ n) at le)).0) w.3 w.4
+    (place_behind v k.Prefix (leaf u.0 none) w.0 w.1 (first_of rest)
+    (only_behind v k.Prefix (leaf u.0 (node w.0 w.1 none)) (first_of rest) (not__chain v)
+    (subst (λ (z : Forest). Before v (k.Prefix, z) (first_of rest)) at h))) in
     subst (λ (z : Forest). Grows (php v) (s.Operand m) k.Prefix z rest) (sym at)
     (head (step_form v (leaves (leaf u.0 (node w.0 w.1 none)) ++ rest) u.2) (a_word u.2 (child y.0 y.1 ends)))
 
-pub prefixes_grow : (v : Version) (n : ℕ) → Below v n → (m : ℕ) (c : Forest) (rest : List Token) → Fits v prefix c → count c ≤ n → Before v (k.Prefix, c) (first_of rest) → Grows (php v) (s.Operand m) k.Prefix c rest
+pub prefixes_grow : (v : Version) (n : ℕ) → Below v n → (m : ℕ) (c : Forest) (rest : List Token) → Fits v prefix c
+    → count c ≤ n → Before v (k.Prefix, c) (first_of rest) → Grows (php v) (s.Operand m) k.Prefix c rest
 prefixes_grow v n below m c rest (is_first x) le h = clone_grows v n below m c rest x le h
 prefixes_grow v n below m c rest (is_second (is_first x)) le h = sign_grows v n below m c rest x le h
 prefixes_grow v n below m c rest (is_second (is_second (is_first x))) le h = not__grows v n below m c rest x le h

@@ -13,7 +13,26 @@ use Rattle.php_shapes.specs.Places.{is_member, is_statement}
 use Rattle.php_shapes.specs.Shapes.{IsNode}
 use Rattle.php_shapes.proofs.ReadEnds.{Below, EndsStatement}
 use Rattle.php_shapes.proofs.ReadMatch.{false_true}
-use Rattle.php_shapes.proofs.ReadStatements.{block_grows, break_grows, continue_grows, declare_grows, do_grows, echo_grows, empty_grows, for_grows, foreach_grows, global_grows, goto_grows, html_grows, return_grows, switch_grows, throw_grows, try_grows, unset_grows, while_grows}
+use Rattle.php_shapes.proofs.ReadStatements.{
+  block_grows,
+  break_grows,
+  continue_grows,
+  declare_grows,
+  do_grows,
+  echo_grows,
+  empty_grows,
+  for_grows,
+  foreach_grows,
+  global_grows,
+  goto_grows,
+  html_grows,
+  return_grows,
+  switch_grows,
+  throw_grows,
+  try_grows,
+  unset_grows,
+  while_grows,
+}
 use Rattle.php_shapes.proofs.ReadIfs.{if_grows}
 use Rattle.php_shapes.proofs.ReadIfColons.{if_colons_grows}
 use Rattle.php_shapes.proofs.ReadDeclarations.{class_grows, const_grows, function_grows, interface_grows, label_grows, statics_grows, trait_grows}
@@ -24,7 +43,9 @@ use Rattle.php_shapes.proofs.ReadNamespaces.{namespace_grows}
 use Rattle.php_shapes.proofs.ReadWholeUses.{use_grows}
 
 -- A statement is read as it was, where it ends.
-pub statement_grows : (v : Version) (n : ℕ) → Below v n → (j : NodeKind) (c : Forest) (rest : List Token) → count c ≤ n → is_statement j ≡ true → IsNode v j c → EndsStatement (j, c) (first_of rest) → Grows (php v) s.Statement j c rest
+pub statement_grows : (v : Version) (n : ℕ) → Below v n → (j : NodeKind) (c : Forest) (rest : List Token)
+    → count c ≤ n → is_statement j ≡ true → IsNode v j c → EndsStatement (j, c) (first_of rest)
+    → Grows (php v) s.Statement j c rest
 statement_grows v n below k.Block c rest le h x e = block_grows v n below c rest le x e
 statement_grows v n below k.Empty c rest le h x e = empty_grows v n below c rest le x e
 statement_grows v n below k.ExprStmt c rest le h x e = expression_grows v n below c rest le x e
@@ -58,7 +79,8 @@ statement_grows v n below k.LabelStmt c rest le h x e = label_grows v n below c 
 statement_grows v n below j c rest le h x e = absurd (false_true h)
 
 -- A member is read as it was, whatever follows.
-pub member_grows : (v : Version) (n : ℕ) → Below v n → (j : NodeKind) (c : Forest) (rest : List Token) → count c ≤ n → is_member j ≡ true → IsNode v j c → Grows (php v) s.Member j c rest
+pub member_grows : (v : Version) (n : ℕ) → Below v n → (j : NodeKind) (c : Forest) (rest : List Token) → count c ≤ n
+    → is_member j ≡ true → IsNode v j c → Grows (php v) s.Member j c rest
 member_grows v n below k.Property c rest le h x = property_grows v n below c rest le x
 member_grows v n below k.ClassConst c rest le h x = class_const_grows v n below c rest le x
 member_grows v n below k.Method c rest le h x = method_grows v n below c rest le x

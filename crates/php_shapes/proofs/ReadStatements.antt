@@ -43,20 +43,27 @@ pub begun : (v : Version) (r : Rule) (w : Terminal) (c : Forest) (rest : List To
 begun v r w c rest x e b = same_is (first_of (leaves c ++ rest)) w (where_is (starts v r) (λ d. same_class d w) (first_of (leaves c ++ rest)) b (first_in v r c rest x e))
 
 -- A node is read as it was where its tokens choose its form.
-pub grows_by : (v : Version) (n : ℕ) → Below v n → (sort : Sort) (fin : Bool) (j : NodeKind) (is : List Item) (F : Terminal → Bool) → matches v 60 fin (form v j ∷ []) is F ≡ true → (c : Forest) (rest : List Token) → count c ≤ n → IsNode v j c → F (first_of rest) ≡ true → (fin ≡ true → Last c rest) → begin v sort (leaves c ++ rest) ≡ Some (j, is) → Grows (php v) sort j c rest
+pub grows_by : (v : Version) (n : ℕ) → Below v n → (sort : Sort) (fin : Bool) (j : NodeKind) (is : List Item)
+    (F : Terminal → Bool) → matches v 60 fin (form v j ∷ []) is F ≡ true → (c : Forest) (rest : List Token)
+    → count c ≤ n → IsNode v j c → F (first_of rest) ≡ true → (fin ≡ true → Last c rest)
+    → begin v sort (leaves c ++ rest) ≡ Some (j, is) → Grows (php v) sort j c rest
 grows_by v n below sort fin j is F m c rest le x f l e = head e (matched v n below 60 fin (form v j ∷ []) is F c rest m (fits_alone v (form v j) c (shaped v j c x)) le f l)
 
 -- the first token settles the form
 pub settled : (w : Terminal) (ts : List Token) → first_of ts ≡ w → chosen_by w ts ≡ None → statement_form ts ≡ Some (simple_form w)
-settled w ts e h = subst (λ (u : Terminal). or_else (chosen_by u ts) (Some (simple_form u)) ≡ Some (simple_form w)) (sym e) (ap (λ (o : Option Form). or_else o (Some (simple_form w))) h)
+settled w ts e h = subst (λ (u : Terminal). or_else (chosen_by u ts) (Some (simple_form u)) ≡ Some (simple_form w))
+    (sym e) (ap (λ (o : Option Form). or_else o (Some (simple_form w))) h)
 
 -- a statement whose first class tells its form
-pub told : (v : Version) (n : ℕ) → Below v n → (j : NodeKind) (w : Terminal) → nullable (form v j) ≡ false → begins_with v (form v j) w ≡ true → ((ts : List Token) → chosen_by w ts ≡ None) → (simple_form w).0 ≡ j → matches v 60 true (form v j ∷ []) ((simple_form w).1) follows_statement ≡ true → StatementGrows v n j
+pub told : (v : Version) (n : ℕ) → Below v n → (j : NodeKind) (w : Terminal) → nullable (form v j) ≡ false
+    → begins_with v (form v j) w ≡ true → ((ts : List Token) → chosen_by w ts ≡ None) → (simple_form w).0 ≡ j
+    → matches v 60 true (form v j ∷ []) ((simple_form w).1) follows_statement ≡ true → StatementGrows v n j
 told v n below j w u b o e m c rest le x stop =
     let f : Fits v (form v j) c = shaped v j c x in
     subst (λ (i : NodeKind). Grows (php v) s.Statement i c rest) e
     (head (settled w (leaves c ++ rest) (begun v (form v j) w c rest f u b) (o (leaves c ++ rest)))
-    (matched v n below 60 true (form v j ∷ []) ((simple_form w).1) follows_statement c rest m (fits_alone v (form v j) c f) le (follows (j, c) (first_of rest) stop) (λ h. last_of j c rest stop)))
+    (matched v n below 60 true (form v j ∷ []) ((simple_form w).1) follows_statement c rest m
+    (fits_alone v (form v j) c f) le (follows (j, c) (first_of rest) stop) (λ h. last_of j c rest stop)))
 
 -- ---- each of them
 

@@ -14,7 +14,19 @@ use Rattle.php_forms.specs.Grammar.{Form}
 use Rattle.php_grammar.specs.Bases.{is_list}
 use Rattle.php_grammar.specs.Edges.{edge, edge_from}
 use Rattle.php_grammar.specs.Levels.{binary_level, left_limit, level}
-use Rattle.php_grammar.specs.Tails.{binary_tail, left_edge, operand_tail, operator_by, operator_tail, postfix_by, postfix_tail, chosen_tail, read_tail, refused_unless, ternary_tail}
+use Rattle.php_grammar.specs.Tails.{
+  binary_tail,
+  left_edge,
+  operand_tail,
+  operator_by,
+  operator_tail,
+  postfix_by,
+  postfix_tail,
+  chosen_tail,
+  read_tail,
+  refused_unless,
+  ternary_tail,
+}
 use Rattle.php_shapes.specs.Nearest.{ends_in_yield, is_open_yield, is_to}
 use Rattle.php_shapes.specs.Shapes.{IsNode, is_node}
 use Rattle.php_shapes.proofs.ReadClasses.{for_all}
@@ -136,10 +148,16 @@ pub positive : (m n : ℕ) → m < n → 0 < n
 positive m n lt = omega arith
 
 pub all_closed : (v : Version) (m : ℕ) (x : Tree) (ts : List Token) → ends_all (first_of ts) ≡ true → operand_tail v m x ts ≡ None
-all_closed v m x ts h = none_else (postfix_tail v x.0 ts) (operator_tail v m (left_edge v x) x.0 ts) (closed_postfix v x.0 (first_of ts) ts h) (none_else (chosen_tail v m (left_edge v x) x.0 ts) (binary_tail v m (left_edge v x) (first_of ts)) (closed_chosen v m (left_edge v x) x.0 (first_of ts) ts h) (closed_binary v m (left_edge v x) (first_of ts) h))
+all_closed v m x ts h = none_else (postfix_tail v x.0 ts) (operator_tail v m (left_edge v x) x.0 ts)
+    (closed_postfix v x.0 (first_of ts) ts h)
+    (none_else (chosen_tail v m (left_edge v x) x.0 ts) (binary_tail v m (left_edge v x) (first_of ts))
+    (closed_chosen v m (left_edge v x) x.0 (first_of ts) ts h) (closed_binary v m (left_edge v x) (first_of ts) h))
 
 all_loose : (v : Version) (m : ℕ) (x : Tree) (ts : List Token) → m < behind_level v (first_of ts) → operand_tail v m x ts ≡ None
-all_loose v m x ts h = none_else (postfix_tail v x.0 ts) (operator_tail v m (left_edge v x) x.0 ts) (loose_postfix v x.0 (first_of ts) ts (positive m (behind_level v (first_of ts)) h)) (none_else (chosen_tail v m (left_edge v x) x.0 ts) (binary_tail v m (left_edge v x) (first_of ts)) (loose_chosen v m (left_edge v x) x.0 (first_of ts) ts h) (loose_binary v m (left_edge v x) (first_of ts) h))
+all_loose v m x ts h = none_else (postfix_tail v x.0 ts) (operator_tail v m (left_edge v x) x.0 ts)
+    (loose_postfix v x.0 (first_of ts) ts (positive m (behind_level v (first_of ts)) h))
+    (none_else (chosen_tail v m (left_edge v x) x.0 ts) (binary_tail v m (left_edge v x) (first_of ts))
+    (loose_chosen v m (left_edge v x) x.0 (first_of ts) ts h) (loose_binary v m (left_edge v x) (first_of ts) h))
 
 -- An expression ends before such a token.
 pub ends_here : (v : Version) (m : ℕ) (x : Tree) (ts : List Token) → is_misindented x ≡ false → is_list x.0 ≡ false → Ends v m x (first_of ts) → read_tail v m x ts ≡ None
@@ -189,11 +207,22 @@ and_true true b h g = g
 and_true false b h g = absurd (false_true h)
 
 -- What an expression stands before, its last operand does.
-pub last_ends : (v : Version) (p m : ℕ) (k0 : NodeKind) (g : Forest) (j : NodeKind) (b : Forest) (c : Terminal) → looser v p m ≡ true → p ≤ level v (k0, g +++ node j b none) → Behind v (k0, g +++ node j b none) c → Ends v m (j, b) c
+pub last_ends : (v : Version) (p m : ℕ) (k0 : NodeKind) (g : Forest) (j : NodeKind) (b : Forest) (c : Terminal)
+    → looser v p m ≡ true → p ≤ level v (k0, g +++ node j b none) → Behind v (k0, g +++ node j b none) c
+    → Ends v m (j, b) c
 last_ends v p m k0 g j b c t le e = elim e [
   | inl h ↦ inl h
   | inr h ↦ elim h [
     | inl q ↦ inr (inl (q.0, arrow_of_last k0 g j b q.1))
-    | inr q ↦ inr (inr (le_trans3 (edge v (j, b)) (edge v (k0, g +++ node j b none)) (behind_limit v c) (edge_of_last v k0 g j b) q.0, lt_of (nat_lt m (behind_level v c)) m (behind_level v c) refl (where_is (λ d. nat_le p (behind_limit v d) && nat_lt 0 (behind_level v d)) (λ d. nat_lt m (behind_level v d)) c t (and_true (nat_le p (behind_limit v c)) (nat_lt 0 (behind_level v c)) (le_true p (behind_limit v c) (le_trans3 p (level v (k0, g +++ node j b none)) (behind_limit v c) le (le_trans3 (level v (k0, g +++ node j b none)) (edge v (k0, g +++ node j b none)) (behind_limit v c) (level_of_node v (k0, g +++ node j b none)) q.0))) (lt_true 0 (behind_level v c) q.1)))))
+    | inr q ↦ inr (inr (
+      le_trans3 (edge v (j, b)) (edge v (k0, g +++ node j b none)) (behind_limit v c)
+          (edge_of_last v k0 g j b) q.0,
+      lt_of (nat_lt m (behind_level v c)) m (behind_level v c) refl
+          (where_is (λ d. nat_le p (behind_limit v d) && nat_lt 0 (behind_level v d)) (λ d. nat_lt m (behind_level v d))
+          c t (and_true (nat_le p (behind_limit v c)) (nat_lt 0 (behind_level v c))
+          (le_true p (behind_limit v c) (le_trans3 p (level v (k0, g +++ node j b none)) (behind_limit v c) le
+          (le_trans3 (level v (k0, g +++ node j b none)) (edge v (k0, g +++ node j b none)) (behind_limit v c)
+          (level_of_node v (k0, g +++ node j b none)) q.0))) (lt_true 0 (behind_level v c) q.1))),
+    ))
   ]
 ]

@@ -35,7 +35,8 @@ use Rattle.php_shapes.proofs.ReadStatements.{begins_with, begun, first_in}
 
 -- ---- tokens with brackets that close
 
-balanced_rest : (a b : Bool) (n : ℕ) (f : Forest) → cond a (is_balanced (n + 1) f) (cond b (not (nat_eq n 0) && is_balanced (n - 1) f) (is_balanced n f)) ≡ true → (m : ℕ) × (is_balanced m f ≡ true)
+balanced_rest : (a b : Bool) (n : ℕ) (f : Forest) → cond a (is_balanced (n + 1) f)
+    (cond b (not (nat_eq n 0) && is_balanced (n - 1) f) (is_balanced n f)) ≡ true → (m : ℕ) × (is_balanced m f ≡ true)
 balanced_rest true b n f h = (n + 1, h)
 balanced_rest false true n f h = (n - 1, (both (not (nat_eq n 0)) (is_balanced (n - 1) f) h).1)
 balanced_rest false false n f h = (n, h)
@@ -45,7 +46,11 @@ flat n none h = tt
 flat n (leaf x f) h = let q : (m : ℕ) × (is_balanced m f ≡ true) = balanced_rest (opens (terminal x)) (closes (terminal x)) n f h in flat q.0 f q.1
 flat n (node j b f) h = absurd (false_true h)
 
-span_step : (a b : Bool) (n : ℕ) (f : Forest) (us : List Token) → ((m : ℕ) → is_balanced m f ≡ true → spanned m us ≡ length (leaves f)) → cond a (is_balanced (n + 1) f) (cond b (not (nat_eq n 0) && is_balanced (n - 1) f) (is_balanced n f)) ≡ true → cond a (suc (spanned (n + 1) us)) (cond b (cond (nat_eq n 0) 0 (suc (spanned (n - 1) us))) (suc (spanned n us))) ≡ suc (length (leaves f))
+span_step : (a b : Bool) (n : ℕ) (f : Forest) (us : List Token)
+    → ((m : ℕ) → is_balanced m f ≡ true → spanned m us ≡ length (leaves f))
+    → cond a (is_balanced (n + 1) f) (cond b (not (nat_eq n 0) && is_balanced (n - 1) f) (is_balanced n f)) ≡ true
+    → cond a (suc (spanned (n + 1) us)) (cond b (cond (nat_eq n 0) 0 (suc (spanned (n - 1) us))) (suc (spanned n us)))
+    ≡ suc (length (leaves f))
 span_step true b n f us ih h = ap (λ (m : ℕ). suc m) (ih (n + 1) h)
 span_step false true n f us ih h =
     let q : (not (nat_eq n 0) ≡ true) × (is_balanced (n - 1) f ≡ true) = both (not (nat_eq n 0)) (is_balanced (n - 1) f) h in
@@ -101,17 +106,24 @@ rules_walk : (v : Version) (r : Forest) (rest : List Token) → Fits v rules r �
 rules_walk v r rest (is_first x) =
     let q : (z : Token) × (r ≡ leaf z none) × (accepts v t.Semi z ≡ true) = word_is v t.Semi r x in
     subst (λ (i : Forest). Walks (php v) (Part g.TraitRules ∷ []) i rest) (sym q.1)
-    (group_alone v g.TraitRules (leaf q.0 none) rest (subst (λ (c : Terminal). Walks (php v) (trait_rules c) (leaf q.0 none) rest) (sym (pinned v t.Semi q.0 ((brackets_pinned v).2) q.2)) (a_word q.2 ends)))
+    (group_alone v g.TraitRules (leaf q.0 none) rest
+    (subst (λ (c : Terminal). Walks (php v) (trait_rules c) (leaf q.0 none) rest)
+    (sym (pinned v t.Semi q.0 ((brackets_pinned v).2) q.2)) (a_word q.2 ends)))
 rules_walk v r rest (is_second x) =
-    let p : (o : Forest) × (m : Forest) × Fits v (word t.OpenBrace) o × Fits v (tokens ~ word t.CloseBrace) m × (r ≡ o +++ m) = both_is v (word t.OpenBrace) (tokens ~ word t.CloseBrace) r x in
+    let p : (o : Forest) × (m : Forest) × Fits v (word t.OpenBrace) o × Fits v (tokens ~ word t.CloseBrace) m
+    × (r ≡ o +++ m) = both_is v (word t.OpenBrace) (tokens ~ word t.CloseBrace) r x in
     let q : (f : Forest) × (c : Forest) × Fits v tokens f × Fits v (word t.CloseBrace) c × (p.1 ≡ f +++ c) = both_is v tokens (word t.CloseBrace) p.1 p.3 in
     let o : (z : Token) × (p.0 ≡ leaf z none) × (accepts v t.OpenBrace z ≡ true) = word_is v t.OpenBrace p.0 p.2 in
     let c : (z : Token) × (q.1 ≡ leaf z none) × (accepts v t.CloseBrace z ≡ true) = word_is v t.CloseBrace q.1 q.3 in
     let at : r ≡ leaf o.0 (q.0 +++ leaf c.0 none) = p.4 ∙ ap (λ (i : Forest). i +++ p.1) o.1 ∙ ap (λ (i : Forest). leaf o.0 i) (q.4 ∙ ap (λ (i : Forest). q.0 +++ i) c.1) in
     let b : is_balanced 0 q.0 ≡ true = tokens_are v q.0 q.2 in
-    let w : Walks (php v) (Word t.OpenBrace ∷ Span ∷ Word t.CloseBrace ∷ []) (leaf o.0 (q.0 +++ leaf c.0 none)) rest = a_word o.2 (span q.0 (flat 0 q.0 b) (spans 0 q.0 c.0 rest (pinned v t.CloseBrace c.0 ((brackets_pinned v).1) c.2) b) (a_word c.2 ends)) in
+    let w : Walks (php v) (Word t.OpenBrace ∷ Span ∷ Word t.CloseBrace ∷ []) (leaf o.0 (q.0 +++ leaf c.0 none)) rest =
+    a_word o.2 (span q.0 (flat 0 q.0 b) (spans 0 q.0 c.0 rest
+    (pinned v t.CloseBrace c.0 ((brackets_pinned v).1) c.2) b) (a_word c.2 ends)) in
     subst (λ (i : Forest). Walks (php v) (Part g.TraitRules ∷ []) i rest) (sym at)
-    (group_alone v g.TraitRules (leaf o.0 (q.0 +++ leaf c.0 none)) rest (subst (λ (d : Terminal). Walks (php v) (trait_rules d) (leaf o.0 (q.0 +++ leaf c.0 none)) rest) (sym (pinned v t.OpenBrace o.0 ((brackets_pinned v).0) o.2)) w))
+    (group_alone v g.TraitRules (leaf o.0 (q.0 +++ leaf c.0 none)) rest
+    (subst (λ (d : Terminal). Walks (php v) (trait_rules d) (leaf o.0 (q.0 +++ leaf c.0 none)) rest)
+    (sym (pinned v t.OpenBrace o.0 ((brackets_pinned v).0) o.2)) w))
 
 rules_not_empty : (v : Version) (r : Forest) (rest : List Token) → Fits v rules r → ends_names (first_of (leaves r ++ rest)) ≡ true
 rules_not_empty v r rest x = where_is (starts v rules) ends_names (first_of (leaves r ++ rest)) (rules_begin v) (first_in v rules r rest x refl)
@@ -129,5 +141,7 @@ trait_use_grows v n below c rest le x =
     head (use_form (leaves c ++ rest) (begun v (form v k.TraitUse) t.Use c rest y refl (use_begins v)))
     (subst (λ (i : Forest). Walks (php v) (names_items ++ (Part g.TraitRules ∷ [])) i rest) (sym at)
     (walks_on (php v) names_items (Part g.TraitRules ∷ []) (p.0 +++ q.0) q.1 rest
-    (matched v n below 60 false (word t.Use ∷ names v ∷ []) names_items ends_names (p.0 +++ q.0) (leaves q.1 ++ rest) (names_match v) (p.0, q.0, p.2, fits_alone v (names v) q.0 q.2, refl) le2 (rules_not_empty v q.1 rest q.3) (λ o. absurd (false_true o)))
+    (matched v n below 60 false (word t.Use ∷ names v ∷ []) names_items ends_names (p.0 +++ q.0) (leaves q.1 ++ rest)
+    (names_match v) (p.0, q.0, p.2, fits_alone v (names v) q.0 q.2, refl) le2 (rules_not_empty v q.1 rest q.3)
+    (λ o. absurd (false_true o)))
     (rules_walk v q.1 rest q.3)))

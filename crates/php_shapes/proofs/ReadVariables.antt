@@ -41,18 +41,24 @@ use Rattle.php_shapes.proofs.ReadAssigns.{second_is}
 behind_join : (f e : Forest) (rest ts : List Token) → ts ≡ leaves e ++ rest → leaves f ++ ts ≡ leaves (f +++ e) ++ rest
 behind_join f e rest ts at = ap (λ (z : List Token). leaves f ++ z) at ∙ sym (leaves_before f e rest)
 
-pub walk_join : (T : Tables) (js : List Item) (e : Forest) (rest : List Token) → Walks T js e rest → {is : List Item} {f : Forest} {ts : List Token} → ts ≡ leaves e ++ rest → Walks T is f ts → Walks T (is ++ js) (f +++ e) rest
+pub walk_join : (T : Tables) (js : List Item) (e : Forest) (rest : List Token) → Walks T js e rest
+    → {is : List Item} {f : Forest} {ts : List Token} → ts ≡ leaves e ++ rest → Walks T is f ts
+    → Walks T (is ++ js) (f +++ e) rest
 walk_join T js e rest w at ends = w
 walk_join T js e rest w at (a_word a x) = a_word a (walk_join T js e rest w at x)
 walk_join T js e rest w at (child {s = sort} {k = j} {c = c} {f = f} gr ta x) =
-    child (subst (λ (z : List Token). Grows T sort j c z) (behind_join f e rest _ at) gr) (subst (λ (z : List Token). T.tail sort (j, c) z ≡ None) (behind_join f e rest _ at) ta) (walk_join T js e rest w at x)
+    child (subst (λ (z : List Token). Grows T sort j c z) (behind_join f e rest _ at) gr)
+    (subst (λ (z : List Token). T.tail sort (j, c) z ≡ None) (behind_join f e rest _ at) ta)
+    (walk_join T js e rest w at x)
 walk_join T js e rest w at (part {g = group} {is = is} {h = h} {f = f} x y) =
     subst (λ (z : Forest). Walks T (Part group ∷ (is ++ js)) z rest) (sym (forest_assoc h f e))
     (part (subst (λ (z : List Token). Walks T (T.parts group (leaves h ++ z)) h z) (behind_join f e rest _ at) x) (walk_join T js e rest w at y))
 walk_join T js e rest w at (stop {g = group} {f = f} p x) = stop (subst (λ (z : List Token). T.parts group z ≡ []) (behind_join f e rest _ at) p) (walk_join T js e rest w at x)
 walk_join T js e rest w at (turn {g = group} {i = i} {js = ks} {is = is} {h = h} {f = f} p x lt y) =
     subst (λ (z : Forest). Walks T (Turns group ∷ (is ++ js)) z rest) (sym (forest_assoc h f e))
-    (turn (subst (λ (z : List Token). T.parts group (leaves h ++ z) ≡ i ∷ ks) (behind_join f e rest _ at) p) (subst (λ (z : List Token). Walks T (i ∷ ks) h z) (behind_join f e rest _ at) x) lt (walk_join T js e rest w at y))
+    (turn (subst (λ (z : List Token). T.parts group (leaves h ++ z) ≡ i ∷ ks) (behind_join f e rest _ at) p)
+    (subst (λ (z : List Token). Walks T (i ∷ ks) h z) (behind_join f e rest _ at) x) lt
+    (walk_join T js e rest w at y))
 walk_join T js e rest w at (span {is = is} {f = f} h flat p x) =
     subst (λ (z : Forest). Walks T (Span ∷ (is ++ js)) z rest) (sym (forest_assoc h f e))
     (span h flat (subst (λ (z : List Token). T.span (leaves h ++ z) ≡ length (leaves h)) (behind_join f e rest _ at) p) (walk_join T js e rest w at x))
@@ -69,44 +75,94 @@ pub record Chosen (v : Version) (c : Forest) (rest : List Token) : Type 0 where
 abbrev anything : Terminal → Bool
 anything c = true
 
-variable_tests : (v : Version) → (matches v 60 false (word t.Variable ∷ []) (Word t.Variable ∷ []) anything ≡ true) × (matches v 60 false ((word t.Dollar ~ braces expr) ∷ []) (Word t.Dollar ∷ Word t.OpenBrace ∷ any ∷ Word t.CloseBrace ∷ []) anything ≡ true) × (matches v 60 false ((word t.Dollar ~ kind k.Variable) ∷ []) (Word t.Dollar ∷ Node s.SimpleVariable ∷ []) anything ≡ true)
+variable_tests : (v : Version) → (matches v 60 false (word t.Variable ∷ []) (Word t.Variable ∷ []) anything ≡ true)
+    × (matches v 60 false ((word t.Dollar ~ braces expr) ∷ [])
+    (Word t.Dollar ∷ Word t.OpenBrace ∷ any ∷ Word t.CloseBrace ∷ []) anything ≡ true)
+    × (matches v 60 false ((word t.Dollar ~ kind k.Variable) ∷ []) (Word t.Dollar ∷ Node s.SimpleVariable ∷ [])
+    anything ≡ true)
 unfolding for_all
 variable_tests V74 = (refl, refl, refl)
 variable_tests V83 = (refl, refl, refl)
 
-variable_firsts : (v : Version) → (only_class v (word t.Variable) t.Variable ≡ true) × (only_class v (word t.Dollar ~ braces expr) t.Dollar ≡ true) × (only_class v (word t.Dollar ~ kind k.Variable) t.Dollar ≡ true) × (only_class v (braces expr) t.OpenBrace ≡ true)
+variable_firsts : (v : Version) → (only_class v (word t.Variable) t.Variable ≡ true)
+    × (only_class v (word t.Dollar ~ braces expr) t.Dollar ≡ true)
+    × (only_class v (word t.Dollar ~ kind k.Variable) t.Dollar ≡ true)
+    × (only_class v (braces expr) t.OpenBrace ≡ true)
 unfolding for_all
 variable_firsts V74 = (refl, refl, refl, refl)
 variable_firsts V83 = (refl, refl, refl, refl)
 
-by_variable : (v : Version) (ts : List Token) → first_of ts ≡ t.Variable → (operand_form v ts ≡ Some (k.Variable, Word t.Variable ∷ [])) × (simple_variable_form ts ≡ Some (k.Variable, Word t.Variable ∷ []))
+by_variable : (v : Version) (ts : List Token) → first_of ts ≡ t.Variable
+    → (operand_form v ts ≡ Some (k.Variable, Word t.Variable ∷ []))
+    × (simple_variable_form ts ≡ Some (k.Variable, Word t.Variable ∷ []))
 by_variable v ts e = (rw e refl, rw e refl)
 
-by_braces : (v : Version) (ts : List Token) → first_of ts ≡ t.Dollar → second_of ts ≡ t.OpenBrace → (operand_form v ts ≡ Some (k.Variable, Word t.Dollar ∷ Word t.OpenBrace ∷ any ∷ Word t.CloseBrace ∷ [])) × (simple_variable_form ts ≡ Some (k.Variable, Word t.Dollar ∷ Word t.OpenBrace ∷ any ∷ Word t.CloseBrace ∷ []))
+by_braces : (v : Version) (ts : List Token) → first_of ts ≡ t.Dollar → second_of ts ≡ t.OpenBrace
+    → (operand_form v ts ≡ Some (k.Variable, Word t.Dollar ∷ Word t.OpenBrace ∷ any ∷ Word t.CloseBrace ∷ []))
+    × (simple_variable_form ts ≡ Some (k.Variable, Word t.Dollar ∷ Word t.OpenBrace ∷ any ∷ Word t.CloseBrace ∷ []))
 by_braces v ts e d = (rw (e, d) refl, rw (e, d) refl)
 
-by_dollar : (v : Version) (ts : List Token) (d : Terminal) → first_of ts ≡ t.Dollar → second_of ts ≡ d → is_variable_start d ≡ true → (operand_form v ts ≡ Some (k.Variable, Word t.Dollar ∷ Node s.SimpleVariable ∷ [])) × (simple_variable_form ts ≡ Some (k.Variable, Word t.Dollar ∷ Node s.SimpleVariable ∷ []))
+by_dollar : (v : Version) (ts : List Token) (d : Terminal) → first_of ts ≡ t.Dollar → second_of ts ≡ d
+    → is_variable_start d ≡ true → (operand_form v ts ≡ Some (k.Variable, Word t.Dollar ∷ Node s.SimpleVariable ∷ []))
+    × (simple_variable_form ts ≡ Some (k.Variable, Word t.Dollar ∷ Node s.SimpleVariable ∷ []))
 by_dollar v ts t.Variable e d h = (rw (e, d) refl, rw (e, d) refl)
 by_dollar v ts t.Dollar e d h = (rw (e, d) refl, rw (e, d) refl)
 by_dollar v ts c e d h = absurd (false_true h)
 
 pub variable_chosen : (v : Version) (n : ℕ) → Below v n → (c : Forest) (rest : List Token) → Fits v variable c → count c ≤ n → Chosen v c rest
 variable_chosen v n below c rest (is_first x) le =
-    let q : (operand_form v (leaves c ++ rest) ≡ Some (k.Variable, Word t.Variable ∷ [])) × (simple_variable_form (leaves c ++ rest) ≡ Some (k.Variable, Word t.Variable ∷ [])) = by_variable v (leaves c ++ rest) (first_is v (word t.Variable) t.Variable c rest ((variable_firsts v).0) refl x) in
-    record { items = Word t.Variable ∷ []; operand = q.0; simple = q.1; walk = matched v n below 60 false (word t.Variable ∷ []) (Word t.Variable ∷ []) anything c rest ((variable_tests v).0) (fits_alone v (word t.Variable) c x) le refl (λ z. absurd (false_true z)) }
+    let q : (operand_form v (leaves c ++ rest) ≡ Some (k.Variable, Word t.Variable ∷ []))
+    × (simple_variable_form (leaves c ++ rest) ≡ Some (k.Variable, Word t.Variable ∷ [])) =
+    by_variable v (leaves c ++ rest) (first_is v (word t.Variable) t.Variable c rest ((variable_firsts v).0) refl
+    x) in
+    record {
+      items = Word t.Variable ∷ [];
+      operand = q.0;
+      simple = q.1;
+      walk =
+          matched v n below 60 false (word t.Variable ∷ []) (Word t.Variable ∷ []) anything c rest
+          ((variable_tests v).0) (fits_alone v (word t.Variable) c x) le refl (λ z. absurd (false_true z));
+    }
 variable_chosen v n below c rest (is_second (is_both x (is_first y) e)) le =
     let z : Fits v (word t.Dollar ~ braces expr) c = is_both x y e in
-    let q : (operand_form v (leaves c ++ rest) ≡ Some (k.Variable, Word t.Dollar ∷ Word t.OpenBrace ∷ any ∷ Word t.CloseBrace ∷ [])) × (simple_variable_form (leaves c ++ rest) ≡ Some (k.Variable, Word t.Dollar ∷ Word t.OpenBrace ∷ any ∷ Word t.CloseBrace ∷ [])) = by_braces v (leaves c ++ rest) (first_is v (word t.Dollar ~ braces expr) t.Dollar c rest ((variable_firsts v).1) refl z) (second_is v t.Dollar (braces expr) t.OpenBrace c rest ((variable_firsts v).3) refl z) in
-    record { items = Word t.Dollar ∷ Word t.OpenBrace ∷ any ∷ Word t.CloseBrace ∷ []; operand = q.0; simple = q.1; walk = matched v n below 60 false ((word t.Dollar ~ braces expr) ∷ []) (Word t.Dollar ∷ Word t.OpenBrace ∷ any ∷ Word t.CloseBrace ∷ []) anything c rest ((variable_tests v).1) (fits_alone v (word t.Dollar ~ braces expr) c z) le refl (λ z. absurd (false_true z)) }
+    let q : (operand_form v (leaves c ++ rest) ≡ Some
+    (k.Variable, Word t.Dollar ∷ Word t.OpenBrace ∷ any ∷ Word t.CloseBrace ∷ []))
+    × (simple_variable_form (leaves c ++ rest) ≡ Some
+    (k.Variable, Word t.Dollar ∷ Word t.OpenBrace ∷ any ∷ Word t.CloseBrace ∷ [])) =
+    by_braces v (leaves c ++ rest) (first_is v (word t.Dollar ~ braces expr) t.Dollar c rest
+    ((variable_firsts v).1) refl z) (second_is v t.Dollar (braces expr) t.OpenBrace c rest ((variable_firsts v).3)
+    refl z) in
+    record {
+      items = Word t.Dollar ∷ Word t.OpenBrace ∷ any ∷ Word t.CloseBrace
+          ∷ [];
+      operand = q.0;
+      simple = q.1;
+      walk = matched v n below 60 false ((word t.Dollar ~ braces expr) ∷ [])
+          (Word t.Dollar ∷ Word t.OpenBrace ∷ any ∷ Word t.CloseBrace ∷ []) anything c rest ((variable_tests v).1)
+          (fits_alone v (word t.Dollar ~ braces expr) c z) le refl (λ z. absurd (false_true z));
+    }
 variable_chosen v n below c rest (is_second (is_both x (is_second y) e)) le =
     let z : Fits v (word t.Dollar ~ kind k.Variable) c = is_both x y e in
-    let q : (operand_form v (leaves c ++ rest) ≡ Some (k.Variable, Word t.Dollar ∷ Node s.SimpleVariable ∷ [])) × (simple_variable_form (leaves c ++ rest) ≡ Some (k.Variable, Word t.Dollar ∷ Node s.SimpleVariable ∷ [])) = by_dollar v (leaves c ++ rest) (second_of (leaves c ++ rest)) (first_is v (word t.Dollar ~ kind k.Variable) t.Dollar c rest ((variable_firsts v).2) refl z) refl (second_starts v t.Dollar (kind k.Variable) c rest refl z) in
-    record { items = Word t.Dollar ∷ Node s.SimpleVariable ∷ []; operand = q.0; simple = q.1; walk = matched v n below 60 false ((word t.Dollar ~ kind k.Variable) ∷ []) (Word t.Dollar ∷ Node s.SimpleVariable ∷ []) anything c rest ((variable_tests v).2) (fits_alone v (word t.Dollar ~ kind k.Variable) c z) le refl (λ z. absurd (false_true z)) }
+    let q : (operand_form v (leaves c ++ rest) ≡ Some (k.Variable, Word t.Dollar ∷ Node s.SimpleVariable ∷ []))
+    × (simple_variable_form (leaves c ++ rest) ≡ Some (k.Variable, Word t.Dollar ∷ Node s.SimpleVariable ∷ [])) =
+    by_dollar v (leaves c ++ rest) (second_of (leaves c ++ rest))
+    (first_is v (word t.Dollar ~ kind k.Variable) t.Dollar c rest ((variable_firsts v).2) refl z) refl
+    (second_starts v t.Dollar (kind k.Variable) c rest refl z) in
+    record {
+      items = Word t.Dollar ∷ Node s.SimpleVariable ∷ [];
+      operand = q.0;
+      simple = q.1;
+      walk =
+          matched v n below 60 false ((word t.Dollar ~ kind k.Variable) ∷ [])
+          (Word t.Dollar ∷ Node s.SimpleVariable ∷ []) anything c rest ((variable_tests v).2)
+          (fits_alone v (word t.Dollar ~ kind k.Variable) c z) le refl (λ z. absurd (false_true z));
+    }
 
 pub variables_grow : (v : Version) (n : ℕ) → Below v n → (m : ℕ) (c : Forest) (rest : List Token) → Fits v variable c → count c ≤ n → Grows (php v) (s.Operand m) k.Variable c rest
 variables_grow v n below m c rest x le = let q : Chosen v c rest = variable_chosen v n below c rest x le in head q.operand q.walk
 
-pub simple_variables_grow : (v : Version) (n : ℕ) → Below v n → (c : Forest) (rest : List Token) → IsNode v k.Variable c → count c ≤ n → Grows (php v) s.SimpleVariable k.Variable c rest
+pub simple_variables_grow : (v : Version) (n : ℕ) → Below v n → (c : Forest) (rest : List Token)
+    → IsNode v k.Variable c → count c ≤ n → Grows (php v) s.SimpleVariable k.Variable c rest
 simple_variables_grow v n below c rest (is_node x near e) le = let q : Chosen v c rest = variable_chosen v n below c rest x le in head q.simple q.walk
 
 -- ---- arguments
@@ -137,18 +193,32 @@ no_arg_items : (c : Terminal) → closes_args c ≡ true → arg_list c ≡ []
 no_arg_items t.CloseParen e = refl
 no_arg_items c e = absurd (false_true e)
 
-pub starts_with : (v : Version) (q : Rule) (P : Terminal → Bool) (f : Forest) (us : List Token) → for_all (λ c. where_it (starts v q c) (P c)) ≡ true → nullable q ≡ false → Fits v q f → P (first_of (leaves f ++ us)) ≡ true
-starts_with v q P f us t nn x = where_is (starts v q) P (first_of (leaves f ++ us)) t (begins_there (starts v q) (leaves f) us (subst (λ (b : Bool). Begins (starts v q) b (leaves f)) nn (rule_begins v x)))
+pub starts_with : (v : Version) (q : Rule) (P : Terminal → Bool) (f : Forest) (us : List Token)
+    → for_all (λ c. where_it (starts v q c) (P c)) ≡ true → nullable q ≡ false → Fits v q f
+    → P (first_of (leaves f ++ us)) ≡ true
+starts_with v q P f us t nn x = where_is (starts v q) P (first_of (leaves f ++ us)) t
+    (begins_there (starts v q) (leaves f) us (subst (λ (b : Bool). Begins (starts v q) b (leaves f)) nn
+    (rule_begins v x)))
 
 -- a group alone
-pub group_alone : (v : Version) (group : Group) (items : List Item) (f : Forest) (rest : List Token) → parts v group (leaves f ++ rest) ≡ items → Walks (php v) items f rest → Walks (php v) (Part group ∷ []) f rest
-group_alone v group items f rest e w = subst (λ (z : Forest). Walks (php v) (Part group ∷ []) z rest) (before_none f) (part {h = f} (subst (λ (js : List Item). Walks (php v) js f rest) (sym e) w) ends)
+pub group_alone : (v : Version) (group : Group) (items : List Item) (f : Forest) (rest : List Token)
+    → parts v group (leaves f ++ rest) ≡ items → Walks (php v) items f rest → Walks (php v) (Part group ∷ []) f rest
+group_alone v group items f rest e w = subst (λ (z : Forest). Walks (php v) (Part group ∷ []) z rest) (before_none f)
+    (part {h = f} (subst (λ (js : List Item). Walks (php v) js f rest) (sym e) w) ends)
 
-args_walk : (v : Version) (n : ℕ) → Below v n → (c : Forest) (rest : List Token) → Fits v arguments c → count c ≤ n → closes_args (first_of rest) ≡ true → Walks (php v) (Part g.ArgList ∷ []) c rest
-args_walk v n below c rest (is_first x) le h = group_alone v g.ArgList [] c rest (ap (λ (z : Forest). arg_list (first_of (leaves z ++ rest))) (nothing_is v c x) ∙ no_arg_items (first_of rest) h) (subst (λ (z : Forest). Walks (php v) [] z rest) (sym (nothing_is v c x)) ends)
-args_walk v n below c rest (is_second x) le h = group_alone v g.ArgList (Part g.Variadic ∷ any ∷ Turns g.MoreArgs ∷ []) c rest (arg_items (first_of (leaves c ++ rest)) (starts_with v some_args is_no_close c rest (args_begin v) refl x)) (matched v n below 60 false (some_args ∷ []) (Part g.Variadic ∷ any ∷ Turns g.MoreArgs ∷ []) closes_args c rest (args_test v) (fits_alone v some_args c x) le h (λ z. absurd (false_true z)))
+args_walk : (v : Version) (n : ℕ) → Below v n → (c : Forest) (rest : List Token) → Fits v arguments c → count c ≤ n
+    → closes_args (first_of rest) ≡ true → Walks (php v) (Part g.ArgList ∷ []) c rest
+args_walk v n below c rest (is_first x) le h = group_alone v g.ArgList [] c rest
+    (ap (λ (z : Forest). arg_list (first_of (leaves z ++ rest))) (nothing_is v c x) ∙ no_arg_items (first_of rest) h)
+    (subst (λ (z : Forest). Walks (php v) [] z rest) (sym (nothing_is v c x)) ends)
+args_walk v n below c rest (is_second x) le h = group_alone v g.ArgList
+    (Part g.Variadic ∷ any ∷ Turns g.MoreArgs ∷ []) c rest
+    (arg_items (first_of (leaves c ++ rest)) (starts_with v some_args is_no_close c rest (args_begin v) refl x))
+    (matched v n below 60 false (some_args ∷ []) (Part g.Variadic ∷ any ∷ Turns g.MoreArgs ∷ []) closes_args c rest
+    (args_test v) (fits_alone v some_args c x) le h (λ z. absurd (false_true z)))
 
-pub args_grow : (v : Version) (n : ℕ) → Below v n → (c : Forest) (rest : List Token) → IsNode v k.Args c → count c ≤ n → closes_args (first_of rest) ≡ true → Grows (php v) s.Args k.Args c rest
+pub args_grow : (v : Version) (n : ℕ) → Below v n → (c : Forest) (rest : List Token) → IsNode v k.Args c → count c ≤ n
+    → closes_args (first_of rest) ≡ true → Grows (php v) s.Args k.Args c rest
 args_grow v n below c rest (is_node x near e) le h = head refl (args_walk v n below c rest x le h)
 
 -- ---- items of arrays
@@ -159,12 +229,17 @@ is_no_mark t.Ampersand = false
 is_no_mark t.Ellipsis = false
 is_no_mark _ = true
 
-item_tests : (v : Version) → (matches v 60 false ((word t.Ampersand ~ expr) ∷ []) (Word t.Ampersand ∷ any ∷ []) closes_item ≡ true) × (matches v 60 false ((word t.Ellipsis ~ expr) ∷ []) (Word t.Ellipsis ∷ any ∷ []) closes_item ≡ true) × (matches v 60 false ((word t.DoubleArrow ~ by_ref ~ expr) ∷ []) (Word t.DoubleArrow ∷ Part g.ByRef ∷ any ∷ []) closes_item ≡ true)
+item_tests : (v : Version) → (matches v 60 false ((word t.Ampersand ~ expr) ∷ []) (Word t.Ampersand ∷ any ∷ [])
+    closes_item ≡ true) × (matches v 60 false ((word t.Ellipsis ~ expr) ∷ []) (Word t.Ellipsis ∷ any ∷ []) closes_item
+    ≡ true) × (matches v 60 false ((word t.DoubleArrow ~ by_ref ~ expr) ∷ [])
+    (Word t.DoubleArrow ∷ Part g.ByRef ∷ any ∷ []) closes_item ≡ true)
 unfolding for_all
 item_tests V74 = (refl, refl, refl)
 item_tests V83 = (refl, refl, refl)
 
-item_firsts : (v : Version) → (only_class v (word t.Ampersand ~ expr) t.Ampersand ≡ true) × (only_class v (word t.Ellipsis ~ expr) t.Ellipsis ≡ true) × (only_class v (word t.DoubleArrow ~ by_ref ~ expr) t.DoubleArrow ≡ true)
+item_firsts : (v : Version) → (only_class v (word t.Ampersand ~ expr) t.Ampersand ≡ true)
+    × (only_class v (word t.Ellipsis ~ expr) t.Ellipsis ≡ true)
+    × (only_class v (word t.DoubleArrow ~ by_ref ~ expr) t.DoubleArrow ≡ true)
 unfolding for_all
 item_firsts V74 = (refl, refl, refl)
 item_firsts V83 = (refl, refl, refl)
@@ -184,7 +259,9 @@ or_now true b h = absurd (false_true (sym h))
 or_now false b h = (refl, h)
 
 -- an expression before a `=>` takes none
-pub before_arrow : (i : NodeKind) (b : Forest) (x : Token) (f : Forest) → arrows_are_nearest false (node i b (leaf x f)) ≡ true → is_to (terminal x) ≡ true → is_open_for_arrow (i, b) ≡ false
+pub before_arrow : (i : NodeKind) (b : Forest) (x : Token) (f : Forest)
+    → arrows_are_nearest false (node i b (leaf x f)) ≡ true → is_to (terminal x) ≡ true
+    → is_open_for_arrow (i, b) ≡ false
 before_arrow i b x f h e = go (is_open_for_arrow (i, b)) (is_to (terminal x)) (arrows_are_nearest false f) h e
   where
     go : (a c d : Bool) → (not (a && c) && d) ≡ true → c ≡ true → a ≡ false
@@ -208,31 +285,56 @@ some_value : (v : Version) (ts : List Token) → first_of ts ≡ t.DoubleArrow �
 some_value v ts e = rw e refl
 
 -- an expression and a value behind it
-value_walk : (v : Version) (n : ℕ) → Below v n → (i : NodeKind) (b f : Forest) (rest : List Token) → may_stand v (Operand 24) (i, b) ≡ true → IsNode v i b → arrows_are_nearest false (node i b f) ≡ true → Fits v (maybe (word t.DoubleArrow ~ by_ref ~ expr)) f → count (node i b f) ≤ n → closes_item (first_of rest) ≡ true → Walks (php v) (any ∷ Part g.ItemValue ∷ []) (node i b f) rest
+value_walk : (v : Version) (n : ℕ) → Below v n → (i : NodeKind) (b f : Forest) (rest : List Token)
+    → may_stand v (Operand 24) (i, b) ≡ true → IsNode v i b → arrows_are_nearest false (node i b f) ≡ true
+    → Fits v (maybe (word t.DoubleArrow ~ by_ref ~ expr)) f → count (node i b f) ≤ n
+    → closes_item (first_of rest) ≡ true → Walks (php v) (any ∷ Part g.ItemValue ∷ []) (node i b f) rest
 value_walk v n below i b f rest st nd near (is_first x) le h =
     let e : f ≡ none = nothing_is v f x in
-    let y : Spells (php v) (s.Operand 24) (i, b) rest = below.placed (Operand 24) (s.Operand 24) i b rest refl ((nodes_count i b f n le).0) st nd (inl ((closes_both (first_of rest) h).0)) in
+    let y : Spells (php v) (s.Operand 24) (i, b) rest = below.placed (Operand 24) (s.Operand 24) i b rest refl
+    ((nodes_count i b f n le).0) st nd (inl ((closes_both (first_of rest) h).0)) in
     subst (λ (z : Forest). Walks (php v) (any ∷ Part g.ItemValue ∷ []) (node i b z) rest) (sym e)
     (child y.0 y.1 (group_alone v g.ItemValue [] none rest (no_value v rest (first_of rest) refl h) ends))
 value_walk v n below i b f rest st nd near (is_second x) le h =
     let us : List Token = leaves f ++ rest in
     let e : first_of us ≡ t.DoubleArrow = first_is v (word t.DoubleArrow ~ by_ref ~ expr) t.DoubleArrow f rest ((item_firsts v).2) refl x in
     let q : (u : Token) × (f' : Forest) × (f ≡ leaf u f') × Fits v (by_ref ~ expr) f' = split_word v t.DoubleArrow (by_ref ~ expr) f x in
-    let open_ : is_open_for_arrow (i, b) ≡ false = before_arrow i b q.0 q.1 (subst (λ (z : Forest). arrows_are_nearest false (node i b z) ≡ true) q.2 near) (ap is_to (sym (ap (λ (z : Forest). first_of (leaves z ++ rest)) q.2) ∙ e)) in
+    let open_ : is_open_for_arrow (i, b) ≡ false = before_arrow i b q.0 q.1
+    (subst (λ (z : Forest). arrows_are_nearest false (node i b z) ≡ true) q.2 near)
+    (ap is_to (sym (ap (λ (z : Forest). first_of (leaves z ++ rest)) q.2) ∙ e)) in
     let two : (count b < n) × (count f ≤ n) = nodes_count i b f n le in
     let y : Spells (php v) (s.Operand 24) (i, b) us = below.placed (Operand 24) (s.Operand 24) i b us refl two.0 st nd (inr (inl (ap is_to e, open_))) in
-    child y.0 y.1 (group_alone v g.ItemValue (Word t.DoubleArrow ∷ Part g.ByRef ∷ any ∷ []) f rest (some_value v us e) (matched v n below 60 false ((word t.DoubleArrow ~ by_ref ~ expr) ∷ []) (Word t.DoubleArrow ∷ Part g.ByRef ∷ any ∷ []) closes_item f rest ((item_tests v).2) (fits_alone v (word t.DoubleArrow ~ by_ref ~ expr) f x) two.1 h (λ z. absurd (false_true z))))
+    child y.0 y.1 (group_alone v g.ItemValue (Word t.DoubleArrow ∷ Part g.ByRef ∷ any ∷ []) f rest (some_value v us e)
+    (matched v n below 60 false ((word t.DoubleArrow ~ by_ref ~ expr) ∷ [])
+    (Word t.DoubleArrow ∷ Part g.ByRef ∷ any ∷ []) closes_item f rest ((item_tests v).2)
+    (fits_alone v (word t.DoubleArrow ~ by_ref ~ expr) f x) two.1 h (λ z. absurd (false_true z))))
 
-item_grow : (v : Version) (n : ℕ) → Below v n → (c : Forest) (rest : List Token) → Fits v item c → is_nearest c ≡ true → count c ≤ n → closes_item (first_of rest) ≡ true → Grows (php v) s.Item k.Item c rest
-item_grow v n below c rest (is_first x) near le h = head (ap (λ (d : Terminal). Some (item_form d)) (first_is v (word t.Ampersand ~ expr) t.Ampersand c rest ((item_firsts v).0) refl x)) (matched v n below 60 false ((word t.Ampersand ~ expr) ∷ []) (Word t.Ampersand ∷ any ∷ []) closes_item c rest ((item_tests v).0) (fits_alone v (word t.Ampersand ~ expr) c x) le h (λ z. absurd (false_true z)))
-item_grow v n below c rest (is_second (is_first x)) near le h = head (ap (λ (d : Terminal). Some (item_form d)) (first_is v (word t.Ellipsis ~ expr) t.Ellipsis c rest ((item_firsts v).1) refl x)) (matched v n below 60 false ((word t.Ellipsis ~ expr) ∷ []) (Word t.Ellipsis ∷ any ∷ []) closes_item c rest ((item_tests v).1) (fits_alone v (word t.Ellipsis ~ expr) c x) le h (λ z. absurd (false_true z)))
+item_grow : (v : Version) (n : ℕ) → Below v n → (c : Forest) (rest : List Token) → Fits v item c → is_nearest c ≡ true
+    → count c ≤ n → closes_item (first_of rest) ≡ true → Grows (php v) s.Item k.Item c rest
+item_grow v n below c rest (is_first x) near le h =
+    head (ap (λ (d : Terminal). Some (item_form d))
+    (first_is v (word t.Ampersand ~ expr) t.Ampersand c rest ((item_firsts v).0) refl x))
+    (matched v n below 60 false ((word t.Ampersand ~ expr) ∷ []) (Word t.Ampersand ∷ any ∷ []) closes_item c rest
+    ((item_tests v).0) (fits_alone v (word t.Ampersand ~ expr) c x) le h (λ z. absurd (false_true z)))
+item_grow v n below c rest (is_second (is_first x)) near le h =
+    head (ap (λ (d : Terminal). Some (item_form d))
+    (first_is v (word t.Ellipsis ~ expr) t.Ellipsis c rest ((item_firsts v).1) refl x))
+    (matched v n below 60 false ((word t.Ellipsis ~ expr) ∷ []) (Word t.Ellipsis ∷ any ∷ []) closes_item c rest
+    ((item_tests v).1) (fits_alone v (word t.Ellipsis ~ expr) c x) le h (λ z. absurd (false_true z)))
 item_grow v n below c rest (is_second (is_second (is_both {g = a} {h = f} x y e))) near le h =
     let w : (i : NodeKind) × (b : Forest) × (a ≡ node i b none) × (may_stand v (Operand 24) (i, b) ≡ true) × IsNode v i b = place_is v (Operand 24) a x in
     let at : c ≡ node w.0 w.1 f = e ∙ ap (λ (z : Forest). z +++ f) w.2 in
-    let mark : is_no_mark (first_of (leaves c ++ rest)) ≡ true = subst (λ (z : List Token). is_no_mark (first_of z) ≡ true) (sym (ap (λ (z : Forest). leaves z ++ rest) e ∙ leaves_before a f rest)) (starts_with v expr is_no_mark a (leaves f ++ rest) (expr_no_mark v) refl x) in
+    let mark : is_no_mark (first_of (leaves c ++ rest)) ≡ true =
+    subst (λ (z : List Token). is_no_mark (first_of z) ≡ true)
+    (sym (ap (λ (z : Forest). leaves z ++ rest) e ∙ leaves_before a f rest))
+    (starts_with v expr is_no_mark a (leaves f ++ rest) (expr_no_mark v) refl x) in
     head (ap (λ (z : Form). Some z) (item_at (first_of (leaves c ++ rest)) mark))
     (subst (λ (z : Forest). Walks (php v) (any ∷ Part g.ItemValue ∷ []) z rest) (sym at)
-    (value_walk v n below w.0 w.1 f rest w.3 w.4 (subst (λ (z : Forest). arrows_are_nearest false z ≡ true) at ((both (elses_are_nearest false c) (arrows_are_nearest false c) near).1)) y (subst (λ (z : Forest). count z ≤ n) at le) h))
+    (value_walk v n below w.0 w.1 f rest w.3 w.4
+    (subst (λ (z : Forest). arrows_are_nearest false z ≡ true) at
+    ((both (elses_are_nearest false c) (arrows_are_nearest false c) near).1)) y
+    (subst (λ (z : Forest). count z ≤ n) at le) h))
 
-pub items_grow : (v : Version) (n : ℕ) → Below v n → (c : Forest) (rest : List Token) → IsNode v k.Item c → count c ≤ n → closes_item (first_of rest) ≡ true → Grows (php v) s.Item k.Item c rest
+pub items_grow : (v : Version) (n : ℕ) → Below v n → (c : Forest) (rest : List Token) → IsNode v k.Item c
+    → count c ≤ n → closes_item (first_of rest) ≡ true → Grows (php v) s.Item k.Item c rest
 items_grow v n below c rest (is_node x near e) le h = item_grow v n below c rest x near le h

@@ -12,10 +12,14 @@ use Rattle.php_shapes.proofs.ReadMatch.{leaves_before}
 pub no_items : (T : Tables) (f : Forest) (us : List Token) → Walks T [] f us → f ≡ none
 no_items T f us ends = refl
 
-pub word_first : (T : Tables) (c : Terminal) (is : List Item) (f : Forest) (us : List Token) → Walks T (Word c ∷ is) f us → (x : Token) × (h : Forest) × (f ≡ leaf x h) × (T.accepts c x ≡ true) × Walks T is h us
+pub word_first : (T : Tables) (c : Terminal) (is : List Item) (f : Forest) (us : List Token)
+    → Walks T (Word c ∷ is) f us → (x : Token) × (h : Forest) × (f ≡ leaf x h) × (T.accepts c x ≡ true)
+    × Walks T is h us
 word_first T c is f us (a_word {t = x} {f = h} a w) = (x, h, refl, a, w)
 
-pub part_first : (T : Tables) (g : Group) (is : List Item) (f : Forest) (us : List Token) → Walks T (Part g ∷ is) f us → (h : Forest) × (m : Forest) × (f ≡ h +++ m) × Walks T (T.parts g (leaves h ++ (leaves m ++ us))) h (leaves m ++ us) × Walks T is m us
+pub part_first : (T : Tables) (g : Group) (is : List Item) (f : Forest) (us : List Token) → Walks T (Part g ∷ is) f us
+    → (h : Forest) × (m : Forest) × (f ≡ h +++ m) × Walks T (T.parts g (leaves h ++ (leaves m ++ us))) h
+    (leaves m ++ us) × Walks T is m us
 part_first T g is f us (part {h = h} {f = m} y w) = (h, m, refl, y, w)
 
 cons_not_nil : (A : Type 0) (x : A) (xs : List A) → [] ≡ x ∷ xs → ⊥

@@ -6,7 +6,28 @@ use Rattle.php_tree.specs.Tree.{Forest, none, leaf, node, ◌+++◌, leaves}
 use Rattle.php_exprs.proofs.Forests.{forest_assoc}
 use Rattle.php_shapes.specs.Notation.{Rule, nothing, word, kind, place, inside, ◌~◌, ◌|||◌, many, tokens, maybe}
 use Rattle.php_shapes.specs.Shapes.{Fits, is_nothing, is_both, is_first, is_second}
-use Rattle.php_shapes.proofs.Entries.{Entry, Meet, Meets, anything, class_alias, class_use_rest, else_ifs, else_part, entry, entry_value, flat, flat_entry, more_class_uses, plain, span, use_body, used_class, used_grouped, yield_to, yield_value}
+use Rattle.php_shapes.proofs.Entries.{
+  Entry,
+  Meet,
+  Meets,
+  anything,
+  class_alias,
+  class_use_rest,
+  else_ifs,
+  else_part,
+  entry,
+  entry_value,
+  flat,
+  flat_entry,
+  more_class_uses,
+  plain,
+  span,
+  use_body,
+  used_class,
+  used_grouped,
+  yield_to,
+  yield_value,
+}
 
 -- ---- taking sequences apart, and putting them together
 
@@ -64,7 +85,8 @@ pack_entry v entry_value es f rest m = m
 pack_entry v span es f rest m = m
 pack_entry v anything es f rest m = m
 
-pub unpack_entry : (v : Version) (e : Entry) (es : List Entry) (h i : Forest) (rest : List Token) → Meets v e h (leaves i ++ rest) → Meet v es i rest → Meet v (flat_entry e es) (h +++ i) rest
+pub unpack_entry : (v : Version) (e : Entry) (es : List Entry) (h i : Forest) (rest : List Token)
+    → Meets v e h (leaves i ++ rest) → Meet v es i rest → Meet v (flat_entry e es) (h +++ i) rest
 unpack_entry v (plain r) es h i rest p m = unpack v r es h i rest p m
 unpack_entry v used_class es h i rest p m = (h, i, p, m, refl)
 unpack_entry v used_grouped es h i rest p m = (h, i, p, m, refl)

@@ -113,7 +113,8 @@ quiet_fine k.Text c e = false_is e
 quiet_fine k.Quoted c e = false_is e
 quiet_fine _ c e = refl
 
-pub made : (v : Version) (k : NodeKind) (is : List Item) → is_quiet k ≡ true → Gives v (entries v is) (form v k) → (c : Forest) (rest : List Token) → Meet v (entries v is) c rest → Made v k c
+pub made : (v : Version) (k : NodeKind) (is : List Item) → is_quiet k ≡ true → Gives v (entries v is) (form v k)
+    → (c : Forest) (rest : List Token) → Meet v (entries v is) c rest → Made v k c
 made v k is e p c rest m = record { fits = p c rest m; fine = quiet_fine k c e }
 
 pub quiet : (k : NodeKind) (c : Forest) (rest : List Token) → is_quiet k ≡ true → Closed k c rest

@@ -42,7 +42,9 @@ as_statement v k is q e p = record { good = λ c rest m. ((made v k is e p c res
 pub as_member : (v : Version) (k : NodeKind) (is : List Item) → is_member k ≡ true → is_quiet k ≡ true → Gives v (entries v is) (form v k) → Good v s.Member (k, is)
 as_member v k is q e p = record { good = λ c rest m. ((made v k is e p c rest m, q), quiet k c rest e) }
 
-pub as_class : (v : Version) (k : NodeKind) (is : List Item) → is_quiet k ≡ true → is_class_name k ≡ true → ((c : Forest) (rest : List Token) → Meet v (entries v is) c rest → begins_with_class_name c ≡ true) → Gives v (entries v is) (form v k) → Good v s.ClassRef (k, is)
+pub as_class : (v : Version) (k : NodeKind) (is : List Item) → is_quiet k ≡ true → is_class_name k ≡ true
+    → ((c : Forest) (rest : List Token) → Meet v (entries v is) c rest → begins_with_class_name c ≡ true)
+    → Gives v (entries v is) (form v k) → Good v s.ClassRef (k, is)
 as_class v k is e q b p = record { good = λ c rest m. ((made v k is e p c rest m, ap (λ (y : Bool). y && begins_with_class_name c) q ∙ b c rest m), quiet k c rest e) }
 
 -- ---- `if`
@@ -51,7 +53,9 @@ abbrev pub if_entries : List Entry
 if_entries = sq.else_ifs ∷ sq.else_part ∷ []
 
 -- one step into a sequence
-pub then_as : (v : Version) (e : Entry) (es fs : List Entry) → ((f : Forest) (rest : List Token) → Meet v es f rest → Meet v fs f rest) → (f : Forest) (rest : List Token) → Meet v (e ∷ es) f rest → Meet v (e ∷ fs) f rest
+pub then_as : (v : Version) (e : Entry) (es fs : List Entry)
+    → ((f : Forest) (rest : List Token) → Meet v es f rest → Meet v fs f rest) → (f : Forest) (rest : List Token)
+    → Meet v (e ∷ es) f rest → Meet v (e ∷ fs) f rest
 then_as v e es fs p f rest m = (m.0, m.1, m.2, p m.1 rest m.3, m.4)
 
 pub if_plain : (v : Version) (f : Forest) (rest : List Token) → Meet v if_entries f rest → Meet v (plain (many else_if_rule) ∷ plain (maybe else_rule) ∷ []) f rest
@@ -60,9 +64,13 @@ if_plain v f rest m = (m.0, m.1, m.2.0, (m.3.0, m.3.1, m.3.2.0, m.3.3, m.3.4), m
 abbrev pub if_gap : List Entry → List Entry
 if_gap es = plain (word t.If) ∷ plain (word t.OpenParen) ∷ plain expr ∷ plain (word t.CloseParen) ∷ plain st.statement ∷ es
 
-pub into_if : (v : Version) (es fs : List Entry) → ((f : Forest) (rest : List Token) → Meet v es f rest → Meet v fs f rest) → (f : Forest) (rest : List Token) → Meet v (if_gap es) f rest → Meet v (if_gap fs) f rest
+pub into_if : (v : Version) (es fs : List Entry)
+    → ((f : Forest) (rest : List Token) → Meet v es f rest → Meet v fs f rest) → (f : Forest) (rest : List Token)
+    → Meet v (if_gap es) f rest → Meet v (if_gap fs) f rest
 into_if v es fs p =
-    then_as v (plain (word t.If)) (plain (word t.OpenParen) ∷ plain expr ∷ plain (word t.CloseParen) ∷ plain st.statement ∷ es) (plain (word t.OpenParen) ∷ plain expr ∷ plain (word t.CloseParen) ∷ plain st.statement ∷ fs)
+    then_as v (plain (word t.If)) (plain (word t.OpenParen) ∷ plain expr ∷ plain (word t.CloseParen)
+    ∷ plain st.statement ∷ es) (plain (word t.OpenParen) ∷ plain expr ∷ plain (word t.CloseParen)
+    ∷ plain st.statement ∷ fs)
     (then_as v (plain (word t.OpenParen)) (plain expr ∷ plain (word t.CloseParen) ∷ plain st.statement ∷ es) (plain expr ∷ plain (word t.CloseParen) ∷ plain st.statement ∷ fs)
     (then_as v (plain expr) (plain (word t.CloseParen) ∷ plain st.statement ∷ es) (plain (word t.CloseParen) ∷ plain st.statement ∷ fs)
     (then_as v (plain (word t.CloseParen)) (plain st.statement ∷ es) (plain st.statement ∷ fs)
@@ -100,7 +108,10 @@ no_else_behind v f rest m e =
     (ap is_else (sym (first_none a.0 (leaves a.1 ++ rest) empty ∙ first_none a.1 rest a.3)) ∙ a.2.1 without)
 
 -- the same behind the front of a sequence
-pub no_else_after : (v : Version) (e : Entry) (es : List Entry) → ((f : Forest) (rest : List Token) → Meet v es f rest → has_else f ≡ false → goes_on_if (first_of rest) ≡ false) → (f : Forest) (rest : List Token) → Meet v (e ∷ es) f rest → has_else f ≡ false → goes_on_if (first_of rest) ≡ false
+pub no_else_after : (v : Version) (e : Entry) (es : List Entry)
+    → ((f : Forest) (rest : List Token) → Meet v es f rest → has_else f ≡ false → goes_on_if (first_of rest) ≡ false)
+    → (f : Forest) (rest : List Token) → Meet v (e ∷ es) f rest → has_else f ≡ false
+    → goes_on_if (first_of rest) ≡ false
 no_else_after v e es p f rest m d = p m.1 rest m.3 (else_behind m.0 m.1 (ap has_else (sym m.4) ∙ d))
 
 pub if_shuts : (v : Version) (f : Forest) (rest : List Token) → Meet v (if_gap if_entries) f rest → has_else f ≡ false → goes_on_if (first_of rest) ≡ false
@@ -196,7 +207,8 @@ static_form_good v t.Variable = as_statement v k.Statics _ refl refl (whole v st
 static_form_good v _ = expression_good v
 
 pub function_form_good : (v : Version) (x y : Terminal) → Good v s.Statement (fh.function_form x y)
-function_form_good v x y = cond_form (Good v s.Statement) (is_any_label (fh.name_of_function x y)) _ _ (as_statement v k.Function _ refl refl (whole v de.function)) (expression_good v)
+function_form_good v x y = cond_form (Good v s.Statement) (is_any_label (fh.name_of_function x y)) _ _
+    (as_statement v k.Function _ refl refl (whole v de.function)) (expression_good v)
 
 pub namespace_form_good : (v : Version) (x : Terminal) → Good v s.Statement (fh.namespace_form x)
 namespace_form_good v t.Backslash = expression_good v
@@ -225,7 +237,9 @@ statement_good v ts = or_else_form (Good v s.Statement) (fh.chosen_form ts) (Som
 pub block_good : (v : Version) (is : List Item) → Gives v (entries v is) st.block → Good v s.Block (k.Block, is)
 block_good v is p = record { good = λ c rest m. ((made v k.Block is refl p c rest m, refl), quiet k.Block c rest refl) }
 
-pub case_by : (v : Version) (r : Rule) → ((f : Forest) → Fits v r f → Fits v (word t.Case ~ expr ||| word t.Default) f) → Gives v (flat r (flat (word t.Colon ||| word t.Semi) (flat st.statements []))) st.case_of
+pub case_by : (v : Version) (r : Rule) → ((f : Forest) → Fits v r f
+    → Fits v (word t.Case ~ expr ||| word t.Default) f) → Gives v
+    (flat r (flat (word t.Colon ||| word t.Semi) (flat st.statements []))) st.case_of
 case_by v r w = first_as v r (word t.Case ~ expr ||| word t.Default) st.case_of (flat (word t.Colon ||| word t.Semi) (flat st.statements [])) w (whole v st.case_of)
 
 pub as_case : (v : Version) (is : List Item) → Gives v (entries v is) st.case_of → Good v s.Case (k.Case, is)
@@ -246,7 +260,9 @@ trait_use_good v t.Use = as_member v k.TraitUse _ refl refl (whole v (de.trait_u
 trait_use_good v _ = tt
 
 pub member_good : (v : Version) (ts : List Token) → IfSome (fh.member_form ts) (Good v s.Member)
-member_good v ts = or_else_form (Good v s.Member) (fh.trait_use_form (first_of ts)) (Some (fh.modified_form (fh.behind_modifiers ts))) (trait_use_good v (first_of ts)) (modified_good v (fh.behind_modifiers ts))
+member_good v ts = or_else_form (Good v s.Member) (fh.trait_use_form (first_of ts))
+    (Some (fh.modified_form (fh.behind_modifiers ts))) (trait_use_good v (first_of ts))
+    (modified_good v (fh.behind_modifiers ts))
 
 pub param_good : (v : Version) (is : List Item) → Gives v (entries v is) de.param → Good v s.Param (k.Param, is)
 param_good v is p = record { good = λ c rest m. ((made v k.Param is refl p c rest m, refl), quiet k.Param c rest refl) }

@@ -1,5 +1,34 @@
 -- Groups of the tables whose choice shows what follows them.
-use Rattle.std.proofs.Common.{◌≡◌, ℕ, suc, ◌+◌, ◌-◌, Bool, true, false, not, cond, ◌&&◌, ◌||◌, nat_eq, List, [], ◌∷◌, ◌++◌, length, Option, Some, None, refl, sym, ap, ◌∙◌, subst, append_assoc, arith}
+use Rattle.std.proofs.Common.{
+  ◌≡◌,
+  ℕ,
+  suc,
+  ◌+◌,
+  ◌-◌,
+  Bool,
+  true,
+  false,
+  not,
+  cond,
+  ◌&&◌,
+  ◌||◌,
+  nat_eq,
+  List,
+  [],
+  ◌∷◌,
+  ◌++◌,
+  length,
+  Option,
+  Some,
+  None,
+  refl,
+  sym,
+  ap,
+  ◌∙◌,
+  subst,
+  append_assoc,
+  arith,
+}
 use Rattle.php_tree.specs.declared.kind.NodeKind.{NodeKind}
 use Rattle.php_tree.specs.declared.kind.NodeKind.TheVariants as k
 use Rattle.php_tree.specs.declared.token.Token.{Token}
@@ -96,7 +125,9 @@ module _ (y : Token) (zs : List Token) (p : opens (terminal y) ≡ false) (q : c
       more : List Token
       more = leaves h ++ (y ∷ zs)
 
-      go : (o c z : Bool) → cond o (suc (spanned (n + 1) (leaves h ++ (y ∷ zs)))) (cond c (cond z 0 (suc (spanned (n - 1) (leaves h ++ (y ∷ zs))))) (suc (spanned n (leaves h ++ (y ∷ zs))))) ≡ suc (length (leaves h))
+      go : (o c z : Bool) → cond o (suc (spanned (n + 1) (leaves h ++ (y ∷ zs))))
+          (cond c (cond z 0 (suc (spanned (n - 1) (leaves h ++ (y ∷ zs))))) (suc (spanned n (leaves h ++ (y ∷ zs)))))
+          ≡ suc (length (leaves h))
           → (spanned (n + 1) (leaves h ++ (y ∷ zs)) ≡ length (leaves h) → is_balanced (n + 1) h ≡ true)
           → (spanned (n - 1) (leaves h ++ (y ∷ zs)) ≡ length (leaves h) → is_balanced (n - 1) h ≡ true)
           → (spanned n (leaves h ++ (y ∷ zs)) ≡ length (leaves h) → is_balanced n h ≡ true)
@@ -106,7 +137,8 @@ module _ (y : Token) (zs : List Token) (p : opens (terminal y) ≡ false) (q : c
       go false true false e f g i = g (omega (arith, e))
       go false false z e f g i = i (omega (arith, e))
 
-brace_last : (v : Version) (h i : Forest) (rest : List Token) → Fits v (word t.CloseBrace) i → IsFlat h → spanned 0 (leaves h ++ (leaves i ++ rest)) ≡ length (leaves h) → is_balanced 0 h ≡ true
+brace_last : (v : Version) (h i : Forest) (rest : List Token) → Fits v (word t.CloseBrace) i → IsFlat h
+    → spanned 0 (leaves h ++ (leaves i ++ rest)) ≡ length (leaves h) → is_balanced 0 h ≡ true
 brace_last v h i rest (is_word {x} p) flat e =
     span_balanced x rest (brace_opens_none (terminal x) p) (brace_closes (terminal x) p) h 0 flat e
 
@@ -132,11 +164,13 @@ both_ways : (b : Bool) → b ≡ true → b ≡ false → ⊥
 both_ways true e d = absurd cc
 both_ways false e d = absurd cc
 
-dollar_part : (v : Version) (f : Forest) (rest : List Token) → is_variable_token (first_of (leaves f ++ rest)) ≡ false → Fits v (kind k.Variable) f → Fits v (inside k.Variable at.dollar_variable) f
+dollar_part : (v : Version) (f : Forest) (rest : List Token) → is_variable_token (first_of (leaves f ++ rest)) ≡ false
+    → Fits v (kind k.Variable) f → Fits v (inside k.Variable at.dollar_variable) f
 dollar_part v f rest d (is_kind (is_node (is_first (is_word {x} e)) near fine)) = absurd (both_ways (is_variable_token (terminal x)) (variable_is (terminal x) e) d)
 dollar_part v f rest d (is_kind (is_node (is_second p) near fine)) = is_inside p near
 
-pub static_member_once : (v : Version) (x : Terminal) (f : Forest) (rest : List Token) → first_of (leaves f ++ rest) ≡ x → Meet v (entries v (fa.static_member x)) f rest → Fits v po.static_member f
+pub static_member_once : (v : Version) (x : Terminal) (f : Forest) (rest : List Token)
+    → first_of (leaves f ++ rest) ≡ x → Meet v (entries v (fa.static_member x)) f rest → Fits v po.static_member f
 unfolding is_variable_token
 static_member_once v t.Variable f rest e m = one v (word t.Variable) (inside k.Variable at.dollar_variable) f rest m
 static_member_once v x f rest e m = is_second (dollar_part v f rest (ap is_variable_token e) (whole v (kind k.Variable) f rest m))
@@ -173,7 +207,8 @@ instance_gives : (v : Version) → Gives v (entries v fo.instance_expr) (class_r
 instance_gives v f rest m = is_second (is_second (whole v (place ClassName) f rest m))
 
 instance_by_once : (v : Version) (x : Terminal) (ts : List Token) → Gives v (entries v (fo.instance_by x ts)) (class_rule v)
-instance_by_once v t.Static ts = cond_gives v (is_double_colon (second_of ts)) _ _ (class_rule v) (instance_gives v) (λ f rest m. is_second (is_first (whole v (word t.Static) f rest m)))
+instance_by_once v t.Static ts = cond_gives v (is_double_colon (second_of ts)) _ _ (class_rule v) (instance_gives v)
+    (λ f rest m. is_second (is_first (whole v (word t.Static) f rest m)))
 instance_by_once v _ ts = instance_gives v
 
 pub instance_ref_once : (v : Version) (ts : List Token) → Gives v (entries v (fo.instance_ref ts)) (class_rule v)
@@ -205,7 +240,8 @@ has_first false c e d = absurd cc
 begins_with_else : (v : Version) (h i : Forest) → Fits v (word t.Else) h → has_else (h +++ i) ≡ false → ⊥
 begins_with_else v h i (is_word {x} p) e = has_first (is_else (terminal x)) (has_else i) (else_is (terminal x) p) e
 
-pub else_part_once : (v : Version) (x : Terminal) (f : Forest) (rest : List Token) → first_of (leaves f ++ rest) ≡ x → Meet v (entries v (fs.else_part x)) f rest → Meets v sq.else_part f rest
+pub else_part_once : (v : Version) (x : Terminal) (f : Forest) (rest : List Token) → first_of (leaves f ++ rest) ≡ x
+    → Meet v (entries v (fs.else_part x)) f rest → Meets v sq.else_part f rest
 else_part_once v t.Else f rest e m =
     let no : has_else f ≡ false → ⊥ = λ d. begins_with_else v m.0 m.1 m.2 (ap has_else (sym m.4) ∙ d) in
     (present v else_rule f rest m, λ d. absurd (no d), λ d. absurd (no d))
@@ -216,7 +252,8 @@ else_part_once v x f rest e m = (absent v else_rule f rest m, λ d. ap is_else e
 word_is_some : (v : Version) (c : Terminal) (h i : Forest) → Fits v (word c) h → is_none (h +++ i) ≡ true → ⊥
 word_is_some v c h i (is_word p) e = absurd cc
 
-pub yield_to_once : (v : Version) (x : Terminal) (f : Forest) (rest : List Token) → first_of (leaves f ++ rest) ≡ x → Meet v (entries v (fa.yield_to x)) f rest → Meets v sq.yield_to f rest
+pub yield_to_once : (v : Version) (x : Terminal) (f : Forest) (rest : List Token) → first_of (leaves f ++ rest) ≡ x
+    → Meet v (entries v (fa.yield_to x)) f rest → Meets v sq.yield_to f rest
 yield_to_once v t.DoubleArrow f rest e m =
     (present v to_rule f rest m, λ d. absurd (word_is_some v t.DoubleArrow m.0 m.1 m.2 (ap is_none (sym m.4) ∙ d)))
 yield_to_once v x f rest e m = (absent v to_rule f rest m, λ d. ap is_to (sym (first_none f rest m) ∙ e))

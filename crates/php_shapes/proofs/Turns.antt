@@ -259,12 +259,50 @@ more_used_turn v _ = gone v (word t.Comma ~ at.by_ref ~ word t.Variable)
 -- ---- quoted texts
 
 quoted_parts_name_turn : (v : Version) (x : Terminal) → Turn v (entries v (fq.quoted_parts_name x)) qu.quoted_part
-quoted_parts_name_turn v t.VarName = surely v (flat (word t.DollarBrace ~ word t.VarName ~ maybe (brackets expr) ~ word t.CloseBrace) []) qu.quoted_part (other v (flat (word t.DollarBrace ~ word t.VarName ~ maybe (brackets expr) ~ word t.CloseBrace) []) (word t.Piece) (qu.interpolated ||| word t.CurlyOpen ~ expr ~ word t.CloseBrace ||| word t.DollarBrace ~ word t.VarName ~ maybe (brackets expr) ~ word t.CloseBrace ||| word t.DollarBrace ~ expr ~ word t.CloseBrace) (other v (flat (word t.DollarBrace ~ word t.VarName ~ maybe (brackets expr) ~ word t.CloseBrace) []) (qu.interpolated) (word t.CurlyOpen ~ expr ~ word t.CloseBrace ||| word t.DollarBrace ~ word t.VarName ~ maybe (brackets expr) ~ word t.CloseBrace ||| word t.DollarBrace ~ expr ~ word t.CloseBrace) (other v (flat (word t.DollarBrace ~ word t.VarName ~ maybe (brackets expr) ~ word t.CloseBrace) []) (word t.CurlyOpen ~ expr ~ word t.CloseBrace) (word t.DollarBrace ~ word t.VarName ~ maybe (brackets expr) ~ word t.CloseBrace ||| word t.DollarBrace ~ expr ~ word t.CloseBrace) (one v (word t.DollarBrace ~ word t.VarName ~ maybe (brackets expr) ~ word t.CloseBrace) (word t.DollarBrace ~ expr ~ word t.CloseBrace)))))
-quoted_parts_name_turn v _ = surely v (flat (word t.DollarBrace ~ expr ~ word t.CloseBrace) []) qu.quoted_part (other v (flat (word t.DollarBrace ~ expr ~ word t.CloseBrace) []) (word t.Piece) (qu.interpolated ||| word t.CurlyOpen ~ expr ~ word t.CloseBrace ||| word t.DollarBrace ~ word t.VarName ~ maybe (brackets expr) ~ word t.CloseBrace ||| word t.DollarBrace ~ expr ~ word t.CloseBrace) (other v (flat (word t.DollarBrace ~ expr ~ word t.CloseBrace) []) (qu.interpolated) (word t.CurlyOpen ~ expr ~ word t.CloseBrace ||| word t.DollarBrace ~ word t.VarName ~ maybe (brackets expr) ~ word t.CloseBrace ||| word t.DollarBrace ~ expr ~ word t.CloseBrace) (other v (flat (word t.DollarBrace ~ expr ~ word t.CloseBrace) []) (word t.CurlyOpen ~ expr ~ word t.CloseBrace) (word t.DollarBrace ~ word t.VarName ~ maybe (brackets expr) ~ word t.CloseBrace ||| word t.DollarBrace ~ expr ~ word t.CloseBrace) (second v (word t.DollarBrace ~ word t.VarName ~ maybe (brackets expr) ~ word t.CloseBrace) (word t.DollarBrace ~ expr ~ word t.CloseBrace)))))
+quoted_parts_name_turn v t.VarName =
+    surely v (flat (word t.DollarBrace ~ word t.VarName ~ maybe (brackets expr) ~ word t.CloseBrace) [])
+    qu.quoted_part (other v (flat (word t.DollarBrace ~ word t.VarName ~ maybe (brackets expr) ~ word t.CloseBrace)
+    []) (word t.Piece) (qu.interpolated ||| word t.CurlyOpen ~ expr ~ word t.CloseBrace ||| word t.DollarBrace ~ word
+    t.VarName ~ maybe (brackets expr) ~ word t.CloseBrace ||| word t.DollarBrace ~ expr ~ word t.CloseBrace)
+    (other v (flat (word t.DollarBrace ~ word t.VarName ~ maybe (brackets expr) ~ word t.CloseBrace) [])
+    (qu.interpolated) (word t.CurlyOpen ~ expr ~ word t.CloseBrace ||| word t.DollarBrace ~ word t.VarName ~ maybe
+    (brackets expr) ~ word t.CloseBrace ||| word t.DollarBrace ~ expr ~ word t.CloseBrace)
+    (other v (flat (word t.DollarBrace ~ word t.VarName ~ maybe (brackets expr) ~ word t.CloseBrace) [])
+    (word t.CurlyOpen ~ expr ~ word t.CloseBrace)
+    (word t.DollarBrace ~ word t.VarName ~ maybe (brackets expr) ~ word t.CloseBrace ||| word t.DollarBrace ~ expr ~
+    word t.CloseBrace) (one v (word t.DollarBrace ~ word t.VarName ~ maybe (brackets expr) ~ word t.CloseBrace)
+    (word t.DollarBrace ~ expr ~ word t.CloseBrace)))))
+quoted_parts_name_turn v _ = surely v (flat (word t.DollarBrace ~ expr ~ word t.CloseBrace) []) qu.quoted_part
+    (other v (flat (word t.DollarBrace ~ expr ~ word t.CloseBrace) []) (word t.Piece)
+    (qu.interpolated ||| word t.CurlyOpen ~ expr ~ word t.CloseBrace ||| word t.DollarBrace ~ word t.VarName ~ maybe
+    (brackets expr) ~ word t.CloseBrace ||| word t.DollarBrace ~ expr ~ word t.CloseBrace)
+    (other v (flat (word t.DollarBrace ~ expr ~ word t.CloseBrace) []) (qu.interpolated)
+    (word t.CurlyOpen ~ expr ~ word t.CloseBrace ||| word t.DollarBrace ~ word t.VarName ~ maybe (brackets expr) ~
+    word t.CloseBrace ||| word t.DollarBrace ~ expr ~ word t.CloseBrace)
+    (other v (flat (word t.DollarBrace ~ expr ~ word t.CloseBrace) []) (word t.CurlyOpen ~ expr ~ word t.CloseBrace)
+    (word t.DollarBrace ~ word t.VarName ~ maybe (brackets expr) ~ word t.CloseBrace ||| word t.DollarBrace ~ expr ~
+    word t.CloseBrace) (second v (word t.DollarBrace ~ word t.VarName ~ maybe (brackets expr) ~ word t.CloseBrace)
+    (word t.DollarBrace ~ expr ~ word t.CloseBrace)))))
 
 pub quoted_parts_turn : (v : Version) (x following : Terminal) → Turn v (entries v (fq.quoted_parts x following)) qu.quoted_part
-quoted_parts_turn v t.Piece following = surely v (flat (word t.Piece) []) qu.quoted_part (one v (word t.Piece) (qu.interpolated ||| word t.CurlyOpen ~ expr ~ word t.CloseBrace ||| word t.DollarBrace ~ word t.VarName ~ maybe (brackets expr) ~ word t.CloseBrace ||| word t.DollarBrace ~ expr ~ word t.CloseBrace))
-quoted_parts_turn v t.Variable following = surely v (flat (qu.interpolated) []) qu.quoted_part (other v (flat (qu.interpolated) []) (word t.Piece) (qu.interpolated ||| word t.CurlyOpen ~ expr ~ word t.CloseBrace ||| word t.DollarBrace ~ word t.VarName ~ maybe (brackets expr) ~ word t.CloseBrace ||| word t.DollarBrace ~ expr ~ word t.CloseBrace) (one v (qu.interpolated) (word t.CurlyOpen ~ expr ~ word t.CloseBrace ||| word t.DollarBrace ~ word t.VarName ~ maybe (brackets expr) ~ word t.CloseBrace ||| word t.DollarBrace ~ expr ~ word t.CloseBrace)))
-quoted_parts_turn v t.CurlyOpen following = surely v (flat (word t.CurlyOpen ~ expr ~ word t.CloseBrace) []) qu.quoted_part (other v (flat (word t.CurlyOpen ~ expr ~ word t.CloseBrace) []) (word t.Piece) (qu.interpolated ||| word t.CurlyOpen ~ expr ~ word t.CloseBrace ||| word t.DollarBrace ~ word t.VarName ~ maybe (brackets expr) ~ word t.CloseBrace ||| word t.DollarBrace ~ expr ~ word t.CloseBrace) (other v (flat (word t.CurlyOpen ~ expr ~ word t.CloseBrace) []) (qu.interpolated) (word t.CurlyOpen ~ expr ~ word t.CloseBrace ||| word t.DollarBrace ~ word t.VarName ~ maybe (brackets expr) ~ word t.CloseBrace ||| word t.DollarBrace ~ expr ~ word t.CloseBrace) (one v (word t.CurlyOpen ~ expr ~ word t.CloseBrace) (word t.DollarBrace ~ word t.VarName ~ maybe (brackets expr) ~ word t.CloseBrace ||| word t.DollarBrace ~ expr ~ word t.CloseBrace))))
+quoted_parts_turn v t.Piece following = surely v (flat (word t.Piece) []) qu.quoted_part
+    (one v (word t.Piece) (qu.interpolated ||| word t.CurlyOpen ~ expr ~ word t.CloseBrace ||| word t.DollarBrace ~
+    word t.VarName ~ maybe (brackets expr) ~ word t.CloseBrace ||| word t.DollarBrace ~ expr ~ word t.CloseBrace))
+quoted_parts_turn v t.Variable following = surely v (flat (qu.interpolated) []) qu.quoted_part
+    (other v (flat (qu.interpolated) []) (word t.Piece)
+    (qu.interpolated ||| word t.CurlyOpen ~ expr ~ word t.CloseBrace ||| word t.DollarBrace ~ word t.VarName ~ maybe
+    (brackets expr) ~ word t.CloseBrace ||| word t.DollarBrace ~ expr ~ word t.CloseBrace)
+    (one v (qu.interpolated) (word t.CurlyOpen ~ expr ~ word t.CloseBrace ||| word t.DollarBrace ~ word t.VarName ~
+    maybe (brackets expr) ~ word t.CloseBrace ||| word t.DollarBrace ~ expr ~ word t.CloseBrace)))
+quoted_parts_turn v t.CurlyOpen following = surely v (flat (word t.CurlyOpen ~ expr ~ word t.CloseBrace) [])
+    qu.quoted_part (other v (flat (word t.CurlyOpen ~ expr ~ word t.CloseBrace) []) (word t.Piece)
+    (qu.interpolated ||| word t.CurlyOpen ~ expr ~ word t.CloseBrace ||| word t.DollarBrace ~ word t.VarName ~ maybe
+    (brackets expr) ~ word t.CloseBrace ||| word t.DollarBrace ~ expr ~ word t.CloseBrace)
+    (other v (flat (word t.CurlyOpen ~ expr ~ word t.CloseBrace) []) (qu.interpolated)
+    (word t.CurlyOpen ~ expr ~ word t.CloseBrace ||| word t.DollarBrace ~ word t.VarName ~ maybe (brackets expr) ~
+    word t.CloseBrace ||| word t.DollarBrace ~ expr ~ word t.CloseBrace)
+    (one v (word t.CurlyOpen ~ expr ~ word t.CloseBrace)
+    (word t.DollarBrace ~ word t.VarName ~ maybe (brackets expr) ~ word t.CloseBrace ||| word t.DollarBrace ~ expr ~
+    word t.CloseBrace))))
 quoted_parts_turn v t.DollarBrace following = quoted_parts_name_turn v following
 quoted_parts_turn v _ following = gone v qu.quoted_part

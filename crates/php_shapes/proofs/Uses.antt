@@ -46,7 +46,8 @@ used_is_word t.As f rest p = second_is V83 t.ImportedName f rest p
 used_is_word t.Backslash f rest p = second_is V83 t.ImportedName f rest p
 used_is_word _ f rest p = second_is V83 t.ImportedClass f rest p
 
-pub used_class_once : (v : Version) (x : Terminal) (f : Forest) (rest : List Token) → second_of (leaves f ++ rest) ≡ x → Meet v (entries v (fd.used_class x)) f rest → Meets v sq.used_class f rest
+pub used_class_once : (v : Version) (x : Terminal) (f : Forest) (rest : List Token) → second_of (leaves f ++ rest) ≡ x
+    → Meet v (entries v (fd.used_class x)) f rest → Meets v sq.used_class f rest
 used_class_once V74 x f rest e m = used_74 (first_of rest) f (all_used_74 x f rest m)
 used_class_once V83 x f rest e m =
     let p = used_83 x f rest m in
@@ -68,7 +69,9 @@ grouped_is_word : (x : Terminal) (f : Forest) (rest : List Token) → Fits V83 (
 grouped_is_word t.As f rest p = second_is V83 t.GroupedName f rest p
 grouped_is_word _ f rest p = second_is V83 t.GroupedClass f rest p
 
-pub used_grouped_once : (v : Version) (x : Terminal) (f : Forest) (rest : List Token) → second_of (leaves f ++ rest) ≡ x → Meet v (entries v (fd.used_grouped x)) f rest → Meets v sq.used_grouped f rest
+pub used_grouped_once : (v : Version) (x : Terminal) (f : Forest) (rest : List Token)
+    → second_of (leaves f ++ rest) ≡ x → Meet v (entries v (fd.used_grouped x)) f rest
+    → Meets v sq.used_grouped f rest
 used_grouped_once V74 x f rest e m = grouped_74 (first_of rest) f (all_grouped_74 x f rest m)
 used_grouped_once V83 x f rest e m =
     let p = grouped_83 x f rest m in
@@ -84,7 +87,8 @@ as_nothing : (v : Version) (r : Rule) (a b : Forest) → Fits v r a → Fits v n
 as_nothing v r a b p is_nothing = subst (Fits v r) (sym (none_behind a)) p
 
 -- a name and its alias
-class_by : (v : Version) (x : Terminal) (a b : Forest) → Fits v (used_rule v x) a → Fits v (alias_rule x) b → (is_backslash x ≡ true → ⊥) → Fits v (ns.imported_as_class v) (a +++ b)
+class_by : (v : Version) (x : Terminal) (a b : Forest) → Fits v (used_rule v x) a → Fits v (alias_rule x) b
+    → (is_backslash x ≡ true → ⊥) → Fits v (ns.imported_as_class v) (a +++ b)
 class_by v t.As a b p q guard = is_second (is_both p q refl)
 class_by v t.Backslash a b p q guard = absurd (guard refl)
 class_by v _ a b p q guard = is_first (as_nothing v (na.imported_class v) a b p q)
@@ -108,7 +112,8 @@ comma_no_backslash : (own : Terminal) → same_class t.Comma own ≡ true → is
 comma_no_backslash t.Backslash e = absurd cc
 comma_no_backslash _ e = refl
 
-more_no_backslash : (v : Version) (f : Forest) (rest : List Token) → Fits v (more_classes v) f → is_backslash (first_of rest) ≡ false → is_backslash (first_of (leaves f ++ rest)) ≡ false
+more_no_backslash : (v : Version) (f : Forest) (rest : List Token) → Fits v (more_classes v) f
+    → is_backslash (first_of rest) ≡ false → is_backslash (first_of (leaves f ++ rest)) ≡ false
 more_no_backslash v f rest no_more guard = guard
 more_no_backslash v f rest (once_more {h = b} (is_both {h = a} (is_word {x} p) q e) w d) guard =
     subst (λ (y : Forest). is_backslash (first_of (leaves y ++ rest)) ≡ false) (sym (d ∙ ap (λ (y : Forest). y +++ b) e)) (comma_no_backslash (terminal x) p)
@@ -122,7 +127,9 @@ both : (b : Bool) → b ≡ true → b ≡ false → ⊥
 both true e d = absurd cc
 both false e d = absurd cc
 
-pub more_class_uses_turn : (v : Version) (x : Terminal) (h f : Forest) (rest : List Token) → Meet v (entries v (fd.more_class_uses x)) h (leaves f ++ rest) → 0 < length (leaves h) → Meets v sq.more_class_uses f rest → Meets v sq.more_class_uses (h +++ f) rest
+pub more_class_uses_turn : (v : Version) (x : Terminal) (h f : Forest) (rest : List Token)
+    → Meet v (entries v (fd.more_class_uses x)) h (leaves f ++ rest) → 0 < length (leaves h)
+    → Meets v sq.more_class_uses f rest → Meets v sq.more_class_uses (h +++ f) rest
 more_class_uses_turn v t.Comma h f rest m has ih guard =
     let fits = ih guard in
     let after = leaves f ++ rest in
@@ -137,7 +144,9 @@ more_class_uses_turn v t.Comma h f rest m has ih guard =
     once_more (is_both m.2 class (m.4 ∙ ap (λ (y : Forest). m.0 +++ y) (a.4 ∙ ap (λ (y : Forest). a.0 +++ y) same))) fits refl
 more_class_uses_turn v _ h f rest m has ih guard = absurd (omega (arith, subst (λ (y : Forest). 0 < length (leaves y)) m has))
 
-pub class_use_rest_once : (v : Version) (x : Terminal) (f : Forest) (rest : List Token) → first_of (leaves f ++ rest) ≡ x → Meet v (entries v (fd.class_use_rest x)) f rest → is_backslash (first_of rest) ≡ false → Fits v (use_rest_rule v x) f
+pub class_use_rest_once : (v : Version) (x : Terminal) (f : Forest) (rest : List Token)
+    → first_of (leaves f ++ rest) ≡ x → Meet v (entries v (fd.class_use_rest x)) f rest
+    → is_backslash (first_of rest) ≡ false → Fits v (use_rest_rule v x) f
 class_use_rest_once v t.Backslash f rest e m guard = whole v (word t.Backslash ~ braces (commas_last (ns.grouped_as_class v))) f rest m
 class_use_rest_once v t.As f rest e m guard =
     let a = m.3 in
@@ -154,19 +163,25 @@ class_use_rest_once v x f rest e m guard =
     none_before : (v : Version) (r : Rule) (a b : Forest) → Fits v nothing a → Fits v r b → Fits v r (a +++ b)
     none_before v r a b is_nothing p = p
 
-classes_by : (v : Version) (x : Terminal) (a b : Forest) → Fits v (used_rule v x) a → Fits v (use_rest_rule v x) b → Fits v (commas (ns.imported_as_class v) ||| ns.in_group v (ns.grouped_as_class v)) (a +++ b)
+classes_by : (v : Version) (x : Terminal) (a b : Forest) → Fits v (used_rule v x) a → Fits v (use_rest_rule v x) b
+    → Fits v (commas (ns.imported_as_class v) ||| ns.in_group v (ns.grouped_as_class v)) (a +++ b)
 classes_by v t.Backslash a b p q = is_second (is_both p q refl)
 classes_by v t.As a b p (is_both {g = c} {h = d} q w e) =
     is_first (is_both (is_second (is_both p q refl)) w (ap (λ (y : Forest). a +++ y) e ∙ sym (forest_assoc a c d)))
 classes_by v _ a b p q = is_first (is_both (is_first p) q refl)
 
 -- functions or constants
-named_by : (v : Version) → Gives v (flat (na.imported_name v) (plain (ns.alias ~ many (word t.Comma ~ ns.imported v) ||| word t.Backslash ~ braces (commas_last (ns.grouped_of_kind v))) ∷ [])) (commas (ns.imported v) ||| ns.in_group v (ns.grouped_of_kind v))
+named_by : (v : Version) → Gives v (flat (na.imported_name v)
+    (plain (ns.alias ~ many (word t.Comma ~ ns.imported v) ||| word t.Backslash ~ braces
+    (commas_last (ns.grouped_of_kind v))) ∷ [])) (commas (ns.imported v) ||| ns.in_group v (ns.grouped_of_kind v))
 named_by v f rest m =
     let a = pack v (na.imported_name v) _ f rest m in
     go a.0 a.1 a.2 a.4 (whole v (ns.alias ~ many (word t.Comma ~ ns.imported v) ||| word t.Backslash ~ braces (commas_last (ns.grouped_of_kind v))) a.1 rest a.3)
   where
-    go : (h i : Forest) → Fits v (na.imported_name v) h → f ≡ h +++ i → Fits v (ns.alias ~ many (word t.Comma ~ ns.imported v) ||| word t.Backslash ~ braces (commas_last (ns.grouped_of_kind v))) i → Fits v (commas (ns.imported v) ||| ns.in_group v (ns.grouped_of_kind v)) f
+    go : (h i : Forest) → Fits v (na.imported_name v) h → f ≡ h +++ i
+        → Fits v (ns.alias ~ many (word t.Comma ~ ns.imported v) ||| word t.Backslash ~ braces
+        (commas_last (ns.grouped_of_kind v))) i
+        → Fits v (commas (ns.imported v) ||| ns.in_group v (ns.grouped_of_kind v)) f
     go h i p e (is_first (is_both {g = a} {h = b} q w d)) = is_first (is_both (is_both p q refl) w (e ∙ ap (λ (y : Forest). h +++ y) d ∙ sym (forest_assoc h a b)))
     go h i p e (is_second q) = is_second (is_both p q e)
 

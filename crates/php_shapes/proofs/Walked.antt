@@ -50,21 +50,26 @@ near_in : (v : Version) (s : Sort) (k : NodeKind) (c : Forest) (rest : List Toke
 near_in v s k c rest n = nearest c rest n.ifs n.yields
 
 module _ (v : Version) where
-  word_walked : (c : Terminal) (is : List Item) (t : Token) (f : Forest) (rest : List Token) → (php v).accepts c t ≡ true → Walked v is f rest → Walked v (Word c ∷ is) (leaf t f) rest
+  word_walked : (c : Terminal) (is : List Item) (t : Token) (f : Forest) (rest : List Token)
+      → (php v).accepts c t ≡ true → Walked v is f rest → Walked v (Word c ∷ is) (leaf t f) rest
   word_walked c is t f rest p r = record {
     meet = (leaf t none, f, is_word p, r.meet, refl);
     ifs = follows_leaf is_open_if goes_on_if t f rest r.ifs;
     yields = follows_leaf is_open_yield is_to t f rest r.yields;
   }
 
-  child_walked : (s : Sort) (is : List Item) (k : NodeKind) (c f : Forest) (rest : List Token) → tail v s (k, c) (leaves f ++ rest) ≡ None → Grown v s k c (leaves f ++ rest) → Walked v is f rest → Walked v (Node s ∷ is) (node k c f) rest
+  child_walked : (s : Sort) (is : List Item) (k : NodeKind) (c f : Forest) (rest : List Token)
+      → tail v s (k, c) (leaves f ++ rest) ≡ None → Grown v s k c (leaves f ++ rest) → Walked v is f rest
+      → Walked v (Node s ∷ is) (node k c f) rest
   child_walked s is k c f rest e n r = record {
     meet = unpack_entry v (sorted s) (entries v is) (node k c none) f rest (ends_good v s k c (leaves f ++ rest) n.stands (near_in v s k c (leaves f ++ rest) n) e) r.meet;
     ifs = follows_node is_open_if goes_on_if k c f rest (shut_by is_open_if goes_on_if k c (leaves f ++ rest) n.ifs n.shut.0) r.ifs;
     yields = follows_node is_open_yield is_to k c f rest (shut_by is_open_yield is_to k c (leaves f ++ rest) n.yields n.shut.1) r.yields;
   }
 
-  part_walked : (g : Group) (is : List Item) (h f : Forest) (rest : List Token) → Walked v (parts v g (leaves h ++ (leaves f ++ rest))) h (leaves f ++ rest) → Walked v is f rest → Walked v (Part g ∷ is) (h +++ f) rest
+  part_walked : (g : Group) (is : List Item) (h f : Forest) (rest : List Token)
+      → Walked v (parts v g (leaves h ++ (leaves f ++ rest))) h (leaves f ++ rest) → Walked v is f rest
+      → Walked v (Part g ∷ is) (h +++ f) rest
   part_walked g is h f rest a r = record {
     meet = unpack_entry v (once v g) (entries v is) h f rest (once_meets v g h (leaves f ++ rest) a.meet) r.meet;
     ifs = follows_append is_open_if goes_on_if h f rest a.ifs r.ifs;
@@ -78,7 +83,9 @@ module _ (v : Version) where
     yields = r.yields;
   }
 
-  turn_meet : (g : Group) (is : List Item) (h f : Forest) (rest : List Token) → Meet v (entries v (parts v g (leaves h ++ (leaves f ++ rest)))) h (leaves f ++ rest) → 0 < length (leaves h) → Meet v (entries v (Turns g ∷ is)) f rest → Meet v (entries v (Turns g ∷ is)) (h +++ f) rest
+  turn_meet : (g : Group) (is : List Item) (h f : Forest) (rest : List Token)
+      → Meet v (entries v (parts v g (leaves h ++ (leaves f ++ rest)))) h (leaves f ++ rest) → 0 < length (leaves h)
+      → Meet v (entries v (Turns g ∷ is)) f rest → Meet v (entries v (Turns g ∷ is)) (h +++ f) rest
   turn_meet g is h f rest m has r =
       let b = pack_entry v (turns v g) (entries v is) f rest r in
       let same : leaves f ++ rest ≡ leaves b.0 ++ (leaves b.1 ++ rest) = ap (λ (y : Forest). leaves y ++ rest) b.4 ∙ join b.0 b.1 rest in
@@ -88,14 +95,18 @@ module _ (v : Version) where
       (forest_assoc h b.0 b.1 ∙ ap (λ (y : Forest). h +++ y) (sym b.4))
       (unpack_entry v (turns v g) (entries v is) (h +++ b.0) b.1 rest (turn_meets v g h b.0 (leaves b.1 ++ rest) here has b.2) b.3)
 
-  turn_walked : (g : Group) (i : Item) (js is : List Item) (h f : Forest) (rest : List Token) → parts v g (leaves h ++ (leaves f ++ rest)) ≡ i ∷ js → Walked v (i ∷ js) h (leaves f ++ rest) → 0 < length (leaves h) → Walked v (Turns g ∷ is) f rest → Walked v (Turns g ∷ is) (h +++ f) rest
+  turn_walked : (g : Group) (i : Item) (js is : List Item) (h f : Forest) (rest : List Token)
+      → parts v g (leaves h ++ (leaves f ++ rest)) ≡ i ∷ js → Walked v (i ∷ js) h (leaves f ++ rest)
+      → 0 < length (leaves h) → Walked v (Turns g ∷ is) f rest → Walked v (Turns g ∷ is) (h +++ f) rest
   turn_walked g i js is h f rest p a has r = record {
     meet = turn_meet g is h f rest (subst (λ (ks : List Item). Meet v (entries v ks) h (leaves f ++ rest)) (sym p) a.meet) has r.meet;
     ifs = follows_append is_open_if goes_on_if h f rest a.ifs r.ifs;
     yields = follows_append is_open_yield is_to h f rest a.yields r.yields;
   }
 
-  span_walked : (is : List Item) (h f : Forest) (rest : List Token) → IsFlat h → spanned 0 (leaves h ++ (leaves f ++ rest)) ≡ length (leaves h) → Walked v is f rest → Walked v (Span ∷ is) (h +++ f) rest
+  span_walked : (is : List Item) (h f : Forest) (rest : List Token) → IsFlat h
+      → spanned 0 (leaves h ++ (leaves f ++ rest)) ≡ length (leaves h) → Walked v is f rest
+      → Walked v (Span ∷ is) (h +++ f) rest
   span_walked is h f rest flat p r = record {
     meet = unpack_entry v sq.span (entries v is) h f rest (flat, p) r.meet;
     ifs = follows_append is_open_if goes_on_if h f rest (follows_flat is_open_if goes_on_if h (leaves f ++ rest) flat) r.ifs;
@@ -108,7 +119,9 @@ module _ (v : Version) where
       let x = begun.good c rest a.meet in
       record { stands = x.0; shut = x.1; ifs = a.ifs; yields = a.yields }
 
-  onward_grown : (s : Sort) (j k : NodeKind) (is : List Item) (b f : Forest) (rest : List Token) → tail v s (j, b) (leaves f ++ rest) ≡ Some (k, is) → Grown v s j b (leaves f ++ rest) → Walked v is f rest → Grown v s k (node j b f) rest
+  onward_grown : (s : Sort) (j k : NodeKind) (is : List Item) (b f : Forest) (rest : List Token)
+      → tail v s (j, b) (leaves f ++ rest) ≡ Some (k, is) → Grown v s j b (leaves f ++ rest) → Walked v is f rest
+      → Grown v s k (node j b f) rest
   onward_grown s j k is b f rest p n a =
       let ts = leaves f ++ rest in
       let on : GoesOn v s j b ts (k, is) = subst (λ (o : Option Form). IfSome o (GoesOn v s j b ts)) p (goes_good v s j b ts n.stands (near_in v s j b ts n)) in

@@ -4,14 +4,47 @@ use Rattle.php_tree.specs.declared.kind.NodeKind.TheVariants as k
 use Rattle.php_tree.specs.declared.version.Version.{Version}
 use Rattle.php_terminals.specs.declared.terminal.Terminal.TheVariants as t
 use Rattle.php_shapes.specs.Atoms.{array, arrow, closure, exit, isset, item, list, new, variable}
-use Rattle.php_shapes.specs.Declarations.{class_const, class_declaration, const_declaration, function, interface_declaration, method, param, property, trait_declaration, trait_use, type_name}
+use Rattle.php_shapes.specs.Declarations.{
+  class_const,
+  class_declaration,
+  const_declaration,
+  function,
+  interface_declaration,
+  method,
+  param,
+  property,
+  trait_declaration,
+  trait_use,
+  type_name,
+}
 use Rattle.php_shapes.specs.Names.{name}
 use Rattle.php_shapes.specs.Namespaces.{namespace_declaration, use_declaration}
 use Rattle.php_shapes.specs.Notation.{Rule, word, ◌~◌, expr, parens}
 use Rattle.php_shapes.specs.Operators.{assign, assign_ref, binary, cast, compound_assign, include, instance_of, postfix, prefix, print, short_ternary, ternary, yield}
 use Rattle.php_shapes.specs.Postfixes.{arguments, brace_offset, call, class_constant, method_call, offset, prop, static_call, static_prop}
 use Rattle.php_shapes.specs.Quoted.{quoted}
-use Rattle.php_shapes.specs.Statements.{block, case_of, declare_statement, do_while, echo, for_loop, foreach_loop, global, goto_statement, if_colons, if_else, jump, label, return, statics, switch, throw, try_statement, unset, while_loop}
+use Rattle.php_shapes.specs.Statements.{
+  block,
+  case_of,
+  declare_statement,
+  do_while,
+  echo,
+  for_loop,
+  foreach_loop,
+  global,
+  goto_statement,
+  if_colons,
+  if_else,
+  jump,
+  label,
+  return,
+  statics,
+  switch,
+  throw,
+  try_statement,
+  unset,
+  while_loop,
+}
 
 -- what the parts of a node of a kind are
 abbrev pub form : Version → NodeKind → Rule

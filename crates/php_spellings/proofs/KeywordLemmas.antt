@@ -21,7 +21,10 @@ word_other [] (b ∷ bs) h = refl
 word_other (a ∷ w) [] h = refl
 word_other (a ∷ w) (b ∷ bs) h = rw (word_other w bs (λ e. h (omega arith))) (and_false (nat_eq a (lower b)))
 
-by_head : (b : ℕ) (bs : List ℕ) (a : ℕ) (w : List ℕ) (ws : List (List ℕ)) → is_word_of ws (b ∷ bs) ≡ is_word_of (words_by (lower b) ws) (b ∷ bs) → (t : Bool) → nat_eq a (lower b) ≡ t → is_word_of ((a ∷ w) ∷ ws) (b ∷ bs) ≡ is_word_of (cond t ((a ∷ w) ∷ words_by (lower b) ws) (words_by (lower b) ws)) (b ∷ bs)
+by_head : (b : ℕ) (bs : List ℕ) (a : ℕ) (w : List ℕ) (ws : List (List ℕ))
+    → is_word_of ws (b ∷ bs) ≡ is_word_of (words_by (lower b) ws) (b ∷ bs) → (t : Bool) → nat_eq a (lower b) ≡ t
+    → is_word_of ((a ∷ w) ∷ ws) (b ∷ bs) ≡ is_word_of
+    (cond t ((a ∷ w) ∷ words_by (lower b) ws) (words_by (lower b) ws)) (b ∷ bs)
 by_head b bs a w ws ih true e = rw ih refl
 by_head b bs a w ws ih false e = rw (e, ih) refl
 
@@ -54,14 +57,17 @@ and_second : (x y : Bool) → (x && y) ≡ true → y ≡ true
 and_second true y e = e
 and_second false y e = absurd cc
 
-none_by : (b : ℕ) → has_letter letters b ≡ false → (a : ℕ) (w : List ℕ) (ws : List (List ℕ)) → has_letter letters a ≡ true → words_by b ws ≡ [] → (t : Bool) → nat_eq a b ≡ t → cond t ((a ∷ w) ∷ words_by b ws) (words_by b ws) ≡ []
+none_by : (b : ℕ) → has_letter letters b ≡ false → (a : ℕ) (w : List ℕ) (ws : List (List ℕ))
+    → has_letter letters a ≡ true → words_by b ws ≡ [] → (t : Bool) → nat_eq a b ≡ t
+    → cond t ((a ∷ w) ∷ words_by b ws) (words_by b ws) ≡ []
 none_by b h a w ws e rest true p = let same : a ≡ b = eqb-true a b p in let clash : true ≡ false = sym e ∙ ap (has_letter letters) same ∙ h in absurd cc
 none_by b h a w ws e rest false p = rest
 
 none_among : (b : ℕ) → has_letter letters b ≡ false → (ws : List (List ℕ)) → all_begin ws ≡ true → words_by b ws ≡ []
 none_among b h [] e = refl
 none_among b h ([] ∷ ws) e = none_among b h ws e
-none_among b h ((a ∷ w) ∷ ws) e = none_by b h a w ws (and_first (has_letter letters a) (all_begin ws) e) (none_among b h ws (and_second (has_letter letters a) (all_begin ws) e)) (nat_eq a b) refl
+none_among b h ((a ∷ w) ∷ ws) e = none_by b h a w ws (and_first (has_letter letters a) (all_begin ws) e)
+    (none_among b h ws (and_second (has_letter letters a) (all_begin ws) e)) (nat_eq a b) refl
 
 pub none_by_letter : (b : ℕ) → has_letter letters b ≡ false → words_by b keywords ≡ []
 none_by_letter b h = none_among b h keywords refl

@@ -13,7 +13,9 @@ drop_end (b ∷ bs) (suc i) le = drop_end bs i (omega arith)
 
 -- ---- words
 
-by_step : (f : ℕ → ℕ) (w bs : List ℕ) (i : ℕ) → i < length w → i < length bs → nat_eq (get_or w i 0) (f (get_or bs i 0)) ≡ true → starts_by f (drop i w) (drop i bs) ≡ starts_by f (drop (i + 1) w) (drop (i + 1) bs)
+by_step : (f : ℕ → ℕ) (w bs : List ℕ) (i : ℕ) → i < length w → i < length bs
+    → nat_eq (get_or w i 0) (f (get_or bs i 0)) ≡ true → starts_by f (drop i w) (drop i bs) ≡ starts_by f
+    (drop (i + 1) w) (drop (i + 1) bs)
 by_step f w bs i lw lb e = let p = split w i lw in let q = split bs i lb in rw (p, q, e) refl
 
 by_short : (f : ℕ → ℕ) (w bs : List ℕ) (i : ℕ) → i < length w → length bs ≤ i → starts_by f (drop i w) (drop i bs) ≡ false
@@ -25,7 +27,9 @@ by_differ f w bs i lw lb e = let p = split w i lw in let q = split bs i lb in rw
 by_end : (f : ℕ → ℕ) (w bs : List ℕ) (i : ℕ) → length w ≤ i → starts_by f (drop i w) (drop i bs) ≡ true
 by_end f w bs i le = let p = drop_end w i le in rw p refl
 
-pub starts_step : (w bs : List ℕ) (i : ℕ) → i < length w → i < length bs → nat_eq (get_or w i 0) (get_or bs i 0) ≡ true → starts (drop i w) (drop i bs) ≡ starts (drop (i + 1) w) (drop (i + 1) bs)
+pub starts_step : (w bs : List ℕ) (i : ℕ) → i < length w → i < length bs
+    → nat_eq (get_or w i 0) (get_or bs i 0) ≡ true → starts (drop i w) (drop i bs) ≡ starts (drop (i + 1) w)
+    (drop (i + 1) bs)
 starts_step w bs i lw lb e = by_step as_it_is w bs i lw lb e
 
 pub starts_short : (w bs : List ℕ) (i : ℕ) → i < length w → length bs ≤ i → starts (drop i w) (drop i bs) ≡ false
@@ -37,7 +41,9 @@ starts_differ w bs i lw lb e = by_differ as_it_is w bs i lw lb e
 pub starts_end : (w bs : List ℕ) (i : ℕ) → length w ≤ i → starts (drop i w) (drop i bs) ≡ true
 starts_end w bs i le = by_end as_it_is w bs i le
 
-pub word_step : (w bs : List ℕ) (i : ℕ) → i < length w → i < length bs → nat_eq (get_or w i 0) (lower (get_or bs i 0)) ≡ true → starts_word (drop i w) (drop i bs) ≡ starts_word (drop (i + 1) w) (drop (i + 1) bs)
+pub word_step : (w bs : List ℕ) (i : ℕ) → i < length w → i < length bs
+    → nat_eq (get_or w i 0) (lower (get_or bs i 0)) ≡ true → starts_word (drop i w) (drop i bs) ≡ starts_word
+    (drop (i + 1) w) (drop (i + 1) bs)
 word_step w bs i lw lb e = by_step lower w bs i lw lb e
 
 pub word_short : (w bs : List ℕ) (i : ℕ) → i < length w → length bs ≤ i → starts_word (drop i w) (drop i bs) ≡ false

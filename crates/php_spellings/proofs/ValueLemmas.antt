@@ -21,10 +21,13 @@ value_grows base h value (b ∷ bs) =
     let more : value_step base value b ≤ value_from base (value_step base value b) bs = value_grows base h (value_step base value b) bs in
     omega arith
 
-pub value_more : (base value : ℕ) (bs : List ℕ) (i : ℕ) → i < length bs → value_from base value (drop i bs) ≡ value_from base (value_step base value (get_or bs i 0)) (drop (i + 1) bs)
+pub value_more : (base value : ℕ) (bs : List ℕ) (i : ℕ) → i < length bs
+    → value_from base value (drop i bs) ≡ value_from base (value_step base value (get_or bs i 0)) (drop (i + 1) bs)
 value_more base value bs i lt = let p = split bs i lt in rw p refl
 
-pub value_past : (base value : ℕ) (bs : List ℕ) (i : ℕ) → 1 ≤ base → i < length bs → greatest_int < value_step base value (get_or bs i 0) → nat_le (value_from base value (drop i bs)) greatest_int ≡ false
+pub value_past : (base value : ℕ) (bs : List ℕ) (i : ℕ) → 1 ≤ base → i < length bs
+    → greatest_int < value_step base value (get_or bs i 0) → nat_le (value_from base value (drop i bs)) greatest_int ≡
+    false
 value_past base value bs i h lt past =
     let more = value_grows base h (value_step base value (get_or bs i 0)) (drop (i + 1) bs) in
     let same = value_more base value bs i lt in

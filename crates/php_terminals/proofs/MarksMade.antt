@@ -1,5 +1,31 @@
 -- Tokens as places in the bytes that they are, joined.
-use Rattle.std.proofs.Common.{◌≡◌, ℕ, zero, suc, ◌+◌, ◌-◌, ◌<◌, ◌≤◌, List, [], ◌∷◌, ◌++◌, length, take, drop, map, All, get_or, slice_range, refl, sym, ap, ◌∙◌, append_assoc, arith}
+use Rattle.std.proofs.Common.{
+  ◌≡◌,
+  ℕ,
+  zero,
+  suc,
+  ◌+◌,
+  ◌-◌,
+  ◌<◌,
+  ◌≤◌,
+  List,
+  [],
+  ◌∷◌,
+  ◌++◌,
+  length,
+  take,
+  drop,
+  map,
+  All,
+  get_or,
+  slice_range,
+  refl,
+  sym,
+  ap,
+  ◌∙◌,
+  append_assoc,
+  arith,
+}
 use Rattle.std.proofs.lemmas.List.{length-append, drop_more, drop_all, append-nil, map-append}
 use Rattle.std.proofs.lemmas.List.Elements.{All-append}
 use Rattle.std.proofs.Math.Seq.{take-append_seam}
@@ -48,7 +74,8 @@ pub record Marking (bytes : List ℕ) (all left : List Token) (at : ℕ) (marks 
 pub marking_first : (bytes : List ℕ) (all : List Token) → bytes ≡ tokens_bytes all → Marking bytes all all 0 []
 marking_first bytes all e = record { before = []; joined = e; far = refl; are = λ k d lt. absurd (omega arith); same = refl }
 
-pub marking_room : (bytes : List ℕ) (all left : List Token) (t : Token) (ts : List Token) (at : ℕ) (marks : List Mark) → left ≡ t ∷ ts → Marking bytes all left at marks → at + length t.lead + length t.text ≤ length bytes
+pub marking_room : (bytes : List ℕ) (all left : List Token) (t : Token) (ts : List Token) (at : ℕ) (marks : List Mark)
+    → left ≡ t ∷ ts → Marking bytes all left at marks → at + length t.lead + length t.text ≤ length bytes
 marking_room bytes all left t ts at marks e m =
     let f = m.far in
     let l = ap length m.joined in
@@ -58,7 +85,10 @@ marking_room bytes all left t ts at marks e m =
     let l4 = length-append t.lead t.text in
     omega arith
 
-token_is : (bytes before : List ℕ) (t : Token) (ts : List Token) (m : Mark) (at : ℕ) → bytes ≡ before ++ (token_bytes t ++ tokens_bytes ts) → at ≡ length before → m.kind ≡ t.kind → m.lead ≡ at → m.start ≡ at + length t.lead → m.end ≡ at + length t.lead + length t.text → token_at bytes m ≡ places.token_at at t
+token_is : (bytes before : List ℕ) (t : Token) (ts : List Token) (m : Mark) (at : ℕ) → bytes ≡ before
+    ++ (token_bytes t ++ tokens_bytes ts) → at ≡ length before → m.kind ≡ t.kind → m.lead ≡ at
+    → m.start ≡ at + length t.lead → m.end ≡ at + length t.lead + length t.text
+    → token_at bytes m ≡ places.token_at at t
 token_is bytes before t ts m at e f k l s n =
     let lead : slice_range bytes m.lead m.start ≡ t.lead =
     rw (e, append_assoc t.lead t.text (tokens_bytes ts)) (part_is before t.lead (t.text ++ tokens_bytes ts) m.lead m.start (l ∙ f) (omega arith)) in
@@ -67,7 +97,10 @@ token_is bytes before t ts m at e f k l s n =
     (part_is (before ++ t.lead) t.text (tokens_bytes ts) m.start m.end (omega (arith, length-append before t.lead)) (omega arith)) in
     rw (k, lead, text, s) refl
 
-pub marking_more : (bytes : List ℕ) (all left : List Token) (t : Token) (ts : List Token) (at : ℕ) (marks news : List Mark) (m : Mark) → left ≡ t ∷ ts → IsMark bytes m → m.kind ≡ t.kind → m.lead ≡ at → m.start ≡ at + length t.lead → m.end ≡ at + length t.lead + length t.text → news ≡ marks ++ m ∷ [] → Marking bytes all left at marks → Marking bytes all ts (at + length t.lead + length t.text) news
+pub marking_more : (bytes : List ℕ) (all left : List Token) (t : Token) (ts : List Token) (at : ℕ)
+    (marks news : List Mark) (m : Mark) → left ≡ t ∷ ts → IsMark bytes m → m.kind ≡ t.kind → m.lead ≡ at
+    → m.start ≡ at + length t.lead → m.end ≡ at + length t.lead + length t.text → news ≡ marks ++ m ∷ []
+    → Marking bytes all left at marks → Marking bytes all ts (at + length t.lead + length t.text) news
 marking_more bytes all left t ts at marks news m e i k l s n p w =
     let f = w.far in
     let whole : bytes ≡ w.before ++ (token_bytes t ++ tokens_bytes ts) = w.joined ∙ ap (λ (us : List Token). w.before ++ tokens_bytes us) e in
@@ -79,15 +112,26 @@ marking_more bytes all left t ts at marks news m e i k l s n p w =
       joined = whole ∙ sym (append_assoc w.before (token_bytes t) (tokens_bytes ts));
       far = omega arith;
       are = rw p (All-append (IsMark bytes) marks (m ∷ []) w.are (all_one bytes m i));
-      same = w.same ∙ rw (e, p, map-append (token_at bytes) marks (m ∷ []), append_assoc (map (token_at bytes) marks) (token_at bytes m ∷ []) (in_place (at + length t.lead + length t.text) ts), is) refl;
+      same = w.same ∙ rw (
+        e,
+        p,
+        map-append (token_at bytes) marks (m ∷ []),
+        append_assoc (map (token_at bytes) marks) (token_at bytes m ∷ [])
+            (in_place (at + length t.lead + length t.text) ts),
+        is,
+      ) refl;
     }
 
 pub marking_ends : (bytes : List ℕ) (all left : List Token) (at : ℕ) (marks : List Mark) → left ≡ [] → Marking bytes all left at marks → map (token_at bytes) marks ≡ in_place 0 all
 marking_ends bytes all left at marks e w = sym (w.same ∙ ap (λ (us : List Token). map (token_at bytes) marks ++ in_place at us) e ∙ append-nil (map (token_at bytes) marks))
 
 -- the bytes of the first tokens, and of the others
-pub joined_more : (bytes news : List ℕ) (all left : List Token) (t : Token) (ts : List Token) → left ≡ t ∷ ts → news ≡ bytes ++ token_bytes t → bytes ++ tokens_bytes left ≡ tokens_bytes all → news ++ tokens_bytes ts ≡ tokens_bytes all
-joined_more bytes news all left t ts e p w = ap (λ (x : List ℕ). x ++ tokens_bytes ts) p ∙ append_assoc bytes (token_bytes t) (tokens_bytes ts) ∙ ap (λ (us : List Token). bytes ++ tokens_bytes us) (sym e) ∙ w
+pub joined_more : (bytes news : List ℕ) (all left : List Token) (t : Token) (ts : List Token) → left ≡ t ∷ ts
+    → news ≡ bytes ++ token_bytes t → bytes ++ tokens_bytes left ≡ tokens_bytes all → news
+    ++ tokens_bytes ts ≡ tokens_bytes all
+joined_more bytes news all left t ts e p w = ap (λ (x : List ℕ). x ++ tokens_bytes ts) p
+    ∙ append_assoc bytes (token_bytes t) (tokens_bytes ts) ∙ ap (λ (us : List Token). bytes ++ tokens_bytes us)
+    (sym e) ∙ w
 
 pub joined_ends : (bytes : List ℕ) (all left : List Token) → left ≡ [] → bytes ++ tokens_bytes left ≡ tokens_bytes all → bytes ≡ tokens_bytes all
 joined_ends bytes all left e w = sym (append-nil bytes) ∙ ap (λ (us : List Token). bytes ++ tokens_bytes us) (sym e) ∙ w

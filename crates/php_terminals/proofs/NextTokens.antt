@@ -1,5 +1,31 @@
 -- The next token among those of a file, and what it makes of the questions on those that come.
-use Rattle.std.proofs.Common.{◌≡◌, ℕ, suc, ◌+◌, ◌-◌, ◌<◌, ◌≤◌, true, false, nat_le, nat_eq, List, ◌∷◌, length, map, take, drop, get_or, refl, sym, ap, ◌∙◌, drop-cons, add-one, arith}
+use Rattle.std.proofs.Common.{
+  ◌≡◌,
+  ℕ,
+  suc,
+  ◌+◌,
+  ◌-◌,
+  ◌<◌,
+  ◌≤◌,
+  true,
+  false,
+  nat_le,
+  nat_eq,
+  List,
+  ◌∷◌,
+  length,
+  map,
+  take,
+  drop,
+  get_or,
+  refl,
+  sym,
+  ap,
+  ◌∙◌,
+  drop-cons,
+  add-one,
+  arith,
+}
 use Rattle.std.specs.List.{prefix_len}
 use Rattle.std.proofs.lemmas.List.{drop-map}
 use Rattle.std.proofs.lemmas.List.Elements.{All-get_or}
@@ -28,7 +54,9 @@ abbrev next_of : Tokens → ℕ → Token
 next_of ts i = token_at ts.bytes.now (get_or ts.marks.now i no_mark)
 
 next_token : (ts : Tokens) (i : ℕ) → i < length ts.marks.now → drop i (tokens_in ts) ≡ next_of ts i ∷ drop (i + 1) (tokens_in ts)
-next_token ts i lt = rw add-one (drop-map (token_at ts.bytes.now) i ts.marks.now ∙ ap (map (token_at ts.bytes.now)) (drop-cons ts.marks.now i no_mark lt) ∙ ap (λ (u : List Token). next_of ts i ∷ u) (sym (drop-map (token_at ts.bytes.now) (suc i) ts.marks.now)))
+next_token ts i lt = rw add-one (drop-map (token_at ts.bytes.now) i ts.marks.now
+    ∙ ap (map (token_at ts.bytes.now)) (drop-cons ts.marks.now i no_mark lt)
+    ∙ ap (λ (u : List Token). next_of ts i ∷ u) (sym (drop-map (token_at ts.bytes.now) (suc i) ts.marks.now)))
 
 next_class : (ts : Tokens) (i : ℕ) → i < length ts.marks.now → class_at ts i ≡ terminal (next_of ts i)
 next_class ts i lt = (All-get_or (IsMark ts.bytes.now) ts.marks.now i no_mark lt ts.marked).class
@@ -59,7 +87,8 @@ dollars_more ts i lt h = ap dollars (next_token ts i lt) ∙ dollar_then (next_o
 pub dollars_end : (ts : Tokens) (i : ℕ) → i < length ts.marks.now → is_dollar (class_at ts i) ≡ false → dollars (drop i (tokens_in ts)) ≡ 0
 dollars_end ts i lt h = ap dollars (next_token ts i lt) ∙ dollar_not (next_of ts i) (drop (i + 1) (tokens_in ts)) (ap is_dollar (sym (next_class ts i lt)) ∙ h)
 
-pub name_more : (ts : Tokens) (i : ℕ) → i < length ts.marks.now → is_name_part (class_at ts i) ≡ true → name_len (drop i (tokens_in ts)) ≡ 1 + name_len (drop (i + 1) (tokens_in ts))
+pub name_more : (ts : Tokens) (i : ℕ) → i < length ts.marks.now → is_name_part (class_at ts i) ≡ true
+    → name_len (drop i (tokens_in ts)) ≡ 1 + name_len (drop (i + 1) (tokens_in ts))
 name_more ts i lt h = ap name_len (next_token ts i lt) ∙ name_then (next_of ts i) (drop (i + 1) (tokens_in ts)) (ap is_name_part (sym (next_class ts i lt)) ∙ h)
 
 pub name_end : (ts : Tokens) (i : ℕ) → i < length ts.marks.now → is_name_part (class_at ts i) ≡ false → name_len (drop i (tokens_in ts)) ≡ 0
@@ -76,26 +105,52 @@ more_than_one n h = grind (arith, nat_tests)
 some : (n : ℕ) → 0 < n → nat_eq n 0 ≡ false
 some n h = grind (arith, nat_tests)
 
-pub past_open : (ts : Tokens) (i n : ℕ) → i < length ts.marks.now → opens (class_at ts i) ≡ true → past_group n (drop i (tokens_in ts)) ≡ past_group (n + 1) (drop (i + 1) (tokens_in ts))
+pub past_open : (ts : Tokens) (i n : ℕ) → i < length ts.marks.now → opens (class_at ts i) ≡ true
+    → past_group n (drop i (tokens_in ts)) ≡ past_group (n + 1) (drop (i + 1) (tokens_in ts))
 past_open ts i n lt h = ap (past_group n) (next_token ts i lt) ∙ (let e : opens (terminal (next_of ts i)) ≡ true = ap opens (sym (next_class ts i lt)) ∙ h in rw e refl)
 
-pub past_plain : (ts : Tokens) (i n : ℕ) → i < length ts.marks.now → opens (class_at ts i) ≡ false → closes (class_at ts i) ≡ false → past_group n (drop i (tokens_in ts)) ≡ past_group n (drop (i + 1) (tokens_in ts))
-past_plain ts i n lt g h = ap (past_group n) (next_token ts i lt) ∙ (let d : opens (terminal (next_of ts i)) ≡ false = ap opens (sym (next_class ts i lt)) ∙ g in let e : closes (terminal (next_of ts i)) ≡ false = ap closes (sym (next_class ts i lt)) ∙ h in rw (d, e) refl)
+pub past_plain : (ts : Tokens) (i n : ℕ) → i < length ts.marks.now → opens (class_at ts i) ≡ false
+    → closes (class_at ts i) ≡ false → past_group n (drop i (tokens_in ts)) ≡ past_group n
+    (drop (i + 1) (tokens_in ts))
+past_plain ts i n lt g h = ap (past_group n) (next_token ts i lt)
+    ∙ (let d : opens (terminal (next_of ts i)) ≡ false = ap opens (sym (next_class ts i lt)) ∙ g
+    in let e : closes (terminal (next_of ts i)) ≡ false = ap closes (sym (next_class ts i lt)) ∙ h in rw (d, e) refl)
 
-pub past_last : (ts : Tokens) (i n : ℕ) → i < length ts.marks.now → n ≤ 1 → opens (class_at ts i) ≡ false → closes (class_at ts i) ≡ true → past_group n (drop i (tokens_in ts)) ≡ drop (i + 1) (tokens_in ts)
-past_last ts i n lt le g h = ap (past_group n) (next_token ts i lt) ∙ (let d : opens (terminal (next_of ts i)) ≡ false = ap opens (sym (next_class ts i lt)) ∙ g in let e : closes (terminal (next_of ts i)) ≡ true = ap closes (sym (next_class ts i lt)) ∙ h in rw (d, e, le_one n le) refl)
+pub past_last : (ts : Tokens) (i n : ℕ) → i < length ts.marks.now → n ≤ 1 → opens (class_at ts i) ≡ false
+    → closes (class_at ts i) ≡ true → past_group n (drop i (tokens_in ts)) ≡ drop (i + 1) (tokens_in ts)
+past_last ts i n lt le g h = ap (past_group n) (next_token ts i lt)
+    ∙ (let d : opens (terminal (next_of ts i)) ≡ false = ap opens (sym (next_class ts i lt)) ∙ g
+    in let e : closes (terminal (next_of ts i)) ≡ true = ap closes (sym (next_class ts i lt)) ∙ h
+    in rw (d, e, le_one n le) refl)
 
-pub past_close : (ts : Tokens) (i n : ℕ) → i < length ts.marks.now → 1 < n → opens (class_at ts i) ≡ false → closes (class_at ts i) ≡ true → past_group n (drop i (tokens_in ts)) ≡ past_group (n - 1) (drop (i + 1) (tokens_in ts))
-past_close ts i n lt more g h = ap (past_group n) (next_token ts i lt) ∙ (let d : opens (terminal (next_of ts i)) ≡ false = ap opens (sym (next_class ts i lt)) ∙ g in let e : closes (terminal (next_of ts i)) ≡ true = ap closes (sym (next_class ts i lt)) ∙ h in rw (d, e, more_than_one n more) refl)
+pub past_close : (ts : Tokens) (i n : ℕ) → i < length ts.marks.now → 1 < n → opens (class_at ts i) ≡ false
+    → closes (class_at ts i) ≡ true → past_group n (drop i (tokens_in ts)) ≡ past_group (n - 1)
+    (drop (i + 1) (tokens_in ts))
+past_close ts i n lt more g h = ap (past_group n) (next_token ts i lt)
+    ∙ (let d : opens (terminal (next_of ts i)) ≡ false = ap opens (sym (next_class ts i lt)) ∙ g
+    in let e : closes (terminal (next_of ts i)) ≡ true = ap closes (sym (next_class ts i lt)) ∙ h
+    in rw (d, e, more_than_one n more) refl)
 
-pub span_open : (ts : Tokens) (i n : ℕ) → i < length ts.marks.now → opens (class_at ts i) ≡ true → spanned n (drop i (tokens_in ts)) ≡ suc (spanned (n + 1) (drop (i + 1) (tokens_in ts)))
+pub span_open : (ts : Tokens) (i n : ℕ) → i < length ts.marks.now → opens (class_at ts i) ≡ true
+    → spanned n (drop i (tokens_in ts)) ≡ suc (spanned (n + 1) (drop (i + 1) (tokens_in ts)))
 span_open ts i n lt h = ap (spanned n) (next_token ts i lt) ∙ (let e : opens (terminal (next_of ts i)) ≡ true = ap opens (sym (next_class ts i lt)) ∙ h in rw e refl)
 
-pub span_plain : (ts : Tokens) (i n : ℕ) → i < length ts.marks.now → opens (class_at ts i) ≡ false → closes (class_at ts i) ≡ false → spanned n (drop i (tokens_in ts)) ≡ suc (spanned n (drop (i + 1) (tokens_in ts)))
-span_plain ts i n lt g h = ap (spanned n) (next_token ts i lt) ∙ (let d : opens (terminal (next_of ts i)) ≡ false = ap opens (sym (next_class ts i lt)) ∙ g in let e : closes (terminal (next_of ts i)) ≡ false = ap closes (sym (next_class ts i lt)) ∙ h in rw (d, e) refl)
+pub span_plain : (ts : Tokens) (i n : ℕ) → i < length ts.marks.now → opens (class_at ts i) ≡ false
+    → closes (class_at ts i) ≡ false → spanned n (drop i (tokens_in ts)) ≡ suc
+    (spanned n (drop (i + 1) (tokens_in ts)))
+span_plain ts i n lt g h = ap (spanned n) (next_token ts i lt)
+    ∙ (let d : opens (terminal (next_of ts i)) ≡ false = ap opens (sym (next_class ts i lt)) ∙ g
+    in let e : closes (terminal (next_of ts i)) ≡ false = ap closes (sym (next_class ts i lt)) ∙ h in rw (d, e) refl)
 
 pub span_end : (ts : Tokens) (i : ℕ) → i < length ts.marks.now → opens (class_at ts i) ≡ false → closes (class_at ts i) ≡ true → spanned 0 (drop i (tokens_in ts)) ≡ 0
-span_end ts i lt g h = ap (spanned 0) (next_token ts i lt) ∙ (let d : opens (terminal (next_of ts i)) ≡ false = ap opens (sym (next_class ts i lt)) ∙ g in let e : closes (terminal (next_of ts i)) ≡ true = ap closes (sym (next_class ts i lt)) ∙ h in rw (d, e) refl)
+span_end ts i lt g h = ap (spanned 0) (next_token ts i lt) ∙
+    (let d : opens (terminal (next_of ts i)) ≡ false = ap opens (sym (next_class ts i lt)) ∙ g
+    in let e : closes (terminal (next_of ts i)) ≡ true = ap closes (sym (next_class ts i lt)) ∙ h in rw (d, e) refl)
 
-pub span_close : (ts : Tokens) (i n : ℕ) → i < length ts.marks.now → 0 < n → opens (class_at ts i) ≡ false → closes (class_at ts i) ≡ true → spanned n (drop i (tokens_in ts)) ≡ suc (spanned (n - 1) (drop (i + 1) (tokens_in ts)))
-span_close ts i n lt more g h = ap (spanned n) (next_token ts i lt) ∙ (let d : opens (terminal (next_of ts i)) ≡ false = ap opens (sym (next_class ts i lt)) ∙ g in let e : closes (terminal (next_of ts i)) ≡ true = ap closes (sym (next_class ts i lt)) ∙ h in rw (d, e, some n more) refl)
+pub span_close : (ts : Tokens) (i n : ℕ) → i < length ts.marks.now → 0 < n → opens (class_at ts i) ≡ false
+    → closes (class_at ts i) ≡ true → spanned n (drop i (tokens_in ts)) ≡ suc
+    (spanned (n - 1) (drop (i + 1) (tokens_in ts)))
+span_close ts i n lt more g h = ap (spanned n) (next_token ts i lt)
+    ∙ (let d : opens (terminal (next_of ts i)) ≡ false = ap opens (sym (next_class ts i lt)) ∙ g
+    in let e : closes (terminal (next_of ts i)) ≡ true = ap closes (sym (next_class ts i lt)) ∙ h
+    in rw (d, e, some n more) refl)

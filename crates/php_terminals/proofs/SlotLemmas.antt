@@ -61,7 +61,8 @@ same_last : (a b : ℕ) (w t : List ℕ) → to_ascii_lowercase a ≡ to_ascii_l
 same_last a b [] [] e l h = e
 same_last a b [] (d ∷ ds) e l h = absurd cc
 same_last a b (c ∷ cs) [] e l h = absurd cc
-same_last a b (c ∷ cs) (d ∷ ds) e l h = same_last c d cs ds (lower_head c cs l ∙ same_head c d cs ds h) (lower_tail c cs l) (and_right (nat_eq c (to_ascii_lowercase d)) (is_word cs ds) h)
+same_last a b (c ∷ cs) (d ∷ ds) e l h = same_last c d cs ds (lower_head c cs l ∙ same_head c d cs ds h)
+    (lower_tail c cs l) (and_right (nat_eq c (to_ascii_lowercase d)) (is_word cs ds) h)
 
 same_slot : (w t : List ℕ) → is_lower w ≡ true → is_word w t ≡ true → slot w ≡ slot t
 same_slot [] [] l h = refl
@@ -82,7 +83,9 @@ no_row = (record { ref_ptr = (0, 0); now = [] }, t.InlineHtml)
 abbrev seen : Bor (List ℕ) × Terminal → List ℕ × Terminal
 seen r = (r.0.now, r.1)
 
-pub row_is_class : (other : Terminal) (rows : List (Bor (List ℕ) × Terminal)) (place : ℕ) (text : List ℕ) → place < length rows → (b : Bool) → is_word (get_or rows place no_row).0.now text ≡ b → cond b (get_or rows place no_row).1 other ≡ row_class other (rows_of rows) place text
+pub row_is_class : (other : Terminal) (rows : List (Bor (List ℕ) × Terminal)) (place : ℕ) (text : List ℕ)
+    → place < length rows → (b : Bool) → is_word (get_or rows place no_row).0.now text ≡ b
+    → cond b (get_or rows place no_row).1 other ≡ row_class other (rows_of rows) place text
 row_is_class other rows place text lt b h =
     let none : List ℕ × Terminal = ([], t.End) in
     let m : row_at (rows_of rows) place ≡ seen (get_or rows place no_row) = get_or-map seen rows place no_row none lt in
@@ -116,14 +119,18 @@ tail_is x y xs ys e = ap (λ (l : Rows). rest_of l) e
     rest_of (r ∷ rs) = rs
 
 -- the row of a text that some row's word is
-row_found : (rows : Rows) (places : List ℕ) (r : List ℕ × Terminal) (text : List ℕ) → is_lower r.0 ≡ true → row_at rows (place_of places r.0) ≡ r → is_word r.0 text ≡ true → row_at rows (place_of places text) ≡ r
+row_found : (rows : Rows) (places : List ℕ) (r : List ℕ × Terminal) (text : List ℕ) → is_lower r.0 ≡ true
+    → row_at rows (place_of places r.0) ≡ r → is_word r.0 text ≡ true → row_at rows (place_of places text) ≡ r
 row_found rows places r text l at h = ap (λ (n : ℕ). row_at rows (get_or places n 0)) (sym (same_slot r.0 text l h)) ∙ at
 
 -- some rows, where the row of the text has another word: none of them is the text's
-none_found : (other : Terminal) (rows : Rows) (places : List ℕ) (text : List ℕ) → is_word (row_at rows (place_of places text)).0 text ≡ false → (rs : Rows) → all_lower rs ≡ true → found_rows rows places rs ≡ rs → find_row other rs text ≡ other
+none_found : (other : Terminal) (rows : Rows) (places : List ℕ) (text : List ℕ)
+    → is_word (row_at rows (place_of places text)).0 text ≡ false → (rs : Rows) → all_lower rs ≡ true
+    → found_rows rows places rs ≡ rs → find_row other rs text ≡ other
 none_found other rows places text differs [] l at = refl
 none_found other rows places text differs (r ∷ rs) l at =
-    by_case (none_found other rows places text differs rs (and_right (is_lower r.0) (all_lower rs) l) (tail_is (row_at rows (place_of places r.0)) r (found_rows rows places rs) rs at)) (is_word r.0 text) refl
+    by_case (none_found other rows places text differs rs (and_right (is_lower r.0) (all_lower rs) l)
+    (tail_is (row_at rows (place_of places r.0)) r (found_rows rows places rs) rs at)) (is_word r.0 text) refl
   where
     by_case : find_row other rs text ≡ other → (b : Bool) → is_word r.0 text ≡ b → find_row other (r ∷ rs) text ≡ other
     by_case ih true e =
@@ -136,10 +143,14 @@ abbrev Later : Terminal → Rows → List ℕ → List ℕ × Terminal → Type 
 Later other rs text row = (n : ℕ) → n < length rs → row_at rs n ≡ row → find_row other rs text ≡ row.1
 
 -- some rows, one of which is the text's
-one_found : (other : Terminal) (rows : Rows) (places : List ℕ) (text : List ℕ) (row : List ℕ × Terminal) → row_at rows (place_of places text) ≡ row → is_word row.0 text ≡ true → (rs : Rows) → all_lower rs ≡ true → found_rows rows places rs ≡ rs → (k : ℕ) → k < length rs → row_at rs k ≡ row → find_row other rs text ≡ row.1
+one_found : (other : Terminal) (rows : Rows) (places : List ℕ) (text : List ℕ) (row : List ℕ × Terminal)
+    → row_at rows (place_of places text) ≡ row → is_word row.0 text ≡ true → (rs : Rows) → all_lower rs ≡ true
+    → found_rows rows places rs ≡ rs → (k : ℕ) → k < length rs → row_at rs k ≡ row → find_row other rs text ≡ row.1
 one_found other rows places text row is agrees [] l at k lt e = absurd (omega arith)
 one_found other rows places text row is agrees (r ∷ rs) l at k lt e =
-    by_case (λ n m f. one_found other rows places text row is agrees rs (and_right (is_lower r.0) (all_lower rs) l) (tail_is (row_at rows (place_of places r.0)) r (found_rows rows places rs) rs at) n m f) (is_word r.0 text) refl
+    by_case (λ n m f. one_found other rows places text row is agrees rs (and_right (is_lower r.0) (all_lower rs) l)
+    (tail_is (row_at rows (place_of places r.0)) r (found_rows rows places rs) rs at) n m f) (is_word r.0 text)
+    refl
   where
     later : Later other rs text row → (n : ℕ) → n < length (r ∷ rs) → row_at (r ∷ rs) n ≡ row → is_word r.0 text ≡ false → find_row other rs text ≡ row.1
     later ih zero m f differs = absurd (let clash : true ≡ false = sym agrees ∙ ap (λ (x : List ℕ × Terminal). is_word x.0 text) (sym f) ∙ differs in cc)
@@ -152,7 +163,9 @@ one_found other rows places text row is agrees (r ∷ rs) l at k lt e =
     by_case ih false h = rw h (later ih k lt e h)
 
 -- a table that is read by one look
-pub one_look : (other : Terminal) (rows : Rows) (places : List ℕ) (text : List ℕ) → all_lower rows ≡ true → found_rows rows places rows ≡ rows → place_of places text < length rows → row_class other rows (place_of places text) text ≡ find_row other rows text
+pub one_look : (other : Terminal) (rows : Rows) (places : List ℕ) (text : List ℕ) → all_lower rows ≡ true
+    → found_rows rows places rows ≡ rows → place_of places text < length rows
+    → row_class other rows (place_of places text) text ≡ find_row other rows text
 one_look other rows places text l at lt = by_case (is_word (row_at rows (place_of places text)).0 text) refl
   where
     by_case : (b : Bool) → is_word (row_at rows (place_of places text)).0 text ≡ b → row_class other rows (place_of places text) text ≡ find_row other rows text

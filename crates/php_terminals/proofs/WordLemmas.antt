@@ -17,7 +17,9 @@ lengths_differ (a ∷ w) (b ∷ bs) h = go (nat_eq a (to_ascii_lowercase b)) (le
 pub byte_differs : (w t : List ℕ) (i : ℕ) → i < length w → i < length t → (get_or w i 0 ≡ to_ascii_lowercase (get_or t i 0) → ⊥) → is_word (drop i w) (drop i t) ≡ false
 byte_differs w t i lw lt h = rw (drop-cons w i 0 lw, drop-cons t i 0 lt, ne_eqb _ _ h) refl
 
-pub byte_agrees : (w t : List ℕ) (i : ℕ) → i < length w → i < length t → get_or w i 0 ≡ to_ascii_lowercase (get_or t i 0) → is_word (drop i w) (drop i t) ≡ is_word (drop (i + 1) w) (drop (i + 1) t)
+pub byte_agrees : (w t : List ℕ) (i : ℕ) → i < length w → i < length t
+    → get_or w i 0 ≡ to_ascii_lowercase (get_or t i 0) → is_word (drop i w) (drop i t) ≡ is_word (drop (i + 1) w)
+    (drop (i + 1) t)
 byte_agrees w t i lw lt e = rw (add-one, drop-cons w i 0 lw, drop-cons t i 0 lt, eq-eqb _ _ e) refl
 
 pub both_end : (w t : List ℕ) (i : ℕ) → length w ≡ length t → length w ≤ i → is_word (drop i w) (drop i t) ≡ true

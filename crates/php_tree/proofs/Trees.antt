@@ -22,11 +22,13 @@ forest_of-drop ps i d h = rw (drop_more ps i d h)
 pub forest_of-Leaf : (ps : List Part) (i : ℕ) (d : Part) (t : Token) → i < length ps → get_or ps i d ≡ Leaf t → forest_of (drop i ps) ≡ leaf t (forest_of (drop (i + 1) ps))
 forest_of-Leaf ps i d t h e = rw (drop_more ps i d h, e, part_before-Leaf t)
 
-pub forest_of-Child : (ps : List Part) (i : ℕ) (d : Part) (n : Node) → i < length ps → get_or ps i d ≡ Child n → forest_of (drop i ps) ≡ node n.kind (forest_of n.parts) (forest_of (drop (i + 1) ps))
+pub forest_of-Child : (ps : List Part) (i : ℕ) (d : Part) (n : Node) → i < length ps → get_or ps i d ≡ Child n
+    → forest_of (drop i ps) ≡ node n.kind (forest_of n.parts) (forest_of (drop (i + 1) ps))
 forest_of-Child ps i d n h e = rw (drop_more ps i d h, e, part_before-Child n)
 
 -- the nodes from an index on
-pub nodes_forest-drop : (ns : List Node) (i : ℕ) (d n : Node) → i < length ns → get_or ns i d ≡ n → nodes_forest (drop i ns) ≡ node n.kind (forest_of n.parts) (nodes_forest (drop (i + 1) ns))
+pub nodes_forest-drop : (ns : List Node) (i : ℕ) (d n : Node) → i < length ns → get_or ns i d ≡ n
+    → nodes_forest (drop i ns) ≡ node n.kind (forest_of n.parts) (nodes_forest (drop (i + 1) ns))
 nodes_forest-drop ns i d n h e = rw (drop_more ns i d h, e, tree-fields n)
 
 -- no more depth than nodes

@@ -1,5 +1,36 @@
 -- Lists of sinks, one of which changes.
-use Rattle.std.proofs.Common.{◌≡◌, ◌<◌, ◌≤◌, ℕ, zero, suc, ◌+◌, Bool, true, false, List, [], ◌∷◌, ◌++◌, length, map, set, get_or, drop, take, inl, inr, refl, ap, ap₂, sym, ◌∙◌, subst, arith, append_assoc}
+use Rattle.std.proofs.Common.{
+  ◌≡◌,
+  ◌<◌,
+  ◌≤◌,
+  ℕ,
+  zero,
+  suc,
+  ◌+◌,
+  Bool,
+  true,
+  false,
+  List,
+  [],
+  ◌∷◌,
+  ◌++◌,
+  length,
+  map,
+  set,
+  get_or,
+  drop,
+  take,
+  inl,
+  inr,
+  refl,
+  ap,
+  ap₂,
+  sym,
+  ◌∙◌,
+  subst,
+  arith,
+  append_assoc,
+}
 use Rattle.std.proofs.lemmas.List.{append-nil, map-set, get_or-map, length-map, take_all}
 use Rattle.std.proofs.Math.Seq.{map-set_same, take-suc}
 use Rattle.std.specs.Prelude.{Result, Ok, Err, Some}

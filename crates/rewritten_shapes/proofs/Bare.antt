@@ -9,15 +9,77 @@ use Rattle.php_tree.specs.Tree.{Forest, none, leaf, node, ◌+++◌}
 use Rattle.php_terminals.specs.declared.terminal.Terminal.{Terminal}
 use Rattle.php_terminals.specs.declared.terminal.Terminal.TheVariants as t
 use Rattle.php_terminals.specs.Classify.{terminal}
-use Rattle.php_terminals.specs.Indents.{fresh_behind, is_misindented, last_text, leaf_fits, literal_fits, node_fits, parts_fit, quoted_fits, heredoc_fits, is_heredoc, margin, is_uniform, misindented_by}
+use Rattle.php_terminals.specs.Indents.{
+  fresh_behind,
+  is_misindented,
+  last_text,
+  leaf_fits,
+  literal_fits,
+  node_fits,
+  parts_fit,
+  quoted_fits,
+  heredoc_fits,
+  is_heredoc,
+  margin,
+  is_uniform,
+  misindented_by,
+}
 use Rattle.php_grammar.specs.Accepts.{accepts}
 use Rattle.php_grammar.specs.Bases.{is_short_ternary}
 use Rattle.php_grammar.specs.Edges.{edge, edge_from}
 use Rattle.php_grammar.specs.Levels.{level, binary_level, first_leaf, is_alone, middle_leaf, prefix_level}
-use Rattle.php_shapes.specs.Nearest.{arrows_are_nearest, elses_are_nearest, ends_in_if, ends_in_yield, goes_on_if, has_else, is_else, is_nearest, is_open_if, is_open_yield, is_to, is_value_alone}
+use Rattle.php_shapes.specs.Nearest.{
+  arrows_are_nearest,
+  elses_are_nearest,
+  ends_in_if,
+  ends_in_yield,
+  goes_on_if,
+  has_else,
+  is_else,
+  is_nearest,
+  is_open_if,
+  is_open_yield,
+  is_to,
+  is_value_alone,
+}
 use Rattle.php_shapes.specs.Notation.{Rule, nothing, word, kind, place, inside, many}
-use Rattle.php_shapes.specs.Places.{Place, Statement, Member, Operand, Left, LeftShort, OffsetBase, MemberBase, ClassBase, Callee, Target, TargetOrList, ClassName, begins_with_class_name, is_class_name, is_expression, is_prefix, may_stand}
-use Rattle.php_shapes.specs.Shapes.{Fits, IsNode, is_balanced, is_nothing, is_word, is_kind, is_place, is_inside, is_both, is_first, is_second, no_more, once_more, is_tokens, is_node}
+use Rattle.php_shapes.specs.Places.{
+  Place,
+  Statement,
+  Member,
+  Operand,
+  Left,
+  LeftShort,
+  OffsetBase,
+  MemberBase,
+  ClassBase,
+  Callee,
+  Target,
+  TargetOrList,
+  ClassName,
+  begins_with_class_name,
+  is_class_name,
+  is_expression,
+  is_prefix,
+  may_stand,
+}
+use Rattle.php_shapes.specs.Shapes.{
+  Fits,
+  IsNode,
+  is_balanced,
+  is_nothing,
+  is_word,
+  is_kind,
+  is_place,
+  is_inside,
+  is_both,
+  is_first,
+  is_second,
+  no_more,
+  once_more,
+  is_tokens,
+  is_node,
+}
 
 -- a token without trivia and place
 abbrev pub bare_token : Token → Token

@@ -81,7 +81,8 @@ free_label t.Match e d = absurd cc
 free_label t.Readonly e d = absurd cc
 free_label _ e d = absurd cc
 
-function_label : (own : Terminal) → (is_any_label own || same_class t.FunctionLabel own) ≡ true → is_match own ≡ false → (is_called_label own || same_class t.FunctionLabel own) ≡ true
+function_label : (own : Terminal) → (is_any_label own || same_class t.FunctionLabel own) ≡ true → is_match own ≡ false
+    → (is_called_label own || same_class t.FunctionLabel own) ≡ true
 function_label t.Label e d = refl
 function_label t.MixedOrNever e d = refl
 function_label t.Readonly e d = refl
@@ -99,18 +100,30 @@ class_label _ e d = absurd cc
 
 -- ---- names
 
-name_token : (text : List ℕ) → ((((is_constant_label (classes.name text) || is_qualified (classes.name text)) || is_full (classes.name text)) || is_relative (classes.name text)) || same_class t.NameToken (classes.name text)) ≡ true
+name_token : (text : List ℕ) → ((((is_constant_label (classes.name text) || is_qualified (classes.name text))
+    || is_full (classes.name text)) || is_relative (classes.name text)) || same_class t.NameToken (classes.name text))
+    ≡ true
 name_token text = go (words.is_word (codes "\\") (words.front 1 text)) (words.is_word (codes "namespace\\") (words.front 10 text))
   where
-    go : (a b : Bool) → ((((is_constant_label (cond a t.FullName (cond b t.RelativeName t.QualifiedName)) || is_qualified (cond a t.FullName (cond b t.RelativeName t.QualifiedName))) || is_full (cond a t.FullName (cond b t.RelativeName t.QualifiedName))) || is_relative (cond a t.FullName (cond b t.RelativeName t.QualifiedName))) || same_class t.NameToken (cond a t.FullName (cond b t.RelativeName t.QualifiedName))) ≡ true
+    go : (a b : Bool) → ((((is_constant_label (cond a t.FullName (cond b t.RelativeName t.QualifiedName))
+        || is_qualified (cond a t.FullName (cond b t.RelativeName t.QualifiedName)))
+        || is_full (cond a t.FullName (cond b t.RelativeName t.QualifiedName)))
+        || is_relative (cond a t.FullName (cond b t.RelativeName t.QualifiedName)))
+        || same_class t.NameToken (cond a t.FullName (cond b t.RelativeName t.QualifiedName))) ≡ true
     go true b = refl
     go false true = refl
     go false false = refl
 
-called_token : (text : List ℕ) → ((((is_called_label (classes.name text) || is_qualified (classes.name text)) || is_full (classes.name text)) || is_relative (classes.name text)) || same_class t.CalledName (classes.name text)) ≡ true
+called_token : (text : List ℕ) → ((((is_called_label (classes.name text) || is_qualified (classes.name text))
+    || is_full (classes.name text)) || is_relative (classes.name text))
+    || same_class t.CalledName (classes.name text)) ≡ true
 called_token text = go (words.is_word (codes "\\") (words.front 1 text)) (words.is_word (codes "namespace\\") (words.front 10 text))
   where
-    go : (a b : Bool) → ((((is_called_label (cond a t.FullName (cond b t.RelativeName t.QualifiedName)) || is_qualified (cond a t.FullName (cond b t.RelativeName t.QualifiedName))) || is_full (cond a t.FullName (cond b t.RelativeName t.QualifiedName))) || is_relative (cond a t.FullName (cond b t.RelativeName t.QualifiedName))) || same_class t.CalledName (cond a t.FullName (cond b t.RelativeName t.QualifiedName))) ≡ true
+    go : (a b : Bool) → ((((is_called_label (cond a t.FullName (cond b t.RelativeName t.QualifiedName))
+        || is_qualified (cond a t.FullName (cond b t.RelativeName t.QualifiedName)))
+        || is_full (cond a t.FullName (cond b t.RelativeName t.QualifiedName)))
+        || is_relative (cond a t.FullName (cond b t.RelativeName t.QualifiedName)))
+        || same_class t.CalledName (cond a t.FullName (cond b t.RelativeName t.QualifiedName))) ≡ true
     go true b = refl
     go false true = refl
     go false false = refl
@@ -118,7 +131,9 @@ called_token text = go (words.is_word (codes "\\") (words.front 1 text)) (words.
 quiet_name : (text : List ℕ) → (goes_on_if (classes.name text) ≡ false) × (is_to (classes.name text) ≡ false) × (is_else (classes.name text) ≡ false)
 quiet_name text = go (words.is_word (codes "\\") (words.front 1 text)) (words.is_word (codes "namespace\\") (words.front 10 text))
   where
-    go : (a b : Bool) → (goes_on_if (cond a t.FullName (cond b t.RelativeName t.QualifiedName)) ≡ false) × (is_to (cond a t.FullName (cond b t.RelativeName t.QualifiedName)) ≡ false) × (is_else (cond a t.FullName (cond b t.RelativeName t.QualifiedName)) ≡ false)
+    go : (a b : Bool) → (goes_on_if (cond a t.FullName (cond b t.RelativeName t.QualifiedName)) ≡ false)
+        × (is_to (cond a t.FullName (cond b t.RelativeName t.QualifiedName)) ≡ false)
+        × (is_else (cond a t.FullName (cond b t.RelativeName t.QualifiedName)) ≡ false)
     go true b = (refl, refl, refl)
     go false true = (refl, refl, refl)
     go false false = (refl, refl, refl)
@@ -182,7 +197,8 @@ calm_if true false e = refl
 calm_if false false e = refl
 
 -- some parts without `else`, for which one token stands
-pub like_word : (f : Forest) (y : Token) → has_else f ≡ false → (f ≡ none → ⊥) → goes_on_if (terminal y) ≡ false → is_to (terminal y) ≡ false → is_else (terminal y) ≡ false → Like f (leaf y none)
+pub like_word : (f : Forest) (y : Token) → has_else f ≡ false → (f ≡ none → ⊥) → goes_on_if (terminal y) ≡ false
+    → is_to (terminal y) ≡ false → is_else (terminal y) ≡ false → Like f (leaf y none)
 like_word f y e n i a l = record {
   elses = λ b d p h. calm_if d (goes_on_if (terminal y)) i;
   ifs = λ b d p h. absurd cc;
@@ -198,13 +214,21 @@ like_word f y e n i a l = record {
 -- ---- a name
 
 pub name_quiet : (u : Token) → u.kind ≡ token.Name → (goes_on_if (terminal u) ≡ false) × (is_to (terminal u) ≡ false) × (is_else (terminal u) ≡ false)
-name_quiet u e = subst (λ (sort : TokenKind). (goes_on_if (terminal_by sort u.text) ≡ false) × (is_to (terminal_by sort u.text) ≡ false) × (is_else (terminal_by sort u.text) ≡ false)) (sym e) (quiet_name u.text)
+name_quiet u e = subst (λ (sort : TokenKind). (goes_on_if (terminal_by sort u.text) ≡ false)
+    × (is_to (terminal_by sort u.text) ≡ false) × (is_else (terminal_by sort u.text) ≡ false)) (sym e)
+    (quiet_name u.text)
 
 takes_name : (u : Token) → u.kind ≡ token.Name → accepts V83 t.NameToken u ≡ true
-takes_name u e = ap (λ (sort : TokenKind). ((((is_constant_label (terminal_by sort u.text) || is_qualified (terminal_by sort u.text)) || is_full (terminal_by sort u.text)) || is_relative (terminal_by sort u.text)) || same_class t.NameToken (terminal_by sort u.text))) e ∙ name_token u.text
+takes_name u e = ap (λ (sort : TokenKind). ((((is_constant_label (terminal_by sort u.text)
+    || is_qualified (terminal_by sort u.text)) || is_full (terminal_by sort u.text))
+    || is_relative (terminal_by sort u.text)) || same_class t.NameToken (terminal_by sort u.text))) e
+    ∙ name_token u.text
 
 takes_called : (u : Token) → u.kind ≡ token.Name → accepts V83 t.CalledName u ≡ true
-takes_called u e = ap (λ (sort : TokenKind). ((((is_called_label (terminal_by sort u.text) || is_qualified (terminal_by sort u.text)) || is_full (terminal_by sort u.text)) || is_relative (terminal_by sort u.text)) || same_class t.CalledName (terminal_by sort u.text))) e ∙ called_token u.text
+takes_called u e = ap (λ (sort : TokenKind). ((((is_called_label (terminal_by sort u.text)
+    || is_qualified (terminal_by sort u.text)) || is_full (terminal_by sort u.text))
+    || is_relative (terminal_by sort u.text)) || same_class t.CalledName (terminal_by sort u.text))) e
+    ∙ called_token u.text
 
 label_name : (y : Token) → is_constant_label (terminal y) ≡ true → accepts V83 t.NameToken y ≡ true
 label_name y e = ap (λ (b : Bool). ((((b || is_qualified (terminal y)) || is_full (terminal y)) || is_relative (terminal y)) || same_class t.NameToken (terminal y))) e
@@ -222,7 +246,8 @@ shown_terminal y = ap terminal (shown_is y)
 -- a name becomes one token of a class
 name_kept : (asked : Terminal) (which : Which) → ((u : Token) → u.kind ≡ token.Name → accepts V83 asked u ≡ true)
     → ((y : Token) → accepts V74 t.AnyLabel y ≡ true → test which (terminal y) ≡ false → accepts V83 asked y ≡ true)
-    → (f : Forest) → Fits V74 (name V74) f → AreSpelled f → (a : Bool → Option Around) (b : Bool) → has (test which) (new_parts a b f) ≡ false → Kept (word asked) f (new_parts a b f)
+    → (f : Forest) → Fits V74 (name V74) f → AreSpelled f → (a : Bool → Option Around) (b : Bool)
+    → has (test which) (new_parts a b f) ≡ false → Kept (word asked) f (new_parts a b f)
 name_kept asked which names labels f p s a b h = go (name_is f p s a b)
   where
     empty : f ≡ none → ⊥
@@ -236,11 +261,14 @@ name_kept asked which names labels f p s a b h = go (name_is f p s a b)
         let y = r.0 in
         let same : new_parts a b f ≡ leaf (shown_token (hash_comment y)) none = ap shown r.2 in
         let quiet = quiet_label (terminal y) r.1 in
-        let no : test which (terminal y) ≡ false = or_one (test which (terminal y)) (ap (λ (z : Terminal). test which z || false) (sym (shown_terminal y)) ∙ ap (has (test which)) (sym same) ∙ h) in
+        let no : test which (terminal y) ≡ false = or_one (test which (terminal y))
+        (ap (λ (z : Terminal). test which z || false) (sym (shown_terminal y)) ∙ ap (has (test which)) (sym same)
+        ∙ h) in
         subst (Kept (word asked) f) (sym same)
         (record {
           fits = is_word (shown_accepts V83 asked y (labels y r.1 no));
-          like = like_word f (shown_token (hash_comment y)) free empty (ap goes_on_if (shown_terminal y) ∙ quiet.0) (ap is_to (shown_terminal y) ∙ quiet.1) (ap is_else (shown_terminal y) ∙ quiet.2);
+          like = like_word f (shown_token (hash_comment y)) free empty (ap goes_on_if (shown_terminal y) ∙ quiet.0)
+              (ap is_to (shown_terminal y) ∙ quiet.1) (ap is_else (shown_terminal y) ∙ quiet.2);
         })
     go (inr r) =
         let u = shown_token r.0 in
@@ -358,10 +386,12 @@ label_kept _ w x e p h = absurd cc
 -- what a rule asks of parts, to be kept
 abbrev Keeps : Which → Both → Type 0
 Keeps which r =
-    (f : Forest) → Fits V74 (old r) f → AreSpelled f → AllGood f → (a : Bool → Option Around) (b : Bool) → has (test which) (new_parts a b f) ≡ false → Kept (new r) f (new_parts a b f)
+    (f : Forest) → Fits V74 (old r) f → AreSpelled f → AllGood f → (a : Bool → Option Around) (b : Bool)
+    → has (test which) (new_parts a b f) ≡ false → Kept (new r) f (new_parts a b f)
 
 -- the new parts of two rules have none of the words
-parts_free : (which : Which) (a : Bool → Option Around) (b : Bool) (r s : Rule) (f g h : Forest) → f ≡ g +++ h → Fits V74 r g → Fits V74 s h → stay_apart r s ≡ true → has (test which) (new_parts a b f) ≡ false
+parts_free : (which : Which) (a : Bool → Option Around) (b : Bool) (r s : Rule) (f g h : Forest) → f ≡ g +++ h
+    → Fits V74 r g → Fits V74 s h → stay_apart r s ≡ true → has (test which) (new_parts a b f) ≡ false
     → (has (test which) (new_parts a b g) ≡ false) × (has (test which) (new_parts a (still_first b g) h) ≡ false)
 parts_free which a b r s f g h d x y e n =
     let same : new_parts a b f ≡ new_parts a b g +++ new_parts a (still_first b g) h = ap (new_parts a b) d ∙ apart_parts a b g h (are_apart x y e) in
@@ -370,15 +400,19 @@ parts_free which a b r s f g h d x y e n =
 
 many_kept : (which : Which) (q q2 : Rule) → stay_apart q q ≡ true
     → ((f : Forest) → Fits V74 q f → AreSpelled f → AllGood f → (a : Bool → Option Around) (b : Bool) → has (test which) (new_parts a b f) ≡ false → Kept q2 f (new_parts a b f))
-    → (f : Forest) → Fits V74 (many q) f → AreSpelled f → AllGood f → (a : Bool → Option Around) (b : Bool) → has (test which) (new_parts a b f) ≡ false → Kept (many q2) f (new_parts a b f)
+    → (f : Forest) → Fits V74 (many q) f → AreSpelled f → AllGood f → (a : Bool → Option Around) (b : Bool)
+    → has (test which) (new_parts a b f) ≡ false → Kept (many q2) f (new_parts a b f)
 many_kept which q q2 e one _ no_more s w a b n = record { fits = no_more; like = like_none }
 many_kept which q q2 e one f (once_more {g} {h} x y d) s w a b n =
     let z = parts_free which a b q (many q) f g h d x y e n in
     let sp = subst AreSpelled d s in
     let al = subst AllGood d w in
-    kept_many a b q q2 f g h d x y e (one g x (spelled_front g h sp) (good_front g h al) a b z.0) (many_kept which q q2 e one h y (spelled_rest g h sp) (good_rest g h al) a (still_first b g) z.1)
+    kept_many a b q q2 f g h d x y e (one g x (spelled_front g h sp) (good_front g h al) a b z.0)
+    (many_kept which q q2 e one h y (spelled_rest g h sp) (good_rest g h al) a (still_first b g) z.1)
 
-pub both_kept : (which : Which) (r : Both) → reads which r ≡ true → (f : Forest) → Fits V74 (old r) f → AreSpelled f → AllGood f → (a : Bool → Option Around) (b : Bool) → has (test which) (new_parts a b f) ≡ false → Kept (new r) f (new_parts a b f)
+pub both_kept : (which : Which) (r : Both) → reads which r ≡ true → (f : Forest) → Fits V74 (old r) f → AreSpelled f
+    → AllGood f → (a : Bool → Option Around) (b : Bool) → has (test which) (new_parts a b f) ≡ false
+    → Kept (new r) f (new_parts a b f)
 both_kept which (alike r) e f p s w a b n = kept p e w a b
 both_kept keywords a_name e f p s w a b n = name_kept t.NameToken keywords takes_name (λ y q h. label_name y (asked_free (terminal y) (label_any y q) h)) f p s a b n
 both_kept match_alone a_name e f p s w a b n = absurd cc
@@ -399,6 +433,10 @@ both_kept which (next r s) e f (is_both {g} {h} x y d) sp w a b n =
     kept_join a b (old r) (old s) (new r) (new s) f g h d x y apart
     (both_kept which r (and_left (reads which r) (reads which s) both) g x (spelled_front g h ss) (good_front g h al) a b z.0)
     (both_kept which s (and_right (reads which r) (reads which s) both) h y (spelled_rest g h ss) (good_rest g h al) a (still_first b g) z.1)
-both_kept which (either r s) e f (is_first x) sp w a b n = kept_first (new r) (new s) f (new_parts a b f) (both_kept which r (and_left (reads which r) (reads which s) e) f x sp w a b n)
-both_kept which (either r s) e f (is_second x) sp w a b n = kept_second (new r) (new s) f (new_parts a b f) (both_kept which s (and_right (reads which r) (reads which s) e) f x sp w a b n)
-both_kept which (times r) e f p s w a b n = many_kept which (old r) (new r) (and_left (stay_apart (old r) (old r)) (reads which r) e) (both_kept which r (and_right (stay_apart (old r) (old r)) (reads which r) e)) f p s w a b n
+both_kept which (either r s) e f (is_first x) sp w a b n = kept_first (new r) (new s) f (new_parts a b f)
+    (both_kept which r (and_left (reads which r) (reads which s) e) f x sp w a b n)
+both_kept which (either r s) e f (is_second x) sp w a b n = kept_second (new r) (new s) f (new_parts a b f)
+    (both_kept which s (and_right (reads which r) (reads which s) e) f x sp w a b n)
+both_kept which (times r) e f p s w a b n = many_kept which (old r) (new r)
+    (and_left (stay_apart (old r) (old r)) (reads which r) e)
+    (both_kept which r (and_right (stay_apart (old r) (old r)) (reads which r) e)) f p s w a b n

@@ -58,7 +58,9 @@ Keeps l op r = (c : Forest) → Fits V74 (rule l op r) c → AllGood c → Kept 
 abbrev Loose : ℕ → ℕ → Terminal → Type 0
 Loose r old op = (r ≤ 6) ⊎ ((9 ≤ old) ⊎ (op ≡ t.Shift))
 
-loose_at : (r old : ℕ) (op : Terminal) (new : ℕ) (v : Level op old new) (x : Token) (i : NodeKind) (e : Forest) → accepts V74 op x ≡ true → Loose r old op → (r ≤ 6) ⊎ ((9 ≤ old) ⊎ (is_dot (i, e) ≡ true → edge V83 (new_tree (Some (at_right x)) i e) ≡ 0))
+loose_at : (r old : ℕ) (op : Terminal) (new : ℕ) (v : Level op old new) (x : Token) (i : NodeKind) (e : Forest)
+    → accepts V74 op x ≡ true → Loose r old op → (r ≤ 6)
+    ⊎ ((9 ≤ old) ⊎ (is_dot (i, e) ≡ true → edge V83 (new_tree (Some (at_right x)) i e) ≡ 0))
 loose_at r old op new v x i e p (inl u) = inl u
 loose_at r old op new v x i e p (inr (inl u)) = inr (inl u)
 loose_at r old op new v x i e p (inr (inr u)) =
@@ -87,8 +89,11 @@ made l r old new op c v keeps loose tight same low below f w near =
 -- ---- operators whose operands stand elsewhere in 8.3
 
 by_hand : (l r m n : ℕ) (op : Terminal) → ((x : Token) → accepts V74 op x ≡ true → accepts V83 op (shown_token (hash_comment x)) ≡ true)
-    → ((x : Token) (j : NodeKind) (d : Forest) → accepts V74 op x ≡ true → Good j d (new_tree (Some (at_left x)) j d) → may_stand V74 (Left l) (j, d) ≡ true → may_stand V83 (Left m) (new_tree (Some (at_left x)) j d) ≡ true)
-    → ((x : Token) (j : NodeKind) (d : Forest) → accepts V74 op x ≡ true → Good j d (new_tree (Some (at_right x)) j d) → may_stand V74 (Operand r) (j, d) ≡ true → may_stand V83 (Operand n) (new_tree (Some (at_right x)) j d) ≡ true)
+    → ((x : Token) (j : NodeKind) (d : Forest) → accepts V74 op x ≡ true → Good j d (new_tree (Some (at_left x)) j d)
+    → may_stand V74 (Left l) (j, d) ≡ true → may_stand V83 (Left m) (new_tree (Some (at_left x)) j d) ≡ true)
+    → ((x : Token) (j : NodeKind) (d : Forest) → accepts V74 op x ≡ true → Good j d (new_tree (Some (at_right x)) j d)
+    → may_stand V74 (Operand r) (j, d) ≡ true → may_stand V83 (Operand n) (new_tree (Some (at_right x)) j d) ≡
+    true)
     → (c : Forest) → Fits V74 (rule l op r) c → AllGood c → Kept (rule m op n) c (new_parts (within Binary c) true c)
 by_hand l r m n op takes left right c f w =
     let y = two l r op c f in
@@ -140,40 +145,70 @@ keeps_shift : Keeps 8 t.Shift 7
 keeps_shift c f w = inject (rule 8 t.Shift 7) (binary V83) c (new_parts (within Binary c) true c) (λ p. is_second (is_second (is_second (is_second (is_first p))))) (by_shift c f w)
 
 keeps_dot : Keeps 7 t.Dot 6
-keeps_dot c f w = inject (rule 9 t.Dot 8) (binary V83) c (new_parts (within Binary c) true c) (λ p. is_second (is_second (is_second (is_second (is_second (is_first p)))))) (by_dot c f w)
+keeps_dot c f w = inject (rule 9 t.Dot 8) (binary V83) c (new_parts (within Binary c) true c)
+    (λ p. is_second (is_second (is_second (is_second (is_second (is_first p)))))) (by_dot c f w)
 
 keeps_order : Keeps 9 t.Order 9
-keeps_order c f w = inject (rule 9 t.Order 9) (binary V83) c (new_parts (within Binary c) true c) (λ p. is_second (is_second (is_second (is_second (is_second (is_second (is_first p))))))) (kept f refl w (within Binary c) true)
+keeps_order c f w = inject (rule 9 t.Order 9) (binary V83) c (new_parts (within Binary c) true c)
+    (λ p. is_second (is_second (is_second (is_second (is_second (is_second (is_first p)))))))
+    (kept f refl w (within Binary c) true)
 
 keeps_equality : Keeps 10 t.Equality 10
-keeps_equality c f w = inject (rule 10 t.Equality 10) (binary V83) c (new_parts (within Binary c) true c) (λ p. is_second (is_second (is_second (is_second (is_second (is_second (is_second (is_first p)))))))) (kept f refl w (within Binary c) true)
+keeps_equality c f w = inject (rule 10 t.Equality 10) (binary V83) c (new_parts (within Binary c) true c)
+    (λ p. is_second (is_second (is_second (is_second (is_second (is_second (is_second (is_first p))))))))
+    (kept f refl w (within Binary c) true)
 
 keeps_ampersand : Keeps 12 t.Ampersand 11
-keeps_ampersand c f w = inject (rule 12 t.Ampersand 11) (binary V83) c (new_parts (within Binary c) true c) (λ p. is_second (is_second (is_second (is_second (is_second (is_second (is_second (is_second (is_first p))))))))) (kept f refl w (within Binary c) true)
+keeps_ampersand c f w = inject (rule 12 t.Ampersand 11) (binary V83) c (new_parts (within Binary c) true c)
+    (λ p. is_second (is_second (is_second (is_second (is_second (is_second (is_second (is_second (is_first p)))))))))
+    (kept f refl w (within Binary c) true)
 
 keeps_caret : Keeps 13 t.Caret 12
-keeps_caret c f w = inject (rule 13 t.Caret 12) (binary V83) c (new_parts (within Binary c) true c) (λ p. is_second (is_second (is_second (is_second (is_second (is_second (is_second (is_second (is_second (is_first p)))))))))) (kept f refl w (within Binary c) true)
+keeps_caret c f w = inject (rule 13 t.Caret 12) (binary V83) c (new_parts (within Binary c) true c)
+    (λ p. is_second (is_second (is_second (is_second (is_second
+    (is_second (is_second (is_second (is_second (is_first p)))))))))) (kept f refl w (within Binary c) true)
 
 keeps_bar : Keeps 14 t.Bar 13
-keeps_bar c f w = inject (rule 14 t.Bar 13) (binary V83) c (new_parts (within Binary c) true c) (λ p. is_second (is_second (is_second (is_second (is_second (is_second (is_second (is_second (is_second (is_second (is_first p))))))))))) (kept f refl w (within Binary c) true)
+keeps_bar c f w = inject (rule 14 t.Bar 13) (binary V83) c (new_parts (within Binary c) true c)
+    (λ p. is_second (is_second (is_second (is_second (is_second
+    (is_second (is_second (is_second (is_second (is_second (is_first p)))))))))))
+    (kept f refl w (within Binary c) true)
 
 keeps_booleanand : Keeps 15 t.BooleanAnd 14
-keeps_booleanand c f w = inject (rule 15 t.BooleanAnd 14) (binary V83) c (new_parts (within Binary c) true c) (λ p. is_second (is_second (is_second (is_second (is_second (is_second (is_second (is_second (is_second (is_second (is_second (is_first p)))))))))))) (kept f refl w (within Binary c) true)
+keeps_booleanand c f w = inject (rule 15 t.BooleanAnd 14) (binary V83) c (new_parts (within Binary c) true c)
+    (λ p. is_second (is_second (is_second (is_second (is_second
+    (is_second (is_second (is_second (is_second (is_second (is_second (is_first p))))))))))))
+    (kept f refl w (within Binary c) true)
 
 keeps_booleanor : Keeps 16 t.BooleanOr 15
-keeps_booleanor c f w = inject (rule 16 t.BooleanOr 15) (binary V83) c (new_parts (within Binary c) true c) (λ p. is_second (is_second (is_second (is_second (is_second (is_second (is_second (is_second (is_second (is_second (is_second (is_second (is_first p))))))))))))) (kept f refl w (within Binary c) true)
+keeps_booleanor c f w = inject (rule 16 t.BooleanOr 15) (binary V83) c (new_parts (within Binary c) true c)
+    (λ p. is_second (is_second (is_second (is_second (is_second
+    (is_second (is_second (is_second (is_second (is_second (is_second (is_second (is_first p)))))))))))))
+    (kept f refl w (within Binary c) true)
 
 keeps_coalesce : Keeps 16 t.Coalesce 17
-keeps_coalesce c f w = inject (rule 16 t.Coalesce 17) (binary V83) c (new_parts (within Binary c) true c) (λ p. is_second (is_second (is_second (is_second (is_second (is_second (is_second (is_second (is_second (is_second (is_second (is_second (is_second (is_first p)))))))))))))) (kept f refl w (within Binary c) true)
+keeps_coalesce c f w = inject (rule 16 t.Coalesce 17) (binary V83) c (new_parts (within Binary c) true c)
+    (λ p. is_second (is_second (is_second (is_second (is_second
+    (is_second (is_second (is_second (is_second (is_second (is_second (is_second (is_second (is_first p))))))))))))))
+    (kept f refl w (within Binary c) true)
 
 keeps_and : Keeps 21 t.And 20
-keeps_and c f w = inject (rule 21 t.And 20) (binary V83) c (new_parts (within Binary c) true c) (λ p. is_second (is_second (is_second (is_second (is_second (is_second (is_second (is_second (is_second (is_second (is_second (is_second (is_second (is_second (is_first p))))))))))))))) (kept f refl w (within Binary c) true)
+keeps_and c f w = inject (rule 21 t.And 20) (binary V83) c (new_parts (within Binary c) true c)
+    (λ p. is_second (is_second (is_second (is_second (is_second
+    (is_second (is_second (is_second (is_second (is_second (is_second
+    (is_second (is_second (is_second (is_first p))))))))))))))) (kept f refl w (within Binary c) true)
 
 keeps_xor : Keeps 22 t.Xor 21
-keeps_xor c f w = inject (rule 22 t.Xor 21) (binary V83) c (new_parts (within Binary c) true c) (λ p. is_second (is_second (is_second (is_second (is_second (is_second (is_second (is_second (is_second (is_second (is_second (is_second (is_second (is_second (is_second (is_first p)))))))))))))))) (kept f refl w (within Binary c) true)
+keeps_xor c f w = inject (rule 22 t.Xor 21) (binary V83) c (new_parts (within Binary c) true c)
+    (λ p. is_second (is_second (is_second (is_second (is_second
+    (is_second (is_second (is_second (is_second (is_second (is_second
+    (is_second (is_second (is_second (is_second (is_first p)))))))))))))))) (kept f refl w (within Binary c) true)
 
 keeps_or : Keeps 23 t.Or 22
-keeps_or c f w = inject (rule 23 t.Or 22) (binary V83) c (new_parts (within Binary c) true c) (λ p. is_second (is_second (is_second (is_second (is_second (is_second (is_second (is_second (is_second (is_second (is_second (is_second (is_second (is_second (is_second (is_second (p))))))))))))))))) (kept f refl w (within Binary c) true)
+keeps_or c f w = inject (rule 23 t.Or 22) (binary V83) c (new_parts (within Binary c) true c)
+    (λ p. is_second (is_second (is_second (is_second (is_second
+    (is_second (is_second (is_second (is_second (is_second (is_second
+    (is_second (is_second (is_second (is_second (is_second (p))))))))))))))))) (kept f refl w (within Binary c) true)
 
 below_dot : Below 9 7
 below_dot = record { tight = λ h. absurd (omega arith); loose = omega arith }
@@ -182,23 +217,66 @@ not_dot : (x : Token) → accepts V74 t.Dot x ≡ true → bytes_eq x.text (code
 not_dot x p e = let z : true ≡ false = sym (ap (λ (y : List ℕ). bytes_eq y (codes ".")) (dot_is x p)) ∙ e in absurd cc
 
 binary_made : (c : Forest) → Fits V74 (binary V74) c → AllGood c → is_nearest c ≡ true → Good Binary c (changed_tree Binary c)
-binary_made c (is_first p) w near = made 1 2 2 2 t.Power c op.level_power keeps_power (inl (omega arith)) (inl (omega arith)) (λ x p e. omega arith) (λ h. omega arith) (below_same 2) p w near
-binary_made c (is_second (is_first p)) w near = made 6 5 6 6 t.Factor c op.level_factor keeps_factor (inl (omega arith)) (inl (omega arith)) (λ x p e. omega arith) (λ h. omega arith) (below_same 6) p w near
-binary_made c (is_second (is_second (is_first p))) w near = made 7 6 7 7 t.Plus c op.level_plus keeps_plus (inl (omega arith)) (inl (omega arith)) (λ x p e. omega arith) (λ h. omega arith) (below_same 7) p w near
-binary_made c (is_second (is_second (is_second (is_first p)))) w near = made 7 6 7 7 t.Minus c op.level_minus keeps_minus (inl (omega arith)) (inl (omega arith)) (λ x p e. omega arith) (λ h. omega arith) (below_same 7) p w near
-binary_made c (is_second (is_second (is_second (is_second (is_first p))))) w near = made 8 7 8 8 t.Shift c op.level_shift keeps_shift (inr (inr refl)) (inl (omega arith)) (λ x p e. omega arith) (λ h. omega arith) (below_same 8) p w near
-binary_made c (is_second (is_second (is_second (is_second (is_second (is_first p)))))) w near = made 7 6 7 9 t.Dot c op.level_dot keeps_dot (inl (omega arith)) (inl (omega arith)) not_dot (λ h. omega arith) below_dot p w near
-binary_made c (is_second (is_second (is_second (is_second (is_second (is_second (is_first p))))))) w near = made 9 9 10 10 t.Order c op.level_order keeps_order (inr (inl (omega arith))) (inl (omega arith)) (λ x p e. omega arith) (λ h. omega arith) (below_same 10) p w near
-binary_made c (is_second (is_second (is_second (is_second (is_second (is_second (is_second (is_first p)))))))) w near = made 10 10 11 11 t.Equality c op.level_equality keeps_equality (inr (inl (omega arith))) (inl (omega arith)) (λ x p e. omega arith) (λ h. omega arith) (below_same 11) p w near
-binary_made c (is_second (is_second (is_second (is_second (is_second (is_second (is_second (is_second (is_first p))))))))) w near = made 12 11 12 12 t.Ampersand c op.level_ampersand keeps_ampersand (inr (inl (omega arith))) (inl (omega arith)) (λ x p e. omega arith) (λ h. omega arith) (below_same 12) p w near
-binary_made c (is_second (is_second (is_second (is_second (is_second (is_second (is_second (is_second (is_second (is_first p)))))))))) w near = made 13 12 13 13 t.Caret c op.level_caret keeps_caret (inr (inl (omega arith))) (inl (omega arith)) (λ x p e. omega arith) (λ h. omega arith) (below_same 13) p w near
-binary_made c (is_second (is_second (is_second (is_second (is_second (is_second (is_second (is_second (is_second (is_second (is_first p))))))))))) w near = made 14 13 14 14 t.Bar c op.level_bar keeps_bar (inr (inl (omega arith))) (inl (omega arith)) (λ x p e. omega arith) (λ h. omega arith) (below_same 14) p w near
-binary_made c (is_second (is_second (is_second (is_second (is_second (is_second (is_second (is_second (is_second (is_second (is_second (is_first p)))))))))))) w near = made 15 14 15 15 t.BooleanAnd c op.level_booleanand keeps_booleanand (inr (inl (omega arith))) (inl (omega arith)) (λ x p e. omega arith) (λ h. omega arith) (below_same 15) p w near
-binary_made c (is_second (is_second (is_second (is_second (is_second (is_second (is_second (is_second (is_second (is_second (is_second (is_second (is_first p))))))))))))) w near = made 16 15 16 16 t.BooleanOr c op.level_booleanor keeps_booleanor (inr (inl (omega arith))) (inl (omega arith)) (λ x p e. omega arith) (λ h. omega arith) (below_same 16) p w near
-binary_made c (is_second (is_second (is_second (is_second (is_second (is_second (is_second (is_second (is_second (is_second (is_second (is_second (is_second (is_first p)))))))))))))) w near = made 16 17 17 17 t.Coalesce c op.level_coalesce keeps_coalesce (inr (inl (omega arith))) (inl (omega arith)) (λ x p e. omega arith) (λ h. omega arith) (below_same 17) p w near
-binary_made c (is_second (is_second (is_second (is_second (is_second (is_second (is_second (is_second (is_second (is_second (is_second (is_second (is_second (is_second (is_first p))))))))))))))) w near = made 21 20 21 21 t.And c op.level_and keeps_and (inr (inl (omega arith))) (inr (omega arith)) (λ x p e. omega arith) (λ h. absurd (omega arith)) (below_same 21) p w near
-binary_made c (is_second (is_second (is_second (is_second (is_second (is_second (is_second (is_second (is_second (is_second (is_second (is_second (is_second (is_second (is_second (is_first p)))))))))))))))) w near = made 22 21 22 22 t.Xor c op.level_xor keeps_xor (inr (inl (omega arith))) (inr (omega arith)) (λ x p e. omega arith) (λ h. absurd (omega arith)) (below_same 22) p w near
-binary_made c (is_second (is_second (is_second (is_second (is_second (is_second (is_second (is_second (is_second (is_second (is_second (is_second (is_second (is_second (is_second (is_second (p))))))))))))))))) w near = made 23 22 23 23 t.Or c op.level_or keeps_or (inr (inl (omega arith))) (inr (omega arith)) (λ x p e. omega arith) (λ h. absurd (omega arith)) (below_same 23) p w near
+binary_made c (is_first p) w near = made 1 2 2 2 t.Power c op.level_power keeps_power (inl (omega arith))
+    (inl (omega arith)) (λ x p e. omega arith) (λ h. omega arith) (below_same 2) p w near
+binary_made c (is_second (is_first p)) w near = made 6 5 6 6 t.Factor c op.level_factor keeps_factor
+    (inl (omega arith)) (inl (omega arith)) (λ x p e. omega arith) (λ h. omega arith) (below_same 6) p w near
+binary_made c (is_second (is_second (is_first p))) w near = made 7 6 7 7 t.Plus c op.level_plus keeps_plus
+    (inl (omega arith)) (inl (omega arith)) (λ x p e. omega arith) (λ h. omega arith) (below_same 7) p w near
+binary_made c (is_second (is_second (is_second (is_first p)))) w near =
+    made 7 6 7 7 t.Minus c op.level_minus keeps_minus (inl (omega arith)) (inl (omega arith)) (λ x p e. omega arith)
+    (λ h. omega arith) (below_same 7) p w near
+binary_made c (is_second (is_second (is_second (is_second (is_first p))))) w near =
+    made 8 7 8 8 t.Shift c op.level_shift keeps_shift (inr (inr refl)) (inl (omega arith)) (λ x p e. omega arith)
+    (λ h. omega arith) (below_same 8) p w near
+binary_made c (is_second (is_second (is_second (is_second (is_second (is_first p)))))) w near =
+    made 7 6 7 9 t.Dot c op.level_dot keeps_dot (inl (omega arith)) (inl (omega arith)) not_dot (λ h. omega arith)
+    below_dot p w near
+binary_made c (is_second (is_second (is_second (is_second (is_second (is_second (is_first p))))))) w near =
+    made 9 9 10 10 t.Order c op.level_order keeps_order (inr (inl (omega arith))) (inl (omega arith))
+    (λ x p e. omega arith) (λ h. omega arith) (below_same 10) p w near
+binary_made c (is_second (is_second (is_second (is_second (is_second (is_second (is_second (is_first p)))))))) w near
+    = made 10 10 11 11 t.Equality c op.level_equality keeps_equality (inr (inl (omega arith))) (inl (omega arith))
+    (λ x p e. omega arith) (λ h. omega arith) (below_same 11) p w near
+binary_made c (is_second (is_second (is_second (is_second (is_second
+    (is_second (is_second (is_second (is_first p))))))))) w near =
+    made 12 11 12 12 t.Ampersand c op.level_ampersand keeps_ampersand (inr (inl (omega arith))) (inl (omega arith))
+    (λ x p e. omega arith) (λ h. omega arith) (below_same 12) p w near
+binary_made c (is_second (is_second (is_second (is_second (is_second
+    (is_second (is_second (is_second (is_second (is_first p)))))))))) w near =
+    made 13 12 13 13 t.Caret c op.level_caret keeps_caret (inr (inl (omega arith))) (inl (omega arith))
+    (λ x p e. omega arith) (λ h. omega arith) (below_same 13) p w near
+binary_made c (is_second (is_second (is_second (is_second (is_second
+    (is_second (is_second (is_second (is_second (is_second (is_first p))))))))))) w near =
+    made 14 13 14 14 t.Bar c op.level_bar keeps_bar (inr (inl (omega arith))) (inl (omega arith))
+    (λ x p e. omega arith) (λ h. omega arith) (below_same 14) p w near
+binary_made c (is_second (is_second (is_second (is_second (is_second
+    (is_second (is_second (is_second (is_second (is_second (is_second (is_first p)))))))))))) w near =
+    made 15 14 15 15 t.BooleanAnd c op.level_booleanand keeps_booleanand (inr (inl (omega arith))) (inl (omega arith))
+    (λ x p e. omega arith) (λ h. omega arith) (below_same 15) p w near
+binary_made c (is_second (is_second (is_second (is_second (is_second
+    (is_second (is_second (is_second (is_second (is_second (is_second (is_second (is_first p))))))))))))) w near =
+    made 16 15 16 16 t.BooleanOr c op.level_booleanor keeps_booleanor (inr (inl (omega arith))) (inl (omega arith))
+    (λ x p e. omega arith) (λ h. omega arith) (below_same 16) p w near
+binary_made c (is_second (is_second (is_second (is_second (is_second
+    (is_second (is_second (is_second (is_second (is_second (is_second (is_second (is_second (is_first p))))))))))))))
+    w near = made 16 17 17 17 t.Coalesce c op.level_coalesce keeps_coalesce (inr (inl (omega arith)))
+    (inl (omega arith)) (λ x p e. omega arith) (λ h. omega arith) (below_same 17) p w near
+binary_made c (is_second (is_second (is_second (is_second (is_second
+    (is_second (is_second (is_second (is_second (is_second (is_second
+    (is_second (is_second (is_second (is_first p))))))))))))))) w near =
+    made 21 20 21 21 t.And c op.level_and keeps_and (inr (inl (omega arith))) (inr (omega arith))
+    (λ x p e. omega arith) (λ h. absurd (omega arith)) (below_same 21) p w near
+binary_made c (is_second (is_second (is_second (is_second (is_second
+    (is_second (is_second (is_second (is_second (is_second (is_second
+    (is_second (is_second (is_second (is_second (is_first p)))))))))))))))) w near =
+    made 22 21 22 22 t.Xor c op.level_xor keeps_xor (inr (inl (omega arith))) (inr (omega arith))
+    (λ x p e. omega arith) (λ h. absurd (omega arith)) (below_same 22) p w near
+binary_made c (is_second (is_second (is_second (is_second (is_second
+    (is_second (is_second (is_second (is_second (is_second (is_second
+    (is_second (is_second (is_second (is_second (is_second (p))))))))))))))))) w near =
+    made 23 22 23 23 t.Or c op.level_or keeps_or (inr (inl (omega arith))) (inr (omega arith)) (λ x p e. omega arith)
+    (λ h. absurd (omega arith)) (below_same 23) p w near
 
 pub good_binary : (a : Option Around) (c : Forest) → AllGood c → IsNode V74 Binary c → Good Binary c (new_tree a Binary c)
 good_binary a c w (is_node f near fine) =

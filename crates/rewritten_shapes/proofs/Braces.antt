@@ -79,12 +79,16 @@ quiet_near f e = and_both (elses_are_nearest false f) (arrows_are_nearest false 
 
 open_shown : (x : Token) → x.text ≡ codes "{" → shown_token (bracket (hash_comment x)) ≡ op_token (codes "[")
 open_shown x e =
-    ap (λ (b : Bool). shown_token (if b then retexted token.Op (codes "[") (hash_comment x) else (if is_text (codes "}") (hash_comment x) then retexted token.Op (codes "]") (hash_comment x) else hash_comment x)))
+    ap (λ (b : Bool). shown_token (if b then retexted token.Op (codes "[") (hash_comment x) else
+    (if is_text (codes "}") (hash_comment x) then retexted token.Op (codes "]") (hash_comment x) else hash_comment
+    x)))
     (ap (λ (text : List ℕ). bytes_eq (text ++ []) (codes "{")) e)
 
 close_shown : (x : Token) → x.text ≡ codes "}" → shown_token (bracket (hash_comment x)) ≡ op_token (codes "]")
 close_shown x e =
-    ap (λ (b : Bool). shown_token (if b then retexted token.Op (codes "[") (hash_comment x) else (if is_text (codes "}") (hash_comment x) then retexted token.Op (codes "]") (hash_comment x) else hash_comment x)))
+    ap (λ (b : Bool). shown_token (if b then retexted token.Op (codes "[") (hash_comment x) else
+    (if is_text (codes "}") (hash_comment x) then retexted token.Op (codes "]") (hash_comment x) else hash_comment
+    x)))
     (ap (λ (text : List ℕ). bytes_eq (text ++ []) (codes "{")) e)
     ∙ ap (λ (b : Bool). shown_token (if b then retexted token.Op (codes "]") (hash_comment x) else hash_comment x)) (ap (λ (text : List ℕ). bytes_eq (text ++ []) (codes "}")) e)
 
@@ -107,7 +111,8 @@ offset_parts y z = node y.0 y.1 (leaf (op_token (codes "[")) (node z.0 z.1 (leaf
 offset_edge : (y z : Tree) → edge V83 (Offset, offset_parts y z) ≡ 0
 offset_edge y z = edge_is V83 Offset (offset_parts y z) ∙ omega arith
 
-offset_good : (j : NodeKind) (d : Forest) (x : Token) (i : NodeKind) (e : Forest) (w : Token) (y z : Tree) → may_stand V74 OffsetBase (j, d) ≡ true → may_stand V74 (Operand 24) (i, e) ≡ true → Good j d y → Good i e z
+offset_good : (j : NodeKind) (d : Forest) (x : Token) (i : NodeKind) (e : Forest) (w : Token) (y z : Tree)
+    → may_stand V74 OffsetBase (j, d) ≡ true → may_stand V74 (Operand 24) (i, e) ≡ true → Good j d y → Good i e z
     → Good BraceOffset (node j d (leaf x (node i e (leaf w none)))) (Offset, offset_parts y z)
 offset_good j d x i e w y z m n g h = record {
   shaped = is_node
@@ -130,7 +135,11 @@ offset_good j d x i e w y z m n g h = record {
 -- what a node with an offset in braces becomes
 offset_tree : (j : NodeKind) (d : Forest) (x : Token) (i : NodeKind) (e : Forest) (w : Token) → x.text ≡ codes "{" → w.text ≡ codes "}"
     → changed_tree BraceOffset (node j d (leaf x (node i e (leaf w none))))
-    ≡ (Offset, offset_parts (new_tree (within BraceOffset (node j d (leaf x (node i e (leaf w none)))) true) j d) (new_tree (within BraceOffset (node j d (leaf x (node i e (leaf w none)))) false) i e))
+    ≡ (
+      Offset,
+      offset_parts (new_tree (within BraceOffset (node j d (leaf x (node i e (leaf w none)))) true) j d)
+          (new_tree (within BraceOffset (node j d (leaf x (node i e (leaf w none)))) false) i e),
+    )
 offset_tree j d x i e w p q =
     let c = node j d (leaf x (node i e (leaf w none))) in
     let y = new_tree (within BraceOffset c true) j d in
@@ -138,8 +147,12 @@ offset_tree j d x i e w p q =
     ap (λ (u : Token). (Offset, node y.0 y.1 (leaf u (node z.0 z.1 (leaf (shown_token (bracket (hash_comment w))) none))))) (open_shown x p)
     ∙ ap (λ (u : Token). (Offset, node y.0 y.1 (leaf (op_token (codes "[")) (node z.0 z.1 (leaf u none))))) (close_shown w q)
 
-offset_at : (j : NodeKind) (d : Forest) (x : Token) (i : NodeKind) (e : Forest) (w : Token) → may_stand V74 OffsetBase (j, d) ≡ true → IsNode V74 j d → accepts V74 t.OpenBrace x ≡ true → may_stand V74 (Operand 24) (i, e) ≡ true → IsNode V74 i e → accepts V74 t.CloseBrace w ≡ true
-    → AllGood (node j d (leaf x (node i e (leaf w none)))) → Good BraceOffset (node j d (leaf x (node i e (leaf w none)))) (changed_tree BraceOffset (node j d (leaf x (node i e (leaf w none)))))
+offset_at : (j : NodeKind) (d : Forest) (x : Token) (i : NodeKind) (e : Forest) (w : Token)
+    → may_stand V74 OffsetBase (j, d) ≡ true → IsNode V74 j d → accepts V74 t.OpenBrace x ≡ true
+    → may_stand V74 (Operand 24) (i, e) ≡ true → IsNode V74 i e → accepts V74 t.CloseBrace w ≡ true
+    → AllGood (node j d (leaf x (node i e (leaf w none)))) → Good BraceOffset
+    (node j d (leaf x (node i e (leaf w none))))
+    (changed_tree BraceOffset (node j d (leaf x (node i e (leaf w none)))))
 offset_at j d x i e w m n p o q r u =
     let c = node j d (leaf x (node i e (leaf w none))) in
     let y = new_tree (within BraceOffset c true) j d in
@@ -174,7 +187,8 @@ old_cond true x y p q e = p e
 old_cond false x y p q e = q e
 
 old_keyword : (text : List ℕ) → same_class t.OldCast (keyword text) ≡ true → ⊥
-old_keyword text e = old_cond (nat_lt 5 (length text) && words.is_word (codes "yield") (front 5 text)) t.YieldFrom (find_row t.OtherKeyword keywords text) (λ u. cc) (old_row text) e
+old_keyword text e = old_cond (nat_lt 5 (length text) && words.is_word (codes "yield") (front 5 text)) t.YieldFrom
+    (find_row t.OtherKeyword keywords text) (λ u. cc) (old_row text) e
 
 old_name : (text : List ℕ) → same_class t.OldCast (name text) ≡ true → ⊥
 old_name text e =
@@ -204,7 +218,9 @@ old_lacks _ text s e = absurd cc
 abbrev CastGood : Forest → Tree → Type 0
 CastGood c x = Good Cast c x
 
-cast_single : (x y : Token) (i : NodeKind) (e : Forest) (z : Tree) → accepts V83 t.Cast y ≡ true → goes_on_if (terminal y) ≡ false → is_to (terminal y) ≡ false → IsNode V74 i e → may_stand V74 (Operand 3) (i, e) ≡ true → Good i e z
+cast_single : (x y : Token) (i : NodeKind) (e : Forest) (z : Tree) → accepts V83 t.Cast y ≡ true
+    → goes_on_if (terminal y) ≡ false → is_to (terminal y) ≡ false → IsNode V74 i e
+    → may_stand V74 (Operand 3) (i, e) ≡ true → Good i e z
     → Good Cast (single x i e) (Cast, single y z.0 z.1)
 cast_single x y i e z p q r n m g =
     let c = single x i e in
@@ -213,7 +229,14 @@ cast_single x y i e z p q r n m g =
     record {
       shaped = is_node (is_both (is_word p) (is_place (good_stands (Operand 3) i e z g refl m) g.shaped) refl)
           (quiet_near b (and_both (not (goes_on_if (terminal y))) (not (is_to (terminal y)) && true) (ap not q) (ap (λ u. not u && true) r))) (lines_fine Cast b refl);
-      like = record { ifs = g.like.ifs; yields = g.like.yields; edges = below_max 3 3 (max (level V83 z) (edge_from V83 0 z.1)) (max (level V74 (i, e)) (edge_from V74 0 e)) (below_same 3) g.like.edges; begins = λ u. absurd cc };
+      like = record {
+        ifs = g.like.ifs;
+        yields = g.like.yields;
+        edges =
+            below_max 3 3 (max (level V83 z) (edge_from V83 0 z.1)) (max (level V74 (i, e)) (edge_from V74 0 e))
+            (below_same 3) g.like.edges;
+        begins = λ u. absurd cc;
+      };
       becomes = becomes_same Cast;
       levels = below_same 3;
       dot_level = λ u. omega arith;
@@ -249,11 +272,17 @@ not_unset true false e d = d
 not_unset false b e d = refl
 
 -- the token of a cast that stays
-cast_stays : (x : Token) (i : NodeKind) (e : Forest) → Fits V74 (word t.Cast ||| word t.OldCast) (leaf x none) → is_spelled_by x.kind x.text ≡ true → is_real_cast (Cast, single x i e) ≡ false → is_unset_cast (Cast, single x i e) ≡ false → accepts V74 t.Cast x ≡ true
+cast_stays : (x : Token) (i : NodeKind) (e : Forest) → Fits V74 (word t.Cast ||| word t.OldCast) (leaf x none)
+    → is_spelled_by x.kind x.text ≡ true → is_real_cast (Cast, single x i e) ≡ false
+    → is_unset_cast (Cast, single x i e) ≡ false → accepts V74 t.Cast x ≡ true
 cast_stays x i e (is_first (is_word p)) s r u = p
-cast_stays x i e (is_second (is_word p)) s r u = absurd (no_lack (bytes_eq (bare x.text) (codes "(real)")) (bytes_eq (bare x.text) (codes "(unset)")) (old_lacks x.kind x.text s p) r u)
+cast_stays x i e (is_second (is_word p)) s r u =
+    absurd (no_lack (bytes_eq (bare x.text) (codes "(real)")) (bytes_eq (bare x.text) (codes "(unset)"))
+    (old_lacks x.kind x.text s p) r u)
 
-cast_at : (x : Token) (i : NodeKind) (e : Forest) → Fits V74 (word t.Cast ||| word t.OldCast) (leaf x none) → is_spelled_by x.kind x.text ≡ true → is_undecided (Cast, single x i e) ≡ false → may_stand V74 (Operand 3) (i, e) ≡ true → IsNode V74 i e → AllGood (single x i e)
+cast_at : (x : Token) (i : NodeKind) (e : Forest) → Fits V74 (word t.Cast ||| word t.OldCast) (leaf x none)
+    → is_spelled_by x.kind x.text ≡ true → is_undecided (Cast, single x i e) ≡ false
+    → may_stand V74 (Operand 3) (i, e) ≡ true → IsNode V74 i e → AllGood (single x i e)
     → Good Cast (single x i e) (changed_tree Cast (single x i e))
 cast_at x i e f s u m n w = by_real (is_real_cast (Cast, single x i e)) refl
   where
@@ -266,11 +295,27 @@ cast_at x i e f s u m n w = by_real (is_real_cast (Cast, single x i e)) refl
     old : NewTree
     old = (Cast, written (within Cast (single x i e)) true (single x i e))
 
-    after_real : (r : Bool) → is_real_cast (Cast, single x i e) ≡ r → changed_tree Cast (single x i e) ≡ shown_tree (if r then real_cast (Cast, written (within Cast (single x i e)) true (single x i e)) else (if is_edited (Cast, single x i e) then unset_cast (Cast, written (within Cast (single x i e)) true (single x i e)) else (Cast, written (within Cast (single x i e)) true (single x i e))))
-    after_real r d = ap (λ (b : Bool). shown_tree (if b then real_cast (Cast, written (within Cast (single x i e)) true (single x i e)) else (if is_edited (Cast, single x i e) then unset_cast (Cast, written (within Cast (single x i e)) true (single x i e)) else (Cast, written (within Cast (single x i e)) true (single x i e))))) d
+    after_real : (r : Bool) → is_real_cast (Cast, single x i e) ≡ r
+        → changed_tree Cast (single x i e) ≡ shown_tree
+        (if r then real_cast (Cast, written (within Cast (single x i e)) true (single x i e)) else
+        (if is_edited (Cast, single x i e) then unset_cast
+        (Cast, written (within Cast (single x i e)) true (single x i e)) else
+        (Cast, written (within Cast (single x i e)) true (single x i e))))
+    after_real r d = ap (λ (b : Bool). shown_tree
+        (if b then real_cast (Cast, written (within Cast (single x i e)) true (single x i e)) else
+        (if is_edited (Cast, single x i e) then unset_cast
+        (Cast, written (within Cast (single x i e)) true (single x i e)) else
+        (Cast, written (within Cast (single x i e)) true (single x i e))))) d
 
-    after_unset : (r : Bool) → is_edited (Cast, single x i e) ≡ r → shown_tree (if is_edited (Cast, single x i e) then unset_cast (Cast, written (within Cast (single x i e)) true (single x i e)) else (Cast, written (within Cast (single x i e)) true (single x i e))) ≡ shown_tree (if r then unset_cast (Cast, written (within Cast (single x i e)) true (single x i e)) else (Cast, written (within Cast (single x i e)) true (single x i e)))
-    after_unset r d = ap (λ (b : Bool). shown_tree (if b then unset_cast (Cast, written (within Cast (single x i e)) true (single x i e)) else (Cast, written (within Cast (single x i e)) true (single x i e)))) d
+    after_unset : (r : Bool) → is_edited (Cast, single x i e) ≡ r
+        → shown_tree (if is_edited (Cast, single x i e) then unset_cast
+        (Cast, written (within Cast (single x i e)) true (single x i e)) else
+        (Cast, written (within Cast (single x i e)) true (single x i e))) ≡ shown_tree
+        (if r then unset_cast (Cast, written (within Cast (single x i e)) true (single x i e)) else
+        (Cast, written (within Cast (single x i e)) true (single x i e)))
+    after_unset r d = ap (λ (b : Bool). shown_tree
+        (if b then unset_cast (Cast, written (within Cast (single x i e)) true (single x i e)) else
+        (Cast, written (within Cast (single x i e)) true (single x i e)))) d
 
     by_unset : (r : Bool) → is_real_cast (Cast, single x i e) ≡ false → is_edited (Cast, single x i e) ≡ r → Good Cast (single x i e) (changed_tree Cast (single x i e))
     by_unset true q d = subst (Good Cast (single x i e)) (sym (after_real false q ∙ after_unset true d)) (null_good (single x i e))

@@ -116,7 +116,9 @@ keyword_calm text h = by_test (bytes_eq (str_to_ascii_lowercase text) (codes "na
 operator_calm : (text : List ℕ) → is_calm (operator text) ≡ true → bytes_eq text (codes "\\") ≡ false
 operator_calm text h = by_test (bytes_eq text (codes "\\")) (λ e. true_false (sym h ∙ ap is_calm (root_is text e)))
 
-shut_by : (kind : TokenKind) (text : List ℕ) → is_calm (terminal_by kind text) ≡ true → not (is_op kind && bytes_eq text (codes "\\") || (is_label kind || is_keyword kind && bytes_eq (str_to_ascii_lowercase text) (codes "namespace"))) ≡ true
+shut_by : (kind : TokenKind) (text : List ℕ) → is_calm (terminal_by kind text) ≡ true
+    → not (is_op kind && bytes_eq text (codes "\\")
+    || (is_label kind || is_keyword kind && bytes_eq (str_to_ascii_lowercase text) (codes "namespace"))) ≡ true
 shut_by kind.Label text h = absurd (label_calm text h)
 shut_by kind.Keyword text h = ap not (keyword_calm text h)
 shut_by kind.Op text h = ap (λ (b : Bool). not (b || false)) (operator_calm text h)

@@ -1,5 +1,35 @@
 -- The depth of the rewritten file.
-use Rattle.std.proofs.Common.{Some, None, length, length-append, ◌≡◌, ℕ, suc, ◌+◌, ◌*◌, ◌≤◌, max, Bool, true, false, ◌&&◌, ◌||◌, cond, if◌then◌else◌, List, [], ◌∷◌, ◌++◌, Option, codes, refl, ap, ◌∙◌, arith, append-nil}
+use Rattle.std.proofs.Common.{
+  Some,
+  None,
+  length,
+  length-append,
+  ◌≡◌,
+  ℕ,
+  suc,
+  ◌+◌,
+  ◌*◌,
+  ◌≤◌,
+  max,
+  Bool,
+  true,
+  false,
+  ◌&&◌,
+  ◌||◌,
+  cond,
+  if◌then◌else◌,
+  List,
+  [],
+  ◌∷◌,
+  ◌++◌,
+  Option,
+  codes,
+  refl,
+  ap,
+  ◌∙◌,
+  arith,
+  append-nil,
+}
 use Rattle.std.specs.Str.{bytes_eq}
 use Rattle.std.proofs.lemmas.Slice.Eq.{bytes_eq-Decides}
 use Rattle.php_tree.specs.declared.token.TokenKind.{TokenKind}
@@ -263,14 +293,17 @@ and_right true d e = e
 and_right false d e = cc
 
 -- three times as deep, and two levels more where a node is a quoted text
-changed_deep : (k : NodeKind) (c : Forest) (w : Draft) (n : ℕ) → deep w ≤ n → (of_variable c ≡ true → 1 ≤ n) → (is_quoted k ≡ true → deep (parts w) ≤ n) → deep (changed (k, c) (k, w)).1 ≤ n
+changed_deep : (k : NodeKind) (c : Forest) (w : Draft) (n : ℕ) → deep w ≤ n → (of_variable c ≡ true → 1 ≤ n)
+    → (is_quoted k ≡ true → deep (parts w) ≤ n) → deep (changed (k, c) (k, w)).1 ≤ n
 changed_deep k c w n h v q =
     if_tree (is_brace_offset k) (brace_offset (k, w)) _ n (λ e. omega (arith, deep_bracketed w))
     (λ e. if_tree (is_real_cast (k, c)) (real_cast (k, w)) _ n (λ e. omega (arith, deep_float w))
     (λ e. if_tree (is_edited (k, c)) (unset_cast (k, w)) _ n (λ d. omega (arith, v (and_right (is_unset_cast (k, c)) (of_variable c) d)))
     (λ e. if_tree (is_quoted k) (dollar_brace (k, w)) (k, w) n q (λ e. h))))
 
-node_deep : (a : Option Around) (b : Bool) (k : NodeKind) (c : Forest) (w : Draft) → is_quoted k ≡ b → deep w ≤ 3 * depth c → ArePlain w → suc (deep (in_wrappings (whole.wrapping a (k, c)) (changed (k, c) (k, w))).1) ≤ 3 * suc (depth c)
+node_deep : (a : Option Around) (b : Bool) (k : NodeKind) (c : Forest) (w : Draft) → is_quoted k ≡ b
+    → deep w ≤ 3 * depth c → ArePlain w
+    → suc (deep (in_wrappings (whole.wrapping a (k, c)) (changed (k, c) (k, w))).1) ≤ 3 * suc (depth c)
 node_deep a true k c w e h p =
     let d = changed_deep k c w (suc (suc (3 * depth c))) (omega arith) (λ v. omega arith) (λ q. (parts_shallow (3 * depth c) w p h).all) in
     let g : length (whole.wrapping a (k, c)) ≡ 0 = ap length (no_wrappings a k c e) in

@@ -12,7 +12,23 @@ use Rattle.php_grammar.specs.Levels.{level}
 use Rattle.php_shapes.specs.Forms.{form}
 use Rattle.php_shapes.specs.Notation.{Rule, nothing, word, kind, place, inside, ◌~◌, ◌|||◌, many, tokens}
 use Rattle.php_shapes.specs.Places.{Place, Target, ClassName, begins_with_class_name, is_class_name, may_stand}
-use Rattle.php_shapes.specs.Shapes.{Fits, IsNode, is_balanced, is_nothing, is_word, is_kind, is_place, is_inside, is_both, is_first, is_second, no_more, once_more, is_tokens, is_node}
+use Rattle.php_shapes.specs.Shapes.{
+  Fits,
+  IsNode,
+  is_balanced,
+  is_nothing,
+  is_word,
+  is_kind,
+  is_place,
+  is_inside,
+  is_both,
+  is_first,
+  is_second,
+  no_more,
+  once_more,
+  is_tokens,
+  is_node,
+}
 use Rattle.rewritten_shapes.proofs.Like.{edges_join}
 use Rattle.rewritten_shapes.proofs.Sides.{and_left, and_right, empty_rule, false_true, map_right, may_be_empty}
 
@@ -137,7 +153,10 @@ both_flat : (f g h : Forest) (r s : Rule) → f ≡ g +++ h → Fits V83 s h →
 both_flat f g h r s d y e (inl n) = ap (edge_from V83 0) d ∙ edges_join V83 0 g h ∙ edge_any (edge_from V83 0 g) 0 h (λ z. n (empty_rule V83 y z)) ∙ e
 both_flat f g h r s d y e (inr n) = ap (edge_from V83 0) d ∙ edges_join V83 0 g h ∙ ap (λ (m : ℕ). edge_from V83 m h) n ∙ e
 
-token_flat : (a b : Bool) (n : ℕ) (f : Forest) → cond a (is_balanced (n + 1) f) (cond b (not (nat_eq n 0) && is_balanced (n - 1) f) (is_balanced n f)) ≡ true → (is_balanced (n + 1) f ≡ true → edge_from V83 0 f ≡ 0) → (is_balanced (n - 1) f ≡ true → edge_from V83 0 f ≡ 0) → (is_balanced n f ≡ true → edge_from V83 0 f ≡ 0) → edge_from V83 0 f ≡ 0
+token_flat : (a b : Bool) (n : ℕ) (f : Forest) → cond a (is_balanced (n + 1) f)
+    (cond b (not (nat_eq n 0) && is_balanced (n - 1) f) (is_balanced n f)) ≡ true
+    → (is_balanced (n + 1) f ≡ true → edge_from V83 0 f ≡ 0) → (is_balanced (n - 1) f ≡ true → edge_from V83 0 f ≡ 0)
+    → (is_balanced n f ≡ true → edge_from V83 0 f ≡ 0) → edge_from V83 0 f ≡ 0
 token_flat true b n f e p q r = p e
 token_flat false true n f e p q r = q (and_right (not (nat_eq n 0)) (is_balanced (n - 1) f) e)
 token_flat false false n f e p q r = r e

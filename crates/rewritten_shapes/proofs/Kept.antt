@@ -16,7 +16,28 @@ use Rattle.php_grammar.specs.Edges.{edge, edge_from}
 use Rattle.php_grammar.specs.Levels.{level}
 use Rattle.php_shapes.specs.Nearest.{ends_in_if, ends_in_yield, is_nearest, is_open_if, is_open_yield}
 use Rattle.php_shapes.specs.Notation.{Rule, nothing, word, kind, place, inside, ◌~◌, ◌|||◌, many, tokens}
-use Rattle.php_shapes.specs.Places.{Place, Statement, Member, Operand, Left, LeftShort, OffsetBase, MemberBase, ClassBase, Callee, Target, TargetOrList, ClassName, begins_with_class_name, is_class_name, is_expression, is_member, is_prefix, is_statement, may_stand}
+use Rattle.php_shapes.specs.Places.{
+  Place,
+  Statement,
+  Member,
+  Operand,
+  Left,
+  LeftShort,
+  OffsetBase,
+  MemberBase,
+  ClassBase,
+  Callee,
+  Target,
+  TargetOrList,
+  ClassName,
+  begins_with_class_name,
+  is_class_name,
+  is_expression,
+  is_member,
+  is_prefix,
+  is_statement,
+  may_stand,
+}
 use Rattle.php_shapes.specs.Shapes.{Fits, IsNode, is_nothing, is_word, is_kind, is_place, is_inside, is_both, is_first, is_second, no_more, once_more, is_tokens}
 use Rattle.syntax_rules.specs.Around.{Around, within}
 use Rattle.syntax_rules.specs.DotPrecedence.{is_dot}
@@ -290,7 +311,9 @@ kept_word asked x e p = record { fits = is_word (steady_shown asked x e p); like
 pub kept_both : (r s r2 s2 : Rule) (f g h i j : Forest) → f ≡ g +++ h → Kept r2 g i → Kept s2 h j → Kept (r2 ~ s2) f (i +++ j)
 kept_both r s r2 s2 f g h i j d p q = record { fits = is_both p.fits q.fits refl; like = subst (λ (z : Forest). Like z (i +++ j)) (sym d) (like_join g h i j p.like q.like) }
 
-kept_node : (a : Bool → Option Around) (b : Bool) (j : NodeKind) (c : Forest) → is_simple j ≡ true → IsNode V74 j c → ((z : Option Around) → IsNode V74 j c → Good j c (new_tree z j c)) → Kept (kind j) (node j c none) (new_parts a b (node j c none))
+kept_node : (a : Bool → Option Around) (b : Bool) (j : NodeKind) (c : Forest) → is_simple j ≡ true → IsNode V74 j c
+    → ((z : Option Around) → IsNode V74 j c → Good j c (new_tree z j c))
+    → Kept (kind j) (node j c none) (new_parts a b (node j c none))
 kept_node a b j c e n g =
     let good = g (a b) n in
     let same : new_tree (a b) j c ≡ (j, new_parts (within j c) true c) = simple_tree (a b) j c e in
@@ -298,7 +321,10 @@ kept_node a b j c e n g =
     subst (λ (x : Tree). Kept (kind j) (node j c none) (node x.0 x.1 none)) (sym same)
     (record { fits = is_kind here.shaped; like = like_node j c j (new_parts (within j c) true c) here.like })
 
-kept_place : (a : Bool → Option Around) (b : Bool) (p : Place) (j : NodeKind) (c : Forest) → steady_place p ≡ true → may_stand V74 p (j, c) ≡ true → IsNode V74 j c → ((z : Option Around) → IsNode V74 j c → Good j c (new_tree z j c)) → Kept (place p) (node j c none) (new_parts a b (node j c none))
+kept_place : (a : Bool → Option Around) (b : Bool) (p : Place) (j : NodeKind) (c : Forest) → steady_place p ≡ true
+    → may_stand V74 p (j, c) ≡ true → IsNode V74 j c
+    → ((z : Option Around) → IsNode V74 j c → Good j c (new_tree z j c))
+    → Kept (place p) (node j c none) (new_parts a b (node j c none))
 kept_place a b p j c e m n g =
     let good = g (a b) n in
     record {
@@ -306,7 +332,9 @@ kept_place a b p j c e m n g =
       like = like_node j c (new_tree (a b) j c).0 (new_tree (a b) j c).1 good.like;
     }
 
-kept_inside : (a : Bool → Option Around) (b : Bool) (j : NodeKind) (r : Rule) (c : Forest) → is_simple j ≡ true → is_settled j ≡ true → is_nearest c ≡ true → Kept r c (new_parts (within j c) true c) → Kept (inside j r) (node j c none) (new_parts a b (node j c none))
+kept_inside : (a : Bool → Option Around) (b : Bool) (j : NodeKind) (r : Rule) (c : Forest) → is_simple j ≡ true
+    → is_settled j ≡ true → is_nearest c ≡ true → Kept r c (new_parts (within j c) true c)
+    → Kept (inside j r) (node j c none) (new_parts a b (node j c none))
 kept_inside a b j r c e d near p =
     subst (λ (x : Tree). Kept (inside j r) (node j c none) (node x.0 x.1 none)) (sym (simple_tree (a b) j c e))
     (record {
@@ -315,18 +343,23 @@ kept_inside a b j r c e d near p =
     })
 
 -- the new parts of two rules
-pub kept_join : (a : Bool → Option Around) (b : Bool) (r s r2 s2 : Rule) (f g h : Forest) → f ≡ g +++ h → Fits V74 r g → Fits V74 s h → stay_apart r s ≡ true → Kept r2 g (new_parts a b g) → Kept s2 h (new_parts a (still_first b g) h) → Kept (r2 ~ s2) f (new_parts a b f)
+pub kept_join : (a : Bool → Option Around) (b : Bool) (r s r2 s2 : Rule) (f g h : Forest) → f ≡ g +++ h → Fits V74 r g
+    → Fits V74 s h → stay_apart r s ≡ true → Kept r2 g (new_parts a b g) → Kept s2 h (new_parts a (still_first b g) h)
+    → Kept (r2 ~ s2) f (new_parts a b f)
 kept_join a b r s r2 s2 f g h d x y e p q =
     let same : new_parts a b f ≡ new_parts a b g +++ new_parts a (still_first b g) h = ap (new_parts a b) d ∙ apart_parts a b g h (are_apart x y e) in
     subst (Kept (r2 ~ s2) f) (sym same) (kept_both r s r2 s2 f g h (new_parts a b g) (new_parts a (still_first b g) h) d p q)
 
-pub kept_many : (a : Bool → Option Around) (b : Bool) (r r2 : Rule) (f g h : Forest) → f ≡ g +++ h → Fits V74 r g → Fits V74 (many r) h → stay_apart r r ≡ true → Kept r2 g (new_parts a b g) → Kept (many r2) h (new_parts a (still_first b g) h) → Kept (many r2) f (new_parts a b f)
+pub kept_many : (a : Bool → Option Around) (b : Bool) (r r2 : Rule) (f g h : Forest) → f ≡ g +++ h → Fits V74 r g
+    → Fits V74 (many r) h → stay_apart r r ≡ true → Kept r2 g (new_parts a b g)
+    → Kept (many r2) h (new_parts a (still_first b g) h) → Kept (many r2) f (new_parts a b f)
 kept_many a b r r2 f g h d x y e p q =
     let same : new_parts a b f ≡ new_parts a b g +++ new_parts a (still_first b g) h = ap (new_parts a b) d ∙ apart_parts a b g h (are_apart x y e) in
     subst (Kept (many r2) f) (sym same)
     (record {
       fits = once_more p.fits q.fits refl;
-      like = subst (λ (z : Forest). Like z (new_parts a b g +++ new_parts a (still_first b g) h)) (sym d) (like_join g h (new_parts a b g) (new_parts a (still_first b g) h) p.like q.like);
+      like = subst (λ (z : Forest). Like z (new_parts a b g +++ new_parts a (still_first b g) h)) (sym d)
+          (like_join g h (new_parts a b g) (new_parts a (still_first b g) h) p.like q.like);
     })
 
 pub kept_first : (r s : Rule) (f g : Forest) → Kept r f g → Kept (r ||| s) f g
@@ -348,11 +381,14 @@ kept (is_both {r} {s} {f} {g} {h} x y d) e w a b =
     let z = subst AllGood d w in
     let apart = and_left (stay_apart r s) (steady r && steady s) e in
     let both = and_right (stay_apart r s) (steady r && steady s) e in
-    kept_join a b r s r s f g h d x y apart (kept x (and_left (steady r) (steady s) both) (good_front g h z) a b) (kept y (and_right (steady r) (steady s) both) (good_rest g h z) a (still_first b g))
+    kept_join a b r s r s f g h d x y apart (kept x (and_left (steady r) (steady s) both) (good_front g h z) a b)
+    (kept y (and_right (steady r) (steady s) both) (good_rest g h z) a (still_first b g))
 kept (is_first {r} {s} {f} x) e w a b = kept_first r s f (new_parts a b f) (kept x (and_left (steady r) (steady s) e) w a b)
 kept (is_second {r} {s} {f} x) e w a b = kept_second r s f (new_parts a b f) (kept x (and_right (steady r) (steady s) e) w a b)
 kept no_more e w a b = record { fits = no_more; like = like_none }
 kept (once_more {r} {f} {g} {h} x y d) e w a b =
     let z = subst AllGood d w in
-    kept_many a b r r f g h d x y (and_left (stay_apart r r) (steady r) e) (kept x (and_right (stay_apart r r) (steady r) e) (good_front g h z) a b) (kept y e (good_rest g h z) a (still_first b g))
+    kept_many a b r r f g h d x y (and_left (stay_apart r r) (steady r) e)
+    (kept x (and_right (stay_apart r r) (steady r) e) (good_front g h z) a b)
+    (kept y e (good_rest g h z) a (still_first b g))
 kept (is_tokens p) e w a b = cc

@@ -17,7 +17,25 @@ use Rattle.syntax_rules.specs.Around.{Around}
 use Rattle.syntax_rules.specs.HashComment.{hash_comment}
 use Rattle.rewritten_shapes.specs.Laws.{AreSpelled}
 use Rattle.rewritten_shapes.specs.RefusedWords.{declares, has, has_before, in_class, is_brace, is_double_colon, is_keyword_now}
-use Rattle.rewritten_shapes.proofs.Bilingual.{Both, a_called, a_label, a_name, alike, either, has_join, label_any, left_false, next, old, or_false, right_false, shown_terminal, spelled_front, spelled_rest, times}
+use Rattle.rewritten_shapes.proofs.Bilingual.{
+  Both,
+  a_called,
+  a_label,
+  a_name,
+  alike,
+  either,
+  has_join,
+  label_any,
+  left_false,
+  next,
+  old,
+  or_false,
+  right_false,
+  shown_terminal,
+  spelled_front,
+  spelled_rest,
+  times,
+}
 use Rattle.rewritten_shapes.proofs.Shown.{names_whole, new_parts, shown, shown_token}
 use Rattle.rewritten_shapes.proofs.Sides.{and_left, and_right, apart_parts, are_apart, stay_apart, still_first}
 use Rattle.rewritten_shapes.proofs.Tabled.{written}
@@ -115,8 +133,12 @@ name_has_no : (m : Mark) (f : Forest) → Fits V74 (name V74) f → AreSpelled f
 name_has_no m f p s a b = go (name_is f p s a b)
   where
     go : Whole (names_whole (written a b f)) → has (marks m) (new_parts a b f) ≡ false
-    go (inl r) = ap (λ d. has (marks m) (shown d)) r.2 ∙ or_false (marks m (terminal (shown_token (hash_comment r.0)))) false (ap (marks m) (shown_terminal r.0) ∙ label_no m (terminal r.0) (label_any r.0 r.1)) refl
-    go (inr r) = ap (λ d. has (marks m) (shown d)) r.2 ∙ or_false (marks m (terminal (shown_token r.0))) false (ap (λ (sort : TokenKind). marks m (terminal_by sort (shown_token r.0).text)) r.1 ∙ name_no m (shown_token r.0).text) refl
+    go (inl r) = ap (λ d. has (marks m) (shown d)) r.2 ∙ or_false
+        (marks m (terminal (shown_token (hash_comment r.0)))) false
+        (ap (marks m) (shown_terminal r.0) ∙ label_no m (terminal r.0) (label_any r.0 r.1)) refl
+    go (inr r) = ap (λ d. has (marks m) (shown d)) r.2 ∙ or_false (marks m (terminal (shown_token r.0))) false
+        (ap (λ (sort : TokenKind). marks m (terminal_by sort (shown_token r.0).text)) r.1
+        ∙ name_no m (shown_token r.0).text) refl
 
 -- ---- rules
 
@@ -150,14 +172,17 @@ join_no m a b r s f g h d x y e p q =
     ap (λ z. has (marks m) (new_parts a b z)) d ∙ ap (has (marks m)) (apart_parts a b g h (are_apart x y e))
     ∙ has_join (marks m) (new_parts a b g) (new_parts a (still_first b g) h) ∙ or_false (has (marks m) (new_parts a b g)) (has (marks m) (new_parts a (still_first b g) h)) p q
 
-many_no : (m : Mark) (q : Rule) → stay_apart q q ≡ true → ((f : Forest) → Fits V74 q f → AreSpelled f → (a : Bool → Option Around) (b : Bool) → has (marks m) (new_parts a b f) ≡ false)
+many_no : (m : Mark) (q : Rule) → stay_apart q q ≡ true
+    → ((f : Forest) → Fits V74 q f → AreSpelled f → (a : Bool → Option Around) (b : Bool)
+    → has (marks m) (new_parts a b f) ≡ false)
     → (f : Forest) → Fits V74 (many q) f → AreSpelled f → (a : Bool → Option Around) (b : Bool) → has (marks m) (new_parts a b f) ≡ false
 many_no m q e one _ no_more s a b = refl
 many_no m q e one f (once_more {g} {h} x y d) s a b =
     let sp = subst AreSpelled d s in
     join_no m a b q (many q) f g h d x y e (one g x (spelled_front g h sp) a b) (many_no m q e one h y (spelled_rest g h sp) a (still_first b g))
 
-pub both_no : (m : Mark) (r : Both) → has_none_of m r ≡ true → (f : Forest) → Fits V74 (old r) f → AreSpelled f → (a : Bool → Option Around) (b : Bool) → has (marks m) (new_parts a b f) ≡ false
+pub both_no : (m : Mark) (r : Both) → has_none_of m r ≡ true → (f : Forest) → Fits V74 (old r) f → AreSpelled f
+    → (a : Bool → Option Around) (b : Bool) → has (marks m) (new_parts a b f) ≡ false
 both_no m (alike r) e f x s a b = plain_no m r f e x a b
 both_no m a_name e f x s a b = name_has_no m f x s a b
 both_no m a_called e f x s a b = name_has_no m f x s a b
@@ -170,7 +195,8 @@ both_no m (next r s) e f (is_both {g} {h} x y d) sp a b =
     (both_no m s (and_right (has_none_of m r) (has_none_of m s) both) h y (spelled_rest g h ss) a (still_first b g))
 both_no m (either r s) e f (is_first x) sp a b = both_no m r (and_left (has_none_of m r) (has_none_of m s) e) f x sp a b
 both_no m (either r s) e f (is_second x) sp a b = both_no m s (and_right (has_none_of m r) (has_none_of m s) e) f x sp a b
-both_no m (times r) e f x s a b = many_no m (old r) (and_left (stay_apart (old r) (old r)) (has_none_of m r) e) (both_no m r (and_right (stay_apart (old r) (old r)) (has_none_of m r) e)) f x s a b
+both_no m (times r) e f x s a b = many_no m (old r) (and_left (stay_apart (old r) (old r)) (has_none_of m r) e)
+    (both_no m r (and_right (stay_apart (old r) (old r)) (has_none_of m r) e)) f x s a b
 
 -- ---- what stands before such a token
 
@@ -190,6 +216,8 @@ pub class_front : (g h : Forest) → has declares g ≡ false → in_class false
 class_front none h e p = (refl, p)
 class_front (leaf x g) h e p =
     let d = left_false (declares (terminal x)) (has declares g) e in
-    let z = class_front g h (right_false (declares (terminal x)) (has declares g) e) (ap (λ (b : Bool). in_class b (g +++ h)) (sym d) ∙ right_false (is_keyword_now (terminal x)) (in_class (declares (terminal x)) (g +++ h)) p) in
+    let z = class_front g h (right_false (declares (terminal x)) (has declares g) e)
+    (ap (λ (b : Bool). in_class b (g +++ h)) (sym d) ∙ right_false (is_keyword_now (terminal x))
+    (in_class (declares (terminal x)) (g +++ h)) p) in
     (or_false (is_keyword_now (terminal x)) (has is_keyword_now g) (left_false (is_keyword_now (terminal x)) (in_class (declares (terminal x)) (g +++ h)) p) z.0, z.1)
 class_front (node k c g) h e p = class_front g h e p

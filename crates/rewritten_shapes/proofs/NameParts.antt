@@ -41,14 +41,19 @@ cond_not p false x y e d = d
 
 keyword_no_label : (text : List ℕ) → asks_label (keyword text) ≡ false
 unfolding keywords
-keyword_no_label text = cond_not asks_label (nat_lt 5 (length text) && is_word (codes "yield") (front 5 text)) t.YieldFrom (find_row t.OtherKeyword keywords text) refl (rows_not asks_label t.OtherKeyword keywords text refl refl)
+keyword_no_label text = cond_not asks_label (nat_lt 5 (length text) && is_word (codes "yield") (front 5 text))
+    t.YieldFrom (find_row t.OtherKeyword keywords text) refl
+    (rows_not asks_label t.OtherKeyword keywords text refl refl)
 
 operator_no_label : (text : List ℕ) → asks_label (operator text) ≡ false
 unfolding operators
 operator_no_label text = rows_not asks_label t.OtherOp operators text refl refl
 
 cast_no_label : (text : List ℕ) → asks_label (cast text) ≡ false
-cast_no_label text = cond_not asks_label (nat_lt (opening text) (length text)) (cast_letter (to_ascii_lowercase (slice_index text (opening text)))) t.Cast (cond_not asks_label (nat_eq (to_ascii_lowercase (slice_index text (opening text))) 114 || nat_eq (to_ascii_lowercase (slice_index text (opening text))) 117) t.OldCast t.Cast refl refl) refl
+cast_no_label text = cond_not asks_label (nat_lt (opening text) (length text))
+    (cast_letter (to_ascii_lowercase (slice_index text (opening text)))) t.Cast
+    (cond_not asks_label (nat_eq (to_ascii_lowercase (slice_index text (opening text))) 114
+    || nat_eq (to_ascii_lowercase (slice_index text (opening text))) 117) t.OldCast t.Cast refl refl) refl
 
 name_no_label : (text : List ℕ) → asks_label (name text) ≡ false
 name_no_label text =
@@ -80,7 +85,10 @@ unfolding operators
 operator_no_space text = rows_not asks_space t.OtherOp operators text refl refl
 
 cast_no_space : (text : List ℕ) → asks_space (cast text) ≡ false
-cast_no_space text = cond_not asks_space (nat_lt (opening text) (length text)) (cast_letter (to_ascii_lowercase (slice_index text (opening text)))) t.Cast (cond_not asks_space (nat_eq (to_ascii_lowercase (slice_index text (opening text))) 114 || nat_eq (to_ascii_lowercase (slice_index text (opening text))) 117) t.OldCast t.Cast refl refl) refl
+cast_no_space text = cond_not asks_space (nat_lt (opening text) (length text))
+    (cast_letter (to_ascii_lowercase (slice_index text (opening text)))) t.Cast
+    (cond_not asks_space (nat_eq (to_ascii_lowercase (slice_index text (opening text))) 114
+    || nat_eq (to_ascii_lowercase (slice_index text (opening text))) 117) t.OldCast t.Cast refl refl) refl
 
 name_no_space : (text : List ℕ) → asks_space (name text) ≡ false
 name_no_space text =
@@ -113,13 +121,17 @@ unfolding keywords
 row_space text e = or_none (is_word (codes "namespace") text) (found t.Namespace t.OtherKeyword keywords text refl e)
 
 keyword_space : (text : List ℕ) → asks_space (keyword text) ≡ true → bytes_eq (str_to_ascii_lowercase text) (codes "namespace") ≡ true
-keyword_space text e = (bytes_eq-Decides (str_to_ascii_lowercase text) (codes "namespace")).1 (equal_is (codes "namespace") (str_to_ascii_lowercase text) (sym (lower_word (codes "namespace") text) ∙ row_space text (go (nat_lt 5 (length text) && is_word (codes "yield") (front 5 text)) e)))
+keyword_space text e = (bytes_eq-Decides (str_to_ascii_lowercase text) (codes "namespace")).1
+    (equal_is (codes "namespace") (str_to_ascii_lowercase text)
+    (sym (lower_word (codes "namespace") text) ∙ row_space text
+    (go (nat_lt 5 (length text) && is_word (codes "yield") (front 5 text)) e)))
   where
     go : (b : Bool) → asks_space (cond b t.YieldFrom (find_row t.OtherKeyword keywords text)) ≡ true → asks_space (find_row t.OtherKeyword keywords text) ≡ true
     go true e = absurd cc
     go false e = e
 
-pub space_by : (sort : TokenKind) (text : List ℕ) → asks_space (terminal_by sort text) ≡ true → (is_keyword sort && bytes_eq (str_to_ascii_lowercase text) (codes "namespace")) ≡ true
+pub space_by : (sort : TokenKind) (text : List ℕ) → asks_space (terminal_by sort text) ≡ true
+    → (is_keyword sort && bytes_eq (str_to_ascii_lowercase text) (codes "namespace")) ≡ true
 space_by token.Keyword text e = keyword_space text e
 space_by token.Label text e = absurd (clash (label_no_space text) e)
 space_by token.Op text e = absurd (clash (operator_no_space text) e)

@@ -80,7 +80,8 @@ declare_form =
 -- ---- nodes
 
 -- a node whose form is one in both versions
-both_good : (w : Which) (r : Both) (a : Option Around) (k : NodeKind) (c : Forest) → reads w r ≡ true → form V74 k ≡ old r → form V83 k ≡ new r → is_simple k ≡ true → is_settled k ≡ true → has_no_lines k ≡ true
+both_good : (w : Which) (r : Both) (a : Option Around) (k : NodeKind) (c : Forest) → reads w r ≡ true
+    → form V74 k ≡ old r → form V83 k ≡ new r → is_simple k ≡ true → is_settled k ≡ true → has_no_lines k ≡ true
     → has (test w) (named c) ≡ false → AreSpelled c → AllGood c → IsNode V74 k c → Good k c (new_tree a k c)
 both_good w r a k c e f g s d l h sp al (is_node x near fine) =
     let b = new_parts (within k c) true c in
@@ -88,22 +89,26 @@ both_good w r a k c e f g s d l h sp al (is_node x near fine) =
     let kept : Kept (new r) c b = both_kept w r e c (subst (λ (q : Rule). Fits V74 q c) f x) sp al (within k c) true free in
     assemble a k c s d (subst (λ (q : Rule). Kept q c b) (sym g) kept) near (lines_fine k b l)
 
-pub good_function : (a : Option Around) (c : Forest) → has_refused k.Function c ≡ false → AreSpelled c → AllGood c → IsNode V74 k.Function c → Good k.Function c (new_tree a k.Function c)
+pub good_function : (a : Option Around) (c : Forest) → has_refused k.Function c ≡ false → AreSpelled c → AllGood c
+    → IsNode V74 k.Function c → Good k.Function c (new_tree a k.Function c)
 good_function a c h s w n = both_good match_alone function a k.Function c refl refl refl refl refl refl h s w n
 
 pub good_call : (a : Option Around) (c : Forest) → has_refused k.Call c ≡ false → AreSpelled c → AllGood c → IsNode V74 k.Call c → Good k.Call c (new_tree a k.Call c)
 good_call a c h s w n = both_good match_alone call a k.Call c refl refl refl refl refl refl h s w n
 
-pub good_constant : (a : Option Around) (c : Forest) → has_refused k.Constant c ≡ false → AreSpelled c → AllGood c → IsNode V74 k.Constant c → Good k.Constant c (new_tree a k.Constant c)
+pub good_constant : (a : Option Around) (c : Forest) → has_refused k.Constant c ≡ false → AreSpelled c → AllGood c
+    → IsNode V74 k.Constant c → Good k.Constant c (new_tree a k.Constant c)
 good_constant a c h s w n = both_good keywords a_name a k.Constant c refl refl refl refl refl refl h s w n
 
-pub good_typename : (a : Option Around) (c : Forest) → has_refused k.TypeName c ≡ false → AreSpelled c → AllGood c → IsNode V74 k.TypeName c → Good k.TypeName c (new_tree a k.TypeName c)
+pub good_typename : (a : Option Around) (c : Forest) → has_refused k.TypeName c ≡ false → AreSpelled c → AllGood c
+    → IsNode V74 k.TypeName c → Good k.TypeName c (new_tree a k.TypeName c)
 good_typename a c h s w n = both_good keywords type_name a k.TypeName c refl refl refl refl refl refl h s w n
 
 pub good_new : (a : Option Around) (c : Forest) → has_refused k.New c ≡ false → AreSpelled c → AllGood c → IsNode V74 k.New c → Good k.New c (new_tree a k.New c)
 good_new a c h s w n = both_good keywords new_form a k.New c refl refl refl refl refl refl h s w n
 
-pub good_instanceof : (a : Option Around) (c : Forest) → has_refused k.InstanceOf c ≡ false → AreSpelled c → AllGood c → IsNode V74 k.InstanceOf c → Good k.InstanceOf c (new_tree a k.InstanceOf c)
+pub good_instanceof : (a : Option Around) (c : Forest) → has_refused k.InstanceOf c ≡ false → AreSpelled c → AllGood c
+    → IsNode V74 k.InstanceOf c → Good k.InstanceOf c (new_tree a k.InstanceOf c)
 good_instanceof a c h s w n = both_good keywords instance_of a k.InstanceOf c refl refl refl refl refl refl h s w n
 
 pub good_try : (a : Option Around) (c : Forest) → has_refused k.Try c ≡ false → AreSpelled c → AllGood c → IsNode V74 k.Try c → Good k.Try c (new_tree a k.Try c)
@@ -115,8 +120,10 @@ good_const a c h s w n = both_good keywords constants a k.Const c refl refl refl
 pub good_goto : (a : Option Around) (c : Forest) → has_refused k.Goto c ≡ false → AreSpelled c → AllGood c → IsNode V74 k.Goto c → Good k.Goto c (new_tree a k.Goto c)
 good_goto a c h s w n = both_good keywords goto_form a k.Goto c refl refl refl refl refl refl h s w n
 
-pub good_labelstmt : (a : Option Around) (c : Forest) → has_refused k.LabelStmt c ≡ false → AreSpelled c → AllGood c → IsNode V74 k.LabelStmt c → Good k.LabelStmt c (new_tree a k.LabelStmt c)
+pub good_labelstmt : (a : Option Around) (c : Forest) → has_refused k.LabelStmt c ≡ false → AreSpelled c → AllGood c
+    → IsNode V74 k.LabelStmt c → Good k.LabelStmt c (new_tree a k.LabelStmt c)
 good_labelstmt a c h s w n = both_good keywords label_form a k.LabelStmt c refl refl refl refl refl refl h s w n
 
-pub good_declare : (a : Option Around) (c : Forest) → has_refused k.Declare c ≡ false → AreSpelled c → AllGood c → IsNode V74 k.Declare c → Good k.Declare c (new_tree a k.Declare c)
+pub good_declare : (a : Option Around) (c : Forest) → has_refused k.Declare c ≡ false → AreSpelled c → AllGood c
+    → IsNode V74 k.Declare c → Good k.Declare c (new_tree a k.Declare c)
 good_declare a c h s w n = both_good keywords declare_form a k.Declare c refl refl refl refl refl refl h s w n

@@ -1,5 +1,32 @@
 -- Operators between two operands: where 8.3 has another place for an operand, it stands in parentheses.
-use Rattle.std.proofs.Common.{◌≡◌, ℕ, ◌≤◌, max, Bool, true, false, ◌&&◌, ◌||◌, ◌⊎◌, inl, inr, if◌then◌else◌, nat_le, codes, List, [], ◌∷◌, ◌++◌, Some, refl, sym, ap, ◌∙◌, subst, arith}
+use Rattle.std.proofs.Common.{
+  ◌≡◌,
+  ℕ,
+  ◌≤◌,
+  max,
+  Bool,
+  true,
+  false,
+  ◌&&◌,
+  ◌||◌,
+  ◌⊎◌,
+  inl,
+  inr,
+  if◌then◌else◌,
+  nat_le,
+  codes,
+  List,
+  [],
+  ◌∷◌,
+  ◌++◌,
+  Some,
+  refl,
+  sym,
+  ap,
+  ◌∙◌,
+  subst,
+  arith,
+}
 use Rattle.std.specs.Str.{bytes_eq}
 use Rattle.std.proofs.lemmas.Bool.{le-leb, leb-true}
 use Rattle.std.proofs.lemmas.Slice.Eq.{bytes_eq-Decides}
@@ -63,7 +90,8 @@ ternary_level k.Ternary e d = (refl, refl)
 ternary_level k.ShortTernary e d = (refl, refl)
 ternary_level _ e d = absurd cc
 
-pub dots_by : (k : NodeKind) (c b : Forest) (i : NodeKind) (e : Forest) (z : Tree) (r : ℕ) → EndsIn k c b i e z r → Good i e z → is_dot (k, c) ≡ false → edge V74 (k, c) ≤ 8 → edge V83 (k, b) ≤ edge V74 (k, c)
+pub dots_by : (k : NodeKind) (c b : Forest) (i : NodeKind) (e : Forest) (z : Tree) (r : ℕ) → EndsIn k c b i e z r
+    → Good i e z → is_dot (k, c) ≡ false → edge V74 (k, c) ≤ 8 → edge V83 (k, b) ≤ edge V74 (k, c)
 dots_by k c b i e z r p g nd h = go (is_dot (i, e)) refl
   where
     at : is_expression i ≡ true
@@ -265,7 +293,9 @@ level_xor = record { takes = λ x e. e; before = λ own e. ap (binary_level V74)
 pub level_or : Level t.Or 23 23
 level_or = record { takes = λ x e. e; before = λ own e. ap (binary_level V74) (own_or own e); after = λ own e. ap (binary_level V83) (own_or own e) }
 
-dot_two : (l r : ℕ) (op : Terminal) (old new : ℕ) (c : Forest) → 1 ≤ old → Level op old new → Fits V74 (place (Left l) ~ (word op ~ place (Operand r))) c → is_dot (Binary, c) ≡ true → level V74 (Binary, c) ≡ 7
+dot_two : (l r : ℕ) (op : Terminal) (old new : ℕ) (c : Forest) → 1 ≤ old → Level op old new
+    → Fits V74 (place (Left l) ~ (word op ~ place (Operand r))) c → is_dot (Binary, c) ≡ true
+    → level V74 (Binary, c) ≡ 7
 dot_two l r op old new c h v f d =
     let y = two l r op c f in
     let text : y.x.text ≡ codes "." = (bytes_eq-Decides y.x.text (codes ".")).0 (ap (λ (f : Forest). bytes_eq (operator_of f) (codes ".")) (sym y.same) ∙ d) in
@@ -286,15 +316,36 @@ dot_fits c (is_second (is_second (is_second (is_second (is_first p))))) d = dot_
 dot_fits c (is_second (is_second (is_second (is_second (is_second (is_first p)))))) d = dot_two 7 6 t.Dot 7 9 c (omega arith) level_dot p d
 dot_fits c (is_second (is_second (is_second (is_second (is_second (is_second (is_first p))))))) d = dot_two 9 9 t.Order 10 10 c (omega arith) level_order p d
 dot_fits c (is_second (is_second (is_second (is_second (is_second (is_second (is_second (is_first p)))))))) d = dot_two 10 10 t.Equality 11 11 c (omega arith) level_equality p d
-dot_fits c (is_second (is_second (is_second (is_second (is_second (is_second (is_second (is_second (is_first p))))))))) d = dot_two 12 11 t.Ampersand 12 12 c (omega arith) level_ampersand p d
-dot_fits c (is_second (is_second (is_second (is_second (is_second (is_second (is_second (is_second (is_second (is_first p)))))))))) d = dot_two 13 12 t.Caret 13 13 c (omega arith) level_caret p d
-dot_fits c (is_second (is_second (is_second (is_second (is_second (is_second (is_second (is_second (is_second (is_second (is_first p))))))))))) d = dot_two 14 13 t.Bar 14 14 c (omega arith) level_bar p d
-dot_fits c (is_second (is_second (is_second (is_second (is_second (is_second (is_second (is_second (is_second (is_second (is_second (is_first p)))))))))))) d = dot_two 15 14 t.BooleanAnd 15 15 c (omega arith) level_booleanand p d
-dot_fits c (is_second (is_second (is_second (is_second (is_second (is_second (is_second (is_second (is_second (is_second (is_second (is_second (is_first p))))))))))))) d = dot_two 16 15 t.BooleanOr 16 16 c (omega arith) level_booleanor p d
-dot_fits c (is_second (is_second (is_second (is_second (is_second (is_second (is_second (is_second (is_second (is_second (is_second (is_second (is_second (is_first p)))))))))))))) d = dot_two 16 17 t.Coalesce 17 17 c (omega arith) level_coalesce p d
-dot_fits c (is_second (is_second (is_second (is_second (is_second (is_second (is_second (is_second (is_second (is_second (is_second (is_second (is_second (is_second (is_first p))))))))))))))) d = dot_two 21 20 t.And 21 21 c (omega arith) level_and p d
-dot_fits c (is_second (is_second (is_second (is_second (is_second (is_second (is_second (is_second (is_second (is_second (is_second (is_second (is_second (is_second (is_second (is_first p)))))))))))))))) d = dot_two 22 21 t.Xor 22 22 c (omega arith) level_xor p d
-dot_fits c (is_second (is_second (is_second (is_second (is_second (is_second (is_second (is_second (is_second (is_second (is_second (is_second (is_second (is_second (is_second (is_second (p))))))))))))))))) d = dot_two 23 22 t.Or 23 23 c (omega arith) level_or p d
+dot_fits c (is_second (is_second (is_second (is_second (is_second
+    (is_second (is_second (is_second (is_first p))))))))) d =
+    dot_two 12 11 t.Ampersand 12 12 c (omega arith) level_ampersand p d
+dot_fits c (is_second (is_second (is_second (is_second (is_second
+    (is_second (is_second (is_second (is_second (is_first p)))))))))) d =
+    dot_two 13 12 t.Caret 13 13 c (omega arith) level_caret p d
+dot_fits c (is_second (is_second (is_second (is_second (is_second
+    (is_second (is_second (is_second (is_second (is_second (is_first p))))))))))) d =
+    dot_two 14 13 t.Bar 14 14 c (omega arith) level_bar p d
+dot_fits c (is_second (is_second (is_second (is_second (is_second
+    (is_second (is_second (is_second (is_second (is_second (is_second (is_first p)))))))))))) d =
+    dot_two 15 14 t.BooleanAnd 15 15 c (omega arith) level_booleanand p d
+dot_fits c (is_second (is_second (is_second (is_second (is_second
+    (is_second (is_second (is_second (is_second (is_second (is_second (is_second (is_first p))))))))))))) d =
+    dot_two 16 15 t.BooleanOr 16 16 c (omega arith) level_booleanor p d
+dot_fits c (is_second (is_second (is_second (is_second (is_second
+    (is_second (is_second (is_second (is_second (is_second (is_second (is_second (is_second (is_first p))))))))))))))
+    d = dot_two 16 17 t.Coalesce 17 17 c (omega arith) level_coalesce p d
+dot_fits c (is_second (is_second (is_second (is_second (is_second
+    (is_second (is_second (is_second (is_second (is_second (is_second
+    (is_second (is_second (is_second (is_first p))))))))))))))) d =
+    dot_two 21 20 t.And 21 21 c (omega arith) level_and p d
+dot_fits c (is_second (is_second (is_second (is_second (is_second
+    (is_second (is_second (is_second (is_second (is_second (is_second
+    (is_second (is_second (is_second (is_second (is_first p)))))))))))))))) d =
+    dot_two 22 21 t.Xor 22 22 c (omega arith) level_xor p d
+dot_fits c (is_second (is_second (is_second (is_second (is_second
+    (is_second (is_second (is_second (is_second (is_second (is_second
+    (is_second (is_second (is_second (is_second (is_second (p))))))))))))))))) d =
+    dot_two 23 22 t.Or 23 23 c (omega arith) level_or p d
 
 pub dot_node : (i : NodeKind) (e : Forest) → IsNode V74 i e → is_dot (i, e) ≡ true → (level V74 (i, e) ≡ 7) × (is_prefix i ≡ false)
 dot_node k.Binary e (is_node f near fine) d = (dot_fits e f d, refl)
@@ -320,7 +371,9 @@ dot_level : (a : Around) (j : NodeKind) (d : Forest) → is_dot (j, d) ≡ true 
 dot_level a j d e h = let y = dot_wrapped a j d e h in ap (level V83) y.1
 
 -- a left operand that 8.3 would take apart
-pub left_tight : (n : ℕ) (a : Around) (j : NodeKind) (d : Forest) → n ≤ 8 → takes_apart a ≡ true → Good j d (new_tree (Some a) j d) → may_stand V74 (Left n) (j, d) ≡ true → may_stand V83 (Left n) (new_tree (Some a) j d) ≡ true
+pub left_tight : (n : ℕ) (a : Around) (j : NodeKind) (d : Forest) → n ≤ 8 → takes_apart a ≡ true
+    → Good j d (new_tree (Some a) j d) → may_stand V74 (Left n) (j, d) ≡ true
+    → may_stand V83 (Left n) (new_tree (Some a) j d) ≡ true
 left_tight n a j d low h g m =
     and_both (is_expression x.0) (nat_le (edge V83 x) n) (g.becomes.expression at) (le-leb (edge V83 x) n (go (is_dot (j, d)) refl))
   where
@@ -342,10 +395,13 @@ pub left_dot : (j : NodeKind) (d : Forest) (x : Tree) → Good j d x → may_sta
 left_dot j d x g m =
     let old : edge V74 (j, d) ≤ 7 = leb-true (edge V74 (j, d)) 7 (and_right (is_expression j) (nat_le (edge V74 (j, d)) 7) m) in
     let new = (edges_below j d x g.like).loose in
-    and_both (is_expression x.0) (nat_le (edge V83 x) 9) (g.becomes.expression (and_left (is_expression j) (nat_le (edge V74 (j, d)) 7) m)) (le-leb (edge V83 x) 9 (omega (arith, old, new)))
+    and_both (is_expression x.0) (nat_le (edge V83 x) 9)
+    (g.becomes.expression (and_left (is_expression j) (nat_le (edge V74 (j, d)) 7) m))
+    (le-leb (edge V83 x) 9 (omega (arith, old, new)))
 
 -- a right operand of a shift
-pub right_tight : (a : Around) (j : NodeKind) (d : Forest) → takes_apart a ≡ true → Good j d (new_tree (Some a) j d) → may_stand V74 (Operand 7) (j, d) ≡ true → may_stand V83 (Operand 7) (new_tree (Some a) j d) ≡ true
+pub right_tight : (a : Around) (j : NodeKind) (d : Forest) → takes_apart a ≡ true → Good j d (new_tree (Some a) j d)
+    → may_stand V74 (Operand 7) (j, d) ≡ true → may_stand V83 (Operand 7) (new_tree (Some a) j d) ≡ true
 right_tight a j d h g m =
     and_both (is_expression x.0) (nat_le (level V83 x) 7 || is_prefix x.0) (g.becomes.expression at) (go (is_dot (j, d)) refl)
   where
@@ -389,7 +445,10 @@ right_dot j d x g m = wider (good_stands (Operand 6) j d x g refl m)
             last false z = z
 
     wider : may_stand V83 (Operand 6) x ≡ true → may_stand V83 (Operand 8) x ≡ true
-    wider m = and_both (is_expression x.0) (nat_le (level V83 x) 8 || is_prefix x.0) (and_left (is_expression x.0) (nat_le (level V83 x) 6 || is_prefix x.0) m) (more (level V83 x) (is_prefix x.0) (and_right (is_expression x.0) (nat_le (level V83 x) 6 || is_prefix x.0) m))
+    wider m = and_both (is_expression x.0) (nat_le (level V83 x) 8 || is_prefix x.0)
+        (and_left (is_expression x.0) (nat_le (level V83 x) 6 || is_prefix x.0) m)
+        (more (level V83 x) (is_prefix x.0) (and_right (is_expression x.0) (nat_le (level V83 x) 6 || is_prefix x.0)
+        m))
 
 -- ---- nodes of two operands
 
@@ -397,12 +456,17 @@ right_dot j d x g m = wider (good_stands (Operand 6) j d x g refl m)
 abbrev pub pair : NodeKind → Forest → Token → NodeKind → Forest → Forest
 pair j d x i e = node j d (leaf x (node i e none))
 
-pub pair_kept : (j : NodeKind) (d : Forest) (x : Token) (i : NodeKind) (e : Forest) (y z : Tree) (l r : ℕ) (op : Terminal) → Good j d y → Good i e z → accepts V83 op (shown_token (hash_comment x)) ≡ true → may_stand V83 (Left l) y ≡ true → may_stand V83 (Operand r) z ≡ true → Kept (place (Left l) ~ (word op ~ place (Operand r))) (pair j d x i e) (pair y.0 y.1 (shown_token (hash_comment x)) z.0 z.1)
+pub pair_kept : (j : NodeKind) (d : Forest) (x : Token) (i : NodeKind) (e : Forest) (y z : Tree) (l r : ℕ)
+    (op : Terminal) → Good j d y → Good i e z → accepts V83 op (shown_token (hash_comment x)) ≡ true
+    → may_stand V83 (Left l) y ≡ true → may_stand V83 (Operand r) z ≡ true
+    → Kept (place (Left l) ~ (word op ~ place (Operand r))) (pair j d x i e)
+    (pair y.0 y.1 (shown_token (hash_comment x)) z.0 z.1)
 pair_kept j d x i e y z l r op g h p m n = record {
   fits = is_both (is_place m g.shaped) (is_both (is_word p) (is_place n h.shaped) refl) refl;
   like = like_join (node j d none) (leaf x (node i e none)) (node y.0 y.1 none) (leaf (shown_token (hash_comment x)) (node z.0 z.1 none))
       (like_node j d y.0 y.1 g.like)
-      (like_join (leaf x none) (node i e none) (leaf (shown_token (hash_comment x)) none) (node z.0 z.1 none) (like_leaf x (shown_token (hash_comment x)) (ap terminal (shown_is x))) (like_node i e z.0 z.1 h.like));
+      (like_join (leaf x none) (node i e none) (leaf (shown_token (hash_comment x)) none) (node z.0 z.1 none)
+      (like_leaf x (shown_token (hash_comment x)) (ap terminal (shown_is x))) (like_node i e z.0 z.1 h.like));
 }
 
 no_yield : (c b : Forest) → Like c b → Like c b
@@ -445,7 +509,9 @@ pair_good j d x i e y z r old new op v p g n m kept near loose tight same low be
     ends : EndsIn Binary (pair j d x i e) (pair y.0 y.1 (shown_token (hash_comment x)) z.0 z.1) i e z r
     ends = record {
       old = edge_is V74 Binary (pair j d x i e) ∙ ap (max (level V74 (Binary, pair j d x i e))) (sym (edge_is V74 i e));
-      new = edge_is V83 Binary (pair y.0 y.1 (shown_token (hash_comment x)) z.0 z.1) ∙ ap (max (level V83 (Binary, pair y.0 y.1 (shown_token (hash_comment x)) z.0 z.1))) (sym (edge_is V83 z.0 z.1));
+      new = edge_is V83 Binary (pair y.0 y.1 (shown_token (hash_comment x)) z.0 z.1)
+          ∙ ap (max (level V83 (Binary, pair y.0 y.1 (shown_token (hash_comment x)) z.0 z.1)))
+          (sym (edge_is V83 z.0 z.1));
       stands = m;
       as_dot = dot_node i e n;
       loose = elim loose [ inl u ↦ inl u | inr u ↦ inr (elim u [ inl w ↦ inl (omega (arith, was, w)) | inr w ↦ inr w ]) ];

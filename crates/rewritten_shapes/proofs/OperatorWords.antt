@@ -1,5 +1,34 @@
 -- Operators by their words: `.`, `+`, `-`, and the shifts.
-use Rattle.std.proofs.Common.{◌≡◌, ℕ, ◌+◌, ◌<◌, Bool, true, false, not, cond, ◌&&◌, ◌||◌, ◌⊎◌, inl, inr, nat_eq, nat_lt, codes, List, [], ◌∷◌, slice_index, length, refl, sym, ap, ◌∙◌, subst, arith}
+use Rattle.std.proofs.Common.{
+  ◌≡◌,
+  ℕ,
+  ◌+◌,
+  ◌<◌,
+  Bool,
+  true,
+  false,
+  not,
+  cond,
+  ◌&&◌,
+  ◌||◌,
+  ◌⊎◌,
+  inl,
+  inr,
+  nat_eq,
+  nat_lt,
+  codes,
+  List,
+  [],
+  ◌∷◌,
+  slice_index,
+  length,
+  refl,
+  sym,
+  ap,
+  ◌∙◌,
+  subst,
+  arith,
+}
 use Rattle.std.specs.Char.{to_ascii_lowercase}
 use Rattle.std.proofs.lemmas.Bool.{eqb-true, ltb-true}
 use Rattle.std.proofs.lemmas.Bool.Decides.{nat_tests}
@@ -26,13 +55,16 @@ abbrev pub is_any : List (List ℕ) → List ℕ → Bool
 is_any [] text = false
 is_any (w ∷ ws) text = is_word w text || is_any ws text
 
-row_step : (c : Terminal) (w : List ℕ) (x : Terminal) (ws : List (List ℕ)) (y : Terminal) (text : List ℕ) (a b : Bool) → is_word w text ≡ a → same_class c x ≡ b → same_class c (cond a x y) ≡ true → (same_class c y ≡ true → is_any ws text ≡ true) → is_any (cond b (w ∷ ws) ws) text ≡ true
+row_step : (c : Terminal) (w : List ℕ) (x : Terminal) (ws : List (List ℕ)) (y : Terminal) (text : List ℕ) (a b : Bool)
+    → is_word w text ≡ a → same_class c x ≡ b → same_class c (cond a x y) ≡ true
+    → (same_class c y ≡ true → is_any ws text ≡ true) → is_any (cond b (w ∷ ws) ws) text ≡ true
 row_step c w x ws y text true true d e h p = ap (λ (z : Bool). z || is_any ws text) d
 row_step c w x ws y text true false d e h p = absurd (let z : false ≡ true = sym e ∙ h in cc)
 row_step c w x ws y text false true d e h p = ap (λ (z : Bool). z || is_any ws text) d ∙ p h
 row_step c w x ws y text false false d e h p = p h
 
-pub found : (c other : Terminal) (rows : List (List ℕ × Terminal)) (text : List ℕ) → same_class c other ≡ false → same_class c (find_row other rows text) ≡ true → is_any (words_of c rows) text ≡ true
+pub found : (c other : Terminal) (rows : List (List ℕ × Terminal)) (text : List ℕ) → same_class c other ≡ false
+    → same_class c (find_row other rows text) ≡ true → is_any (words_of c rows) text ≡ true
 found c other [] text n e = absurd (let z : false ≡ true = sym n ∙ e in cc)
 found c other (r ∷ rs) text n e =
     row_step c r.0 r.1 (words_of c rs) (find_row other rs text) text (is_word r.0 text) (same_class c r.1) refl refl e (found c other rs text n)
@@ -157,7 +189,8 @@ cond_watched false x y e d = d
 cast_watched : (text : List ℕ) → is_watched (cast text) ≡ false
 cast_watched text =
     cond_watched (nat_lt (opening text) (length text)) (cast_letter (to_ascii_lowercase (slice_index text (opening text)))) t.Cast
-    (cond_watched (nat_eq (to_ascii_lowercase (slice_index text (opening text))) 114 || nat_eq (to_ascii_lowercase (slice_index text (opening text))) 117) t.OldCast t.Cast refl refl) refl
+    (cond_watched (nat_eq (to_ascii_lowercase (slice_index text (opening text))) 114
+    || nat_eq (to_ascii_lowercase (slice_index text (opening text))) 117) t.OldCast t.Cast refl refl) refl
 
 name_watched : (text : List ℕ) → is_watched (name text) ≡ false
 name_watched text =
@@ -302,9 +335,11 @@ row_not p true x y e d = go (p x) e
     go false e = refl
 row_not p false x y e d = d
 
-pub rows_not : (p : Terminal → Bool) (other : Terminal) (rows : List (List ℕ × Terminal)) (text : List ℕ) → p other ≡ false → no_row p rows ≡ true → p (find_row other rows text) ≡ false
+pub rows_not : (p : Terminal → Bool) (other : Terminal) (rows : List (List ℕ × Terminal)) (text : List ℕ)
+    → p other ≡ false → no_row p rows ≡ true → p (find_row other rows text) ≡ false
 rows_not p other [] text e d = e
-rows_not p other (r ∷ rs) text e d = row_not p (is_word r.0 text) r.1 (find_row other rs text) (one (not (p r.1)) (no_row p rs) d) (rows_not p other rs text e (two (not (p r.1)) (no_row p rs) d))
+rows_not p other (r ∷ rs) text e d = row_not p (is_word r.0 text) r.1 (find_row other rs text)
+    (one (not (p r.1)) (no_row p rs) d) (rows_not p other rs text e (two (not (p r.1)) (no_row p rs) d))
   where
     one : (a b : Bool) → (a && b) ≡ true → a ≡ true
     one true b e = refl

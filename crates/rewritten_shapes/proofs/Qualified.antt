@@ -51,7 +51,9 @@ same_front [] (b ∷ l) rest p q e =
 same_front (a ∷ w) [] rest p q e = absurd (not_both (nat_eq a 92) (and_left (nat_eq a 92) _ e) (and_left (not (nat_eq a 92)) (no_root w) p))
 same_front (a ∷ w) (b ∷ l) rest p q e =
     let h : a ≡ to_ascii_lowercase b = eqb-true a (to_ascii_lowercase b) (and_left (nat_eq a (to_ascii_lowercase b)) (begins (w ++ 92 ∷ []) (l ++ 92 ∷ rest)) e) in
-    let r : str_to_ascii_lowercase l ≡ w = same_front w l rest (and_right (not (nat_eq a 92)) (no_root w) p) (and_right (not (b == 92)) (has_no_root l) q) (and_right (nat_eq a (to_ascii_lowercase b)) (begins (w ++ 92 ∷ []) (l ++ 92 ∷ rest)) e) in
+    let r : str_to_ascii_lowercase l ≡ w = same_front w l rest (and_right (not (nat_eq a 92)) (no_root w) p)
+    (and_right (not (b == 92)) (has_no_root l) q)
+    (and_right (nat_eq a (to_ascii_lowercase b)) (begins (w ++ 92 ∷ []) (l ++ 92 ∷ rest)) e) in
     ap (λ (x : ℕ). x ∷ str_to_ascii_lowercase l) (sym h) ∙ ap (λ (x : List ℕ). a ∷ x) r
 
 label_no_root : (l : List ℕ) → is_label_text l ≡ true → has_no_root l ≡ true

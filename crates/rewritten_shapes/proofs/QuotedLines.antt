@@ -54,7 +54,8 @@ starts_put : (escaped : Bool) (indent text : List ℕ) → are_blank indent ≡ 
 starts_put escaped [] text p e h = refl
 starts_put escaped (i ∷ is) [] p e h = absurd cc
 starts_put escaped (i ∷ is) (b ∷ []) p e h =
-    absurd (let z : false ≡ true = no_blank i b (and_left (is_blank_byte i) (are_blank is) p) (last_is escaped b e) (and_left (nat_eq i (to_ascii_lowercase b)) (is_word is (front (length is) [])) h) in cc)
+    absurd (let z : false ≡ true = no_blank i b (and_left (is_blank_byte i) (are_blank is) p) (last_is escaped b e)
+    (and_left (nat_eq i (to_ascii_lowercase b)) (is_word is (front (length is) [])) h) in cc)
 starts_put escaped (i ∷ is) (b ∷ c ∷ bs) p e h =
     and_both (nat_eq i (to_ascii_lowercase b)) (starts is (put (c ∷ bs)))
     (and_left (nat_eq i (to_ascii_lowercase b)) (starts is (c ∷ bs)) h)
@@ -97,7 +98,9 @@ unfolding line_fits
 line_put escaped indent text p e h =
     or_map (starts indent text) (is_blank_line text) (starts indent (put text)) (is_blank_line (put text)) (starts_put escaped indent text p e) (blank_put escaped text e) h
 
-pub indented_put : (escaped : Bool) (indent : List ℕ) (fresh : Bool) (text : List ℕ) → are_blank indent ≡ true → ends_bare escaped text ≡ true → is_indented indent fresh text ≡ true → is_indented indent fresh (put text) ≡ true
+pub indented_put : (escaped : Bool) (indent : List ℕ) (fresh : Bool) (text : List ℕ) → are_blank indent ≡ true
+    → ends_bare escaped text ≡ true → is_indented indent fresh text ≡ true
+    → is_indented indent fresh (put text) ≡ true
 indented_put escaped indent fresh [] p e h = absurd cc
 indented_put escaped indent fresh (b ∷ []) p e h =
     and_both (not fresh || line_fits indent (put (b ∷ []))) true
@@ -107,7 +110,8 @@ indented_put escaped indent fresh (b ∷ c ∷ bs) p e h =
     and_both (not fresh || line_fits indent (put (b ∷ c ∷ bs))) (is_indented indent (is_line_end b) (put (c ∷ bs)))
     (or_map (not fresh) (line_fits indent (b ∷ c ∷ bs)) (not fresh) (line_fits indent (put (b ∷ c ∷ bs))) (λ z. z) (line_put escaped indent (b ∷ c ∷ bs) p e)
     (and_left (not fresh || line_fits indent (b ∷ c ∷ bs)) (is_indented indent (is_line_end b) (c ∷ bs)) h))
-    (indented_put (not escaped && nat_eq b 92) indent (is_line_end b) (c ∷ bs) p e (and_right (not fresh || line_fits indent (b ∷ c ∷ bs)) (is_indented indent (is_line_end b) (c ∷ bs)) h))
+    (indented_put (not escaped && nat_eq b 92) indent (is_line_end b) (c ∷ bs) p e
+    (and_right (not fresh || line_fits indent (b ∷ c ∷ bs)) (is_indented indent (is_line_end b) (c ∷ bs)) h))
 
 -- ---- the end of the text
 

@@ -63,7 +63,9 @@ pub record Part (r : Rule) (f g : Forest) : Type 0 where
   pub lines : (indent : List ℕ) (fresh : Bool) → are_blank indent ≡ true → parts_fit indent fresh f ≡ true → parts_fit indent fresh g ≡ true
   pub begins : (fresh : Bool) → fresh_past fresh g ≡ fresh_past fresh f
 
-pub lines_join : (indent : List ℕ) (fresh : Bool) (r : Rule) (f g h i : Forest) → Part r f g → are_blank indent ≡ true → ((b : Bool) → parts_fit indent b h ≡ true → parts_fit indent b i ≡ true) → parts_fit indent fresh (f +++ h) ≡ true → parts_fit indent fresh (g +++ i) ≡ true
+pub lines_join : (indent : List ℕ) (fresh : Bool) (r : Rule) (f g h i : Forest) → Part r f g → are_blank indent ≡ true
+    → ((b : Bool) → parts_fit indent b h ≡ true → parts_fit indent b i ≡ true)
+    → parts_fit indent fresh (f +++ h) ≡ true → parts_fit indent fresh (g +++ i) ≡ true
 lines_join indent fresh r f g h i p e q d =
     let s = sym (fit_join indent fresh f h) ∙ d in
     let one = p.lines indent fresh e (and_left (parts_fit indent fresh f) (parts_fit indent (fresh_past fresh f) h) s) in
@@ -274,7 +276,8 @@ dollar_cond true x y p q e = p e
 dollar_cond false x y p q e = q e
 
 dollar_keyword : (text : List ℕ) → same_class t.DollarBrace (keyword text) ≡ true → ⊥
-dollar_keyword text e = dollar_cond (nat_lt 5 (length text) && words.is_word (codes "yield") (front 5 text)) t.YieldFrom (find_row t.OtherKeyword keywords text) (λ u. cc) (dollar_row text) e
+dollar_keyword text e = dollar_cond (nat_lt 5 (length text) && words.is_word (codes "yield") (front 5 text))
+    t.YieldFrom (find_row t.OtherKeyword keywords text) (λ u. cc) (dollar_row text) e
 
 dollar_name : (text : List ℕ) → same_class t.DollarBrace (name text) ≡ true → ⊥
 dollar_name text e =
@@ -284,7 +287,9 @@ dollar_name text e =
 dollar_cast : (text : List ℕ) → same_class t.DollarBrace (cast text) ≡ true → ⊥
 dollar_cast text e =
     dollar_cond (nat_lt (opening text) (length text)) (cast_letter (to_ascii_lowercase (slice_index text (opening text)))) t.Cast
-    (dollar_cond (nat_eq (to_ascii_lowercase (slice_index text (opening text))) 114 || nat_eq (to_ascii_lowercase (slice_index text (opening text))) 117) t.OldCast t.Cast (λ u. cc) (λ u. cc)) (λ u. cc) e
+    (dollar_cond (nat_eq (to_ascii_lowercase (slice_index text (opening text))) 114
+    || nat_eq (to_ascii_lowercase (slice_index text (opening text))) 117) t.OldCast t.Cast (λ u. cc) (λ u. cc))
+    (λ u. cc) e
 
 pub dollar_kind : (kind : TokenKind) (text : List ℕ) → same_class t.DollarBrace (terminal_by kind text) ≡ true → is_dollar_brace kind ≡ true
 dollar_kind token.DollarBrace text e = refl

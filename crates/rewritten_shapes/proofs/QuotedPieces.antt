@@ -46,10 +46,13 @@ seen_leaf u d e = ap shown (shut_front u (names_whole d) e)
 abbrev stays : Terminal → Bool
 stays c = is_calm c && (not (same_class t.DollarBrace c) && not (same_class t.Piece c))
 
-pub leaf_drawn : (b : Bool → Option Around) (p : Bool) (x : Token) (c : Terminal) (f : Forest) → terminal x ≡ c → stays c ≡ true → parts (written b p (leaf x f)) ≡ new_leaf (hash_comment x) (drawn b f)
+pub leaf_drawn : (b : Bool → Option Around) (p : Bool) (x : Token) (c : Terminal) (f : Forest) → terminal x ≡ c
+    → stays c ≡ true → parts (written b p (leaf x f)) ≡ new_leaf (hash_comment x) (drawn b f)
 leaf_drawn b p x c f e s =
     let two = and_right (is_calm c) (not (same_class t.DollarBrace c) && not (same_class t.Piece c)) s in
-    ap (λ (z : Bool). if z then opened (hash_comment x) (drawn b f) else new_leaf (if is_piece x.kind && begins_dollar_brace (written b false f) then escaped (hash_comment x) else hash_comment x) (drawn b f))
+    ap (λ (z : Bool). if z then opened (hash_comment x) (drawn b f) else new_leaf
+    (if is_piece x.kind && begins_dollar_brace (written b false f) then escaped (hash_comment x) else hash_comment
+    x) (drawn b f))
     (no_dollar x.kind x.text c e (and_left (not (same_class t.DollarBrace c)) (not (same_class t.Piece c)) two))
     ∙ ap (λ (z : Bool). new_leaf (if z && begins_dollar_brace (written b false f) then escaped (hash_comment x) else hash_comment x) (drawn b f))
     (no_piece x.kind x.text c e (and_right (not (same_class t.DollarBrace c)) (not (same_class t.Piece c)) two))
@@ -60,7 +63,8 @@ calm_of x c e s = ap is_calm e ∙ and_left (is_calm c) (not (same_class t.Dolla
 pub leaf_seen : (x : Token) (c : Terminal) (d : Draft) → terminal x ≡ c → stays c ≡ true → seen (new_leaf (hash_comment x) d) ≡ leaf (shown_token (hash_comment x)) (seen d)
 leaf_seen x c d e s = seen_leaf (hash_comment x) d (calm_shut x (calm_of x c e s))
 
-pub leaf_stays : (b : Bool → Option Around) (p : Bool) (x : Token) (c : Terminal) (f : Forest) → terminal x ≡ c → stays c ≡ true → seen (parts (written b p (leaf x f))) ≡ leaf (shown_token (hash_comment x)) (new_quoted b f)
+pub leaf_stays : (b : Bool → Option Around) (p : Bool) (x : Token) (c : Terminal) (f : Forest) → terminal x ≡ c
+    → stays c ≡ true → seen (parts (written b p (leaf x f))) ≡ leaf (shown_token (hash_comment x)) (new_quoted b f)
 leaf_stays b p x c f e s = ap seen (leaf_drawn b p x c f e s) ∙ leaf_seen x c (drawn b f) e s
 
 -- ---- tokens
@@ -127,7 +131,8 @@ piece_same x e = record {
       (λ fresh. ap (λ (y : Token). ends_line fresh y.text) (shown_is x));
 }
 
-piece_put : (x : Token) → terminal x ≡ t.Piece → is_piece x.kind ≡ true → ends_bare false (x.text ++ []) ≡ true → NewPiece x (record (hash_comment x) { text = before_last (x.text ++ []) })
+piece_put : (x : Token) → terminal x ≡ t.Piece → is_piece x.kind ≡ true → ends_bare false (x.text ++ []) ≡ true
+    → NewPiece x (record (hash_comment x) { text = before_last (x.text ++ []) })
 piece_put x e p d =
     let s = append-nil x.text in
     let bare : ends_bare false x.text ≡ true = ap (ends_bare false) (sym s) ∙ d in
@@ -138,7 +143,9 @@ piece_put x e p d =
           (λ fresh. ap (λ (y : List ℕ). ends_line fresh (put y)) s ∙ put_line false fresh x.text bare ∙ sym (ends_bare_line false fresh x.text bare));
     }
 
-piece_escaped : (x : Token) (b : Bool) → terminal x ≡ t.Piece → is_piece x.kind ≡ true → ends_bare false (x.text ++ []) ≡ b → NewPiece x (if b then record (hash_comment x) { text = before_last (x.text ++ []) } else hash_comment x)
+piece_escaped : (x : Token) (b : Bool) → terminal x ≡ t.Piece → is_piece x.kind ≡ true
+    → ends_bare false (x.text ++ []) ≡ b
+    → NewPiece x (if b then record (hash_comment x) { text = before_last (x.text ++ []) } else hash_comment x)
 piece_escaped x true e p d = piece_put x e p d
 piece_escaped x false e p d = piece_same x e
 

@@ -41,10 +41,15 @@ part_step b f rest (is_second (is_first x)) w = interpolated_step b f rest x w
 part_step b f rest (is_second (is_second (is_first (is_both (is_word {x} p) (is_both (is_place {k = j} {c} l i) (is_word {x = y} q) g) h)))) w =
     let same : f ≡ leaf x (node j c (leaf y none)) = h ∙ ap (leaf x) g in
     subst (λ (z : Forest). Step rules.quoted_part b z rest) (sym same) (curly_step b x j c y rest p l i q (subst AllGood same w))
-part_step b f rest (is_second (is_second (is_second (is_first (is_both (is_word {x} p) (is_both (is_word {x = n} o) (is_both (is_first is_nothing) (is_word {x = y} q) i) g) h))))) w =
+part_step b f rest (is_second (is_second (is_second (is_first
+    (is_both (is_word {x} p) (is_both (is_word {x = n} o) (is_both (is_first is_nothing) (is_word {x = y} q) i) g)
+    h))))) w =
     let same : f ≡ leaf x (leaf n (leaf y none)) = h ∙ ap (leaf x) (g ∙ ap (leaf n) i) in
     subst (λ (z : Forest). Step rules.quoted_part b z rest) (sym same) (plain_step b x n y rest p o q)
-part_step b f rest (is_second (is_second (is_second (is_first (is_both (is_word {x} p) (is_both (is_word {x = n} o) (is_both (is_second (is_both (is_word {x = m} u) (is_both (is_place {k = j} {c} l v) (is_word {x = s} r) a) d)) (is_word {x = y} q) i) g) h))))) w =
+part_step b f rest (is_second (is_second (is_second (is_first
+    (is_both (is_word {x} p) (is_both (is_word {x = n} o) (is_both
+    (is_second (is_both (is_word {x = m} u) (is_both (is_place {k = j} {c} l v) (is_word {x = s} r) a) d))
+    (is_word {x = y} q) i) g) h))))) w =
     let same : f ≡ leaf x (leaf n (leaf m (node j c (leaf s (leaf y none))))) =
     h ∙ ap (leaf x) (g ∙ ap (leaf n) (i ∙ ap (λ (z : Forest). z +++ leaf y none) (d ∙ ap (leaf m) a))) in
     subst (λ (z : Forest). Step rules.quoted_part b z rest) (sym same) (offset_step b x n m j c s y rest p o u l v r q (subst AllGood same w))
@@ -52,7 +57,8 @@ part_step b f rest (is_second (is_second (is_second (is_second (is_both (is_word
     let same : f ≡ leaf x (node j c (leaf y none)) = h ∙ ap (leaf x) g in
     subst (λ (z : Forest). Step rules.quoted_part b z rest) (sym same) (node_step b x j c y rest p l i q (subst AllGood same w))
 
-more_step : (b : Bool → Option Around) (g h rest : Forest) → Step rules.quoted_part b g (h +++ rest) → Step (many rules.quoted_part) b h rest → Step (many rules.quoted_part) b (g +++ h) rest
+more_step : (b : Bool → Option Around) (g h rest : Forest) → Step rules.quoted_part b g (h +++ rest)
+    → Step (many rules.quoted_part) b h rest → Step (many rules.quoted_part) b (g +++ h) rest
 more_step b g h rest p q = record {
   new = p.new +++ q.new;
   is_part = part_more rules.quoted_part g p.new h q.new p.is_part q.is_part;
@@ -75,7 +81,8 @@ end_fits indent fresh x e = ap (λ (c : Terminal). leaf_fits_by c indent fresh x
 heredoc_is : (g : Forest) (x : Token) → heredoc_fits (g +++ leaf x none) ≡ (is_uniform (margin x.text) && parts_fit (margin x.text) true (g +++ leaf x none))
 heredoc_is g x = ap (λ (text : List ℕ). is_uniform (margin text) && parts_fit (margin text) true (g +++ leaf x none)) (last_is [] g x)
 
-heredoc_lines : (g i : Forest) (x y : Token) → Part (many rules.quoted_part) g i → terminal y ≡ t.QuotedEnd → y.text ≡ x.text → heredoc_fits (g +++ leaf x none) ≡ true → heredoc_fits (i +++ leaf y none) ≡ true
+heredoc_lines : (g i : Forest) (x y : Token) → Part (many rules.quoted_part) g i → terminal y ≡ t.QuotedEnd
+    → y.text ≡ x.text → heredoc_fits (g +++ leaf x none) ≡ true → heredoc_fits (i +++ leaf y none) ≡ true
 heredoc_lines g i x y p q s e =
     let old = sym (heredoc_is g x) ∙ e in
     heredoc_is i y
@@ -90,7 +97,8 @@ lines_by false b d f e = refl
 lines_by true true d f e = ap not (f refl)
 lines_by true false d f e = cc
 
-quoted_lines : (q q2 : Token) (f g : Forest) → q2.kind ≡ q.kind → (heredoc_fits f ≡ true → heredoc_fits g ≡ true) → is_misindented (k.Quoted, leaf q f) ≡ false → is_misindented (k.Quoted, leaf q2 g) ≡ false
+quoted_lines : (q q2 : Token) (f g : Forest) → q2.kind ≡ q.kind → (heredoc_fits f ≡ true → heredoc_fits g ≡ true)
+    → is_misindented (k.Quoted, leaf q f) ≡ false → is_misindented (k.Quoted, leaf q2 g) ≡ false
 unfolding is_misindented
 quoted_lines q q2 f g s h e =
     ap (λ (kind : TokenKind). not (not (is_heredoc_kind kind) || heredoc_fits g)) s ∙ lines_by (is_heredoc q) (heredoc_fits f) (heredoc_fits g) h e
@@ -108,7 +116,10 @@ quote_quiet c b e d = ap (λ (c : Terminal). not (goes_on_if c) && (not (is_to c
 never : (b d : Bool) → b ≡ false → b ≡ true → d ≡ true
 never b d e h = absurd (let z : false ≡ true = sym e ∙ h in cc)
 
-whole_good : (q : Token) (f g : Forest) (e : Token) → same_class t.QuoteOpen (terminal q) ≡ true → same_class t.QuotedEnd (terminal e) ≡ true → Part (many rules.quoted_part) f g → is_misindented (k.Quoted, leaf q (f +++ leaf e none)) ≡ false → Good k.Quoted (leaf q (f +++ leaf e none)) (k.Quoted, whole q g e)
+whole_good : (q : Token) (f g : Forest) (e : Token) → same_class t.QuoteOpen (terminal q) ≡ true
+    → same_class t.QuotedEnd (terminal e) ≡ true → Part (many rules.quoted_part) f g
+    → is_misindented (k.Quoted, leaf q (f +++ leaf e none)) ≡ false
+    → Good k.Quoted (leaf q (f +++ leaf e none)) (k.Quoted, whole q g e)
 whole_good q f g e p r part fine =
     let c = leaf q (f +++ leaf e none) in
     let b = whole q g e in
@@ -121,7 +132,8 @@ whole_good q f g e p r part fine =
     (quiet_join g (leaf y none) ∙ and_both (is_quiet g) (is_quiet (leaf y none)) part.quiet (end_quiet (terminal y) end)) in
     record {
       shaped = is_node fits (quiet_near b quiet)
-          (quoted_lines q (shown_token (hash_comment q)) (f +++ leaf e none) (g +++ leaf y none) refl (heredoc_lines f g e y part end (ap (λ (z : Token). z.text) (shown_is e))) fine);
+          (quoted_lines q (shown_token (hash_comment q)) (f +++ leaf e none) (g +++ leaf y none) refl
+          (heredoc_lines f g e y part end (ap (λ (z : Token). z.text) (shown_is e))) fine);
       like = record {
         ifs = never (ends_in_if false b) (ends_in_if false c) (last_if false g y);
         yields = never (ends_in_yield false b) (ends_in_yield false c) (last_yield false g y);
@@ -135,14 +147,20 @@ whole_good q f g e p r part fine =
       ternaries = λ u v l. omega (arith, new, flat);
     }
 
-whole_tree : (q : Token) (f : Forest) (e : Token) → same_class t.QuoteOpen (terminal q) ≡ true → same_class t.QuotedEnd (terminal e) ≡ true → (s : Step (many rules.quoted_part) (within k.Quoted (leaf q (f +++ leaf e none))) f (leaf e none)) → changed_tree k.Quoted (leaf q (f +++ leaf e none)) ≡ (k.Quoted, whole q s.new e)
+whole_tree : (q : Token) (f : Forest) (e : Token) → same_class t.QuoteOpen (terminal q) ≡ true
+    → same_class t.QuotedEnd (terminal e) ≡ true
+    → (s : Step (many rules.quoted_part) (within k.Quoted (leaf q (f +++ leaf e none))) f (leaf e none))
+    → changed_tree k.Quoted (leaf q (f +++ leaf e none)) ≡ (k.Quoted, whole q s.new e)
 whole_tree q f e p r s =
     let b = within k.Quoted (leaf q (f +++ leaf e none)) in
     ap (λ (z : Forest). (k.Quoted, z))
     (leaf_stays b true q t.QuoteOpen (f +++ leaf e none) (quote_is (terminal q) p) refl
     ∙ ap (leaf (shown_token (hash_comment q))) (s.same ∙ ap (λ (z : Forest). s.new +++ z) (leaf_stays b false e t.QuotedEnd none (end_is (terminal e) r) refl)))
 
-quoted_at : (q : Token) (f : Forest) (e : Token) → same_class t.QuoteOpen (terminal q) ≡ true → same_class t.QuotedEnd (terminal e) ≡ true → Fits V74 (many rules.quoted_part) f → AllGood f → is_misindented (k.Quoted, leaf q (f +++ leaf e none)) ≡ false → Good k.Quoted (leaf q (f +++ leaf e none)) (changed_tree k.Quoted (leaf q (f +++ leaf e none)))
+quoted_at : (q : Token) (f : Forest) (e : Token) → same_class t.QuoteOpen (terminal q) ≡ true
+    → same_class t.QuotedEnd (terminal e) ≡ true → Fits V74 (many rules.quoted_part) f → AllGood f
+    → is_misindented (k.Quoted, leaf q (f +++ leaf e none)) ≡ false
+    → Good k.Quoted (leaf q (f +++ leaf e none)) (changed_tree k.Quoted (leaf q (f +++ leaf e none)))
 quoted_at q f e p r x w fine =
     let s = many_step (within k.Quoted (leaf q (f +++ leaf e none))) f (leaf e none) x w in
     subst (Good k.Quoted (leaf q (f +++ leaf e none))) (sym (whole_tree q f e p r s)) (whole_good q f s.new e p r s.is_part fine)

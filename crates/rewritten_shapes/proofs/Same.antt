@@ -69,7 +69,9 @@ ends_of _ c e d x = absurd cc
 -- ---- nodes whose parts keep their shape
 
 -- a node without rules of its own is good where its parts have the shape
-pub assemble : (a : Option Around) (k : NodeKind) (c : Forest) → is_simple k ≡ true → is_settled k ≡ true → Kept (form V83 k) c (new_parts (within k c) true c) → is_nearest c ≡ true → is_misindented (k, new_parts (within k c) true c) ≡ false → Good k c (new_tree a k c)
+pub assemble : (a : Option Around) (k : NodeKind) (c : Forest) → is_simple k ≡ true → is_settled k ≡ true
+    → Kept (form V83 k) c (new_parts (within k c) true c) → is_nearest c ≡ true
+    → is_misindented (k, new_parts (within k c) true c) ≡ false → Good k c (new_tree a k c)
 assemble a k c s d p near fine =
     let b = new_parts (within k c) true c in
     let same : level V83 (k, b) ≡ level V74 (k, c) = settled_level k c b d in
@@ -370,7 +372,8 @@ lines_fine k.Quoted b e = absurd cc
 lines_fine k.Text b e = absurd cc
 lines_fine _ b e = refl
 
-fine_same : (k : NodeKind) (c : Forest) → has_same_form k ≡ true → Fits V74 (form V74 k) c → is_misindented (k, c) ≡ false → is_misindented (k, new_parts (within k c) true c) ≡ false
+fine_same : (k : NodeKind) (c : Forest) → has_same_form k ≡ true → Fits V74 (form V74 k) c
+    → is_misindented (k, c) ≡ false → is_misindented (k, new_parts (within k c) true c) ≡ false
 fine_same k.Text c e x d = text_fine c x d
 fine_same k.Block c e x d = lines_fine k.Block (new_parts (within k.Block c) true c) refl
 fine_same k.Empty c e x d = lines_fine k.Empty (new_parts (within k.Empty c) true c) refl

@@ -13,7 +13,22 @@ use Rattle.tracked_changes.specs.Parens.{in_wrappings}
 use Rattle.tracked_changes.specs.Walk.{NewTree}
 use Rattle.syntax_rules.specs.Around.{Around, within}
 use Rattle.syntax_rules.specs.Rewritten as all
-use Rattle.syntax_rules.specs.SplitName.{apart, in_front, is_backslash, is_label, is_name, is_namespace, is_nothing, is_one, keyword_behind, keyword_last, one_name, space_before, begins_root, whole_names}
+use Rattle.syntax_rules.specs.SplitName.{
+  apart,
+  in_front,
+  is_backslash,
+  is_label,
+  is_name,
+  is_namespace,
+  is_nothing,
+  is_one,
+  keyword_behind,
+  keyword_last,
+  one_name,
+  space_before,
+  begins_root,
+  whole_names,
+}
 use Rattle.rewritten_shapes.proofs.Bare.{bare}
 use Rattle.rewritten_shapes.proofs.Tabled.{changed, written}
 
@@ -81,7 +96,9 @@ shut_alone false false false d e f h = refl
 
 pub shut_is_one : (t u : NewToken) → is_shut t ≡ true → is_one t u ≡ false
 shut_is_one t u h =
-    shut_alone (is_backslash t) (is_label t.kind) (is_namespace t) (is_label u.kind || (is_name u.kind && not (begins_root (before u.text)))) (is_name u.kind) (begins_root (before u.text)) h
+    shut_alone (is_backslash t) (is_label t.kind) (is_namespace t)
+    (is_label u.kind || (is_name u.kind && not (begins_root (before u.text)))) (is_name u.kind)
+    (begins_root (before u.text)) h
 
 fresh_alone : (a b c d : Bool) → not (b || c) ≡ true → ((a && (b || (c && d))) || (a && c && d)) ≡ false
 fresh_alone a true c d h = cc
@@ -131,7 +148,9 @@ ends_shut b (new_leaf t d) = ends_shut (is_shut t) d
 ends_shut b (new_node k c d) = ends_shut true d
 
 -- a token in front of two drafts
-front_then_if : (b : Bool) (t u : NewToken) (d e : Draft) → (if b && true then new_leaf (one_name t u) (d then e) else new_leaf t (new_leaf u (d then e))) ≡ ((if b && true then new_leaf (one_name t u) d else new_leaf t (new_leaf u d)) then e)
+front_then_if : (b : Bool) (t u : NewToken) (d e : Draft)
+    → (if b && true then new_leaf (one_name t u) (d then e) else new_leaf t (new_leaf u (d then e))) ≡
+    ((if b && true then new_leaf (one_name t u) d else new_leaf t (new_leaf u d)) then e)
 front_then_if true t u d e = refl
 front_then_if false t u d e = refl
 
@@ -181,7 +200,9 @@ shown_then (new_node k c d) e = ap (node k (shown c)) (shown_then d e)
 
 -- ---- the first trivia
 
-front_lead_if : (b : Bool) (t u : NewToken) (d : Draft) → shown (if b then new_leaf (one_name (record t { lead = [] }) u) d else new_leaf (record t { lead = [] }) (new_leaf u d)) ≡ shown (if b then new_leaf (one_name t u) d else new_leaf t (new_leaf u d))
+front_lead_if : (b : Bool) (t u : NewToken) (d : Draft) → shown
+    (if b then new_leaf (one_name (record t { lead = [] }) u) d else new_leaf (record t { lead = [] }) (new_leaf u d))
+    ≡ shown (if b then new_leaf (one_name t u) d else new_leaf t (new_leaf u d))
 front_lead_if true t u d = refl
 front_lead_if false t u d = refl
 
@@ -190,7 +211,10 @@ front_lead t no_more = refl
 front_lead t (new_node k c d) = refl
 front_lead t (new_leaf u d) = front_lead_if (is_one t u && true) t u d
 
-node_lead : (b : Bool) (k : NodeKind) (c d : Draft) → shown (names_whole (without_lead c)) ≡ shown (names_whole c) → shown (names_whole (without_lead d)) ≡ shown (names_whole d) → shown (names_whole (cond b (new_node k c (without_lead d)) (new_node k (without_lead c) d))) ≡ node k (shown (names_whole c)) (shown (names_whole d))
+node_lead : (b : Bool) (k : NodeKind) (c d : Draft) → shown (names_whole (without_lead c)) ≡ shown (names_whole c)
+    → shown (names_whole (without_lead d)) ≡ shown (names_whole d)
+    → shown (names_whole (cond b (new_node k c (without_lead d)) (new_node k (without_lead c) d))) ≡ node k
+    (shown (names_whole c)) (shown (names_whole d))
 node_lead true k c d p q = ap (node k (shown (names_whole c))) q
 node_lead false k c d p q = ap (λ (x : Forest). node k x (shown (names_whole d))) p
 
@@ -231,5 +255,6 @@ new_tree a k c = shown_tree (in_wrappings (all.wrapping a (k, c)) (changed (k, c
 pub new_tree_is : (a : Option Around) (k : NodeKind) (c : Forest) → new_tree a k c ≡ wrapped (all.wrapping a (k, c)) (changed_tree k c)
 new_tree_is a k c = shown_wrapped (all.wrapping a (k, c)) (changed (k, c) (k, written (within k c) true c))
 
-pub node_parts : (a : Bool → Option Around) (b : Bool) (k : NodeKind) (c f : Forest) → new_parts a b (node k c f) ≡ node (new_tree (a b) k c).0 (new_tree (a b) k c).1 (new_parts a false f)
+pub node_parts : (a : Bool → Option Around) (b : Bool) (k : NodeKind) (c f : Forest)
+    → new_parts a b (node k c f) ≡ node (new_tree (a b) k c).0 (new_tree (a b) k c).1 (new_parts a false f)
 node_parts a b k c f = refl

@@ -206,7 +206,9 @@ begins_written a b none h = refl
 begins_written a b (leaf x f) h = ap begins_fresh (shut_front (hash_comment x) (names_whole (written a false f)) (calm_shut x h)) ∙ calm_fresh x h
 begins_written a b (node k c f) h = refl
 
-pub apart_drafts : (a : Bool → Option Around) (b : Bool) (g h : Forest) → (ends_calm true g ≡ true) ⊎ (begins_calm h ≡ true) → names_whole (written a b (g +++ h)) ≡ (names_whole (written a b g) then names_whole (written a (still_first b g) h))
+pub apart_drafts : (a : Bool → Option Around) (b : Bool) (g h : Forest) → (ends_calm true g ≡ true)
+    ⊎ (begins_calm h ≡ true) → names_whole (written a b (g +++ h)) ≡
+    (names_whole (written a b g) then names_whole (written a (still_first b g) h))
 apart_drafts a b g h (inl e) =
     ap names_whole (written_none a b g h)
     ∙ whole_then (written a b g) (written a (still_first b g) h)
@@ -216,7 +218,8 @@ apart_drafts a b g h (inr e) =
     ∙ whole_then (written a b g) (written a (still_first b g) h)
     ∙ glued_fresh (written a b g) (names_whole (written a (still_first b g) h)) (begins_written a (still_first b g) h e)
 
-pub apart_parts : (a : Bool → Option Around) (b : Bool) (g h : Forest) → (ends_calm true g ≡ true) ⊎ (begins_calm h ≡ true) → new_parts a b (g +++ h) ≡ new_parts a b g +++ new_parts a (still_first b g) h
+pub apart_parts : (a : Bool → Option Around) (b : Bool) (g h : Forest) → (ends_calm true g ≡ true)
+    ⊎ (begins_calm h ≡ true) → new_parts a b (g +++ h) ≡ new_parts a b g +++ new_parts a (still_first b g) h
 apart_parts a b g h e = ap shown (apart_drafts a b g h e) ∙ shown_then (names_whole (written a b g)) (names_whole (written a (still_first b g) h))
 
 -- whether names of two rules stay apart

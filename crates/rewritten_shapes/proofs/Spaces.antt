@@ -43,7 +43,8 @@ word_no_op token.Op b e = absurd cc
 word_no_op _ b e = refl
 
 space_no_root : (n : Token) → accepts V74 t.Namespace n ≡ true → is_backslash (hash_comment n) ≡ false
-space_no_root n e = ap (λ (b : Bool). b && bytes_eq (n.text ++ []) (codes "\\")) (word_no_op n.kind (bytes_eq (str_to_ascii_lowercase n.text) (codes "namespace")) (space_by n.kind n.text e))
+space_no_root n e = ap (λ (b : Bool). b && bytes_eq (n.text ++ []) (codes "\\"))
+    (word_no_op n.kind (bytes_eq (str_to_ascii_lowercase n.text) (codes "namespace")) (space_by n.kind n.text e))
 
 no_join : (a b c d : Bool) → a ≡ false → d ≡ false → ((a && b) || (c && d)) ≡ false
 no_join true b c d e f = absurd cc
@@ -51,20 +52,28 @@ no_join false b true d e f = f
 no_join false b false d e f = refl
 
 apart_from : (t u : NewToken) → is_backslash t ≡ false → begins_root (before u.text) ≡ false → is_one t u ≡ false
-apart_from t u e f = no_join (is_backslash t) (is_label u.kind || (is_name u.kind && not (begins_root (before u.text)))) ((is_label t.kind || is_namespace t) && is_name u.kind) (begins_root (before u.text)) e f
+apart_from t u e f = no_join (is_backslash t)
+    (is_label u.kind || (is_name u.kind && not (begins_root (before u.text))))
+    ((is_label t.kind || is_namespace t) && is_name u.kind) (begins_root (before u.text)) e f
 
 -- ---- the name
 
 abbrev tail_rule : Rule
 tail_rule = braces statements ||| word t.Semi
 
-takes_qualified : (y : Token) (u : NewToken) → accepts V74 t.AnyLabel y ≡ true → is_label_text y.text ≡ true → is_namespace_word y.text ≡ false → Bare y u → accepts V83 t.NamespaceToken (shown_token u) ≡ true
+takes_qualified : (y : Token) (u : NewToken) → accepts V74 t.AnyLabel y ≡ true → is_label_text y.text ≡ true
+    → is_namespace_word y.text ≡ false → Bare y u → accepts V83 t.NamespaceToken (shown_token u) ≡ true
 takes_qualified y u p s n b = go b.text
   where
     go : (u ≡ hash_comment y) ⊎ ((u.kind ≡ token.Name) × (rest : List ℕ) × (after u.text ≡ y.text ++ 92 ∷ rest)) → accepts V83 t.NamespaceToken (shown_token u) ≡ true
-    go (inl e) = ap (λ (z : NewToken). accepts V83 t.NamespaceToken (shown_token z)) e ∙ shown_accepts V83 t.NamespaceToken y (ap (λ (z : Bool). (z || is_qualified (terminal y)) || same_class t.NamespaceToken (terminal y)) (label_any y p))
+    go (inl e) = ap (λ (z : NewToken). accepts V83 t.NamespaceToken (shown_token z)) e
+        ∙ shown_accepts V83 t.NamespaceToken y
+        (ap (λ (z : Bool). (z || is_qualified (terminal y)) || same_class t.NamespaceToken (terminal y))
+        (label_any y p))
     go (inr r) =
-        let own : terminal (shown_token u) ≡ t.QualifiedName = ap (λ (sort : TokenKind). terminal_by sort (after u.text)) r.0 ∙ ap (λ (text : List ℕ). terminal_by token.Name text) r.2 ∙ qualified_is y.text r.1 s n in
+        let own : terminal (shown_token u) ≡ t.QualifiedName =
+        ap (λ (sort : TokenKind). terminal_by sort (after u.text)) r.0
+        ∙ ap (λ (text : List ℕ). terminal_by token.Name text) r.2 ∙ qualified_is y.text r.1 s n in
         ap (λ (x : Terminal). (is_any_label x || is_qualified x) || same_class t.NamespaceToken x) own
 
 of_code : (sort : TokenKind) (text : List ℕ) → (is_keyword sort && bytes_eq (str_to_ascii_lowercase text) (codes "namespace")) ≡ true → opens_name sort text ≡ true
@@ -85,7 +94,8 @@ quiet y u p (inl e) = subst (λ (z : NewToken). Quiet (shown_token z)) (sym e) (
 )
 quiet y u p (inr e) = name_quiet (shown_token u) e
 
-unit_kept : (g : Forest) → Fits V74 (namespace_name V74) g → AreSpelled g → begins_namespace g ≡ false → (a : Bool → Option Around) (b : Bool) → Kept (word t.NamespaceToken) g (new_parts a b g)
+unit_kept : (g : Forest) → Fits V74 (namespace_name V74) g → AreSpelled g → begins_namespace g ≡ false
+    → (a : Bool → Option Around) (b : Bool) → Kept (word t.NamespaceToken) g (new_parts a b g)
 unit_kept g p s o a b =
     let r = plain_is g p s o a b in
     let u = shown_token r.3 in
@@ -97,7 +107,8 @@ unit_kept g p s o a b =
     })
 
 -- the keyword stays apart from the name
-behind_space : (n : Token) (g h : Forest) (a : Bool → Option Around) (b : Bool) → accepts V74 t.Namespace n ≡ true → Fits V74 (namespace_name V74) g → Fits V74 tail_rule h → AreSpelled g → begins_namespace g ≡ false
+behind_space : (n : Token) (g h : Forest) (a : Bool → Option Around) (b : Bool) → accepts V74 t.Namespace n ≡ true
+    → Fits V74 (namespace_name V74) g → Fits V74 tail_rule h → AreSpelled g → begins_namespace g ≡ false
     → new_parts a b (leaf n (g +++ h)) ≡ leaf (shown_token (hash_comment n)) (new_parts a false (g +++ h))
 behind_space n g h a b o p q s odd =
     let r = plain_is g p s odd a false in
@@ -107,7 +118,8 @@ behind_space n g h a b o p q s odd =
     ∙ ap shown (apart_leaf (hash_comment n) r.3 d (apart_from (hash_comment n) r.3 (space_no_root n o) r.4.plain))
     ∙ ap (λ (z : Draft). leaf (shown_token (hash_comment n)) (shown z)) (sym same)
 
-space_kept : (c : Forest) → Fits V74 (namespace_declaration V74) c → AreSpelled c → AllGood c → (a : Bool → Option Around) (b : Bool) → Kept (namespace_declaration V83) c (new_parts a b c)
+space_kept : (c : Forest) → Fits V74 (namespace_declaration V74) c → AreSpelled c → AllGood c
+    → (a : Bool → Option Around) (b : Bool) → Kept (namespace_declaration V83) c (new_parts a b c)
 space_kept c (is_both {h = f} (is_word {x = n} o) (is_first x) d) s w a b =
     let w1 = subst AllGood d w in
     kept_join a b (word t.Namespace) (braces statements) (word t.Namespace) (braces statements ||| word t.NamespaceToken ~ tail_rule) c (leaf n none) f d (is_word {x = n} o) x refl
@@ -122,7 +134,9 @@ space_kept c (is_both {h = f} (is_word {x = n} o) (is_second (is_both {g} {h} p 
     let name = unit_kept g p (spelled_front g h s1) odd a false in
     let rest : Kept (word t.NamespaceToken ~ tail_rule) (g +++ h) (new_parts a false (g +++ h)) =
     kept_join a false (namespace_name V74) tail_rule (word t.NamespaceToken) tail_rule (g +++ h) g h refl p q refl name (kept q refl (good_rest g h w1) a (still_first false g)) in
-    let made = kept_both (word t.Namespace) tail_rule (word t.Namespace) (braces statements ||| word t.NamespaceToken ~ tail_rule) c (leaf n none) (g +++ h) (leaf (shown_token (hash_comment n)) none) (new_parts a false (g +++ h)) same
+    let made = kept_both (word t.Namespace) tail_rule (word t.Namespace)
+    (braces statements ||| word t.NamespaceToken ~ tail_rule) c (leaf n none) (g +++ h)
+    (leaf (shown_token (hash_comment n)) none) (new_parts a false (g +++ h)) same
     (record { fits = is_word (steady_shown t.Namespace n refl o); like = like_leaf n (shown_token (hash_comment n)) (shown_terminal n) })
     (kept_second (braces statements) (word t.NamespaceToken ~ tail_rule) (g +++ h) (new_parts a false (g +++ h)) rest) in
     subst (Kept (namespace_declaration V83) c) (sym (ap (new_parts a b) same ∙ behind_space n g h a b o p q (spelled_front g h s1) odd)) made

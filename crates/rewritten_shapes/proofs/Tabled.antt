@@ -1,5 +1,31 @@
 -- The draft of a file without the table of what is put round its nodes.
-use Rattle.std.proofs.Common.{◌≡◌, ℕ, zero, suc, ◌+◌, ◌<◌, Bool, true, false, if◌then◌else◌, List, [], ◌∷◌, ◌++◌, length, Option, refl, ap, sym, ◌∙◌, arith, slice_get, length-append, add-zero, zero-add}
+use Rattle.std.proofs.Common.{
+  ◌≡◌,
+  ℕ,
+  zero,
+  suc,
+  ◌+◌,
+  ◌<◌,
+  Bool,
+  true,
+  false,
+  if◌then◌else◌,
+  List,
+  [],
+  ◌∷◌,
+  ◌++◌,
+  length,
+  Option,
+  refl,
+  ap,
+  sym,
+  ◌∙◌,
+  arith,
+  slice_get,
+  length-append,
+  add-zero,
+  zero-add,
+}
 use Rattle.std.specs.Prelude.{unwrap_or}
 use Rattle.php_tree.specs.declared.kind.NodeKind.{NodeKind}
 use Rattle.php_tree.specs.Tree.{Forest, none, leaf, node, Tree, count}
@@ -75,7 +101,9 @@ module _ (p : Patches) where
   drafted_as id a b none h = refl
   drafted_as id a b (leaf t f) h = ap (new_leaf (hash_comment t)) (drafted_as id a false f h)
   drafted_as id a b (node k c f) h =
-      ap (λ (ws : List Wrapping). new_alone (in_wrappings ws (changed (k, c) (k, drafted (rewriting (all_on p)) (suc id) c))) then drafted (rewriting (all_on p)) (suc (id + count c)) f)
+      ap (λ (ws : List Wrapping). new_alone (in_wrappings ws
+      (changed (k, c) (k, drafted (rewriting (all_on p)) (suc id) c))) then drafted (rewriting (all_on p))
+      (suc (id + count c)) f)
       (agrees_here p id a b k c f h)
       ∙ ap (λ (d : Draft). new_alone (in_wrappings (wrapping (a b) (k, c)) (changed (k, c) (k, d))) then drafted (rewriting (all_on p)) (suc (id + count c)) f)
       (drafted_as (suc id) (within k c) true c (agrees_inside p id a b k c f h))

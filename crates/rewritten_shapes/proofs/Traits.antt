@@ -66,10 +66,13 @@ first_neutral : (x : Token) (u : NewToken) → is_one (hash_comment x) u ≡ tru
 first_neutral x u e = neutral (terminal x) (by_test (is_calm (terminal x)) (λ d. clash (is_one (hash_comment x) u) e (shut_is_one (hash_comment x) u (calm_shut x d))))
 
 second_neutral : (t u : NewToken) → is_one t u ≡ true → Neutral (terminal (shown_token u))
-second_neutral t u e = neutral (terminal (shown_token u)) (by_test (is_calm (terminal (shown_token u))) (λ d. clash (is_one t u) e (fresh_is_one t u (fresh_kind u.kind (shown_token u).text d))))
+second_neutral t u e = neutral (terminal (shown_token u))
+    (by_test (is_calm (terminal (shown_token u)))
+    (λ d. clash (is_one t u) e (fresh_is_one t u (fresh_kind u.kind (shown_token u).text d))))
 
 joined_neutral : (t u : NewToken) → Neutral (terminal (shown_token (one_name t u)))
-joined_neutral t u = neutral (terminal (shown_token (one_name t u))) (by_test (is_calm (terminal (shown_token (one_name t u)))) (λ d. name_calm (shown_token (one_name t u)).text d))
+joined_neutral t u = neutral (terminal (shown_token (one_name t u)))
+    (by_test (is_calm (terminal (shown_token (one_name t u)))) (λ d. name_calm (shown_token (one_name t u)).text d))
 
 -- ---- joined tokens
 
@@ -83,12 +86,15 @@ record TokensKept (f g : Forest) : Type 0 where
   balanced : (n : ℕ) → is_balanced n f ≡ true → is_balanced n g ≡ true
   like : Like f g
 
-same_balance : (n : ℕ) (x y : Token) (f g : Forest) → terminal y ≡ terminal x → ((m : ℕ) → is_balanced m f ≡ true → is_balanced m g ≡ true) → is_balanced n (leaf x f) ≡ true → is_balanced n (leaf y g) ≡ true
+same_balance : (n : ℕ) (x y : Token) (f g : Forest) → terminal y ≡ terminal x
+    → ((m : ℕ) → is_balanced m f ≡ true → is_balanced m g ≡ true) → is_balanced n (leaf x f) ≡ true
+    → is_balanced n (leaf y g) ≡ true
 same_balance n x y f g e p h =
     ap (λ (z : Terminal). cond (opens z) (is_balanced (n + 1) g) (cond (closes z) (not (nat_eq n 0) && is_balanced (n - 1) g) (is_balanced n g))) e
     ∙ go (opens (terminal x)) (closes (terminal x)) (nat_eq n 0) h
   where
-    go : (a b c : Bool) → cond a (is_balanced (n + 1) f) (cond b (not c && is_balanced (n - 1) f) (is_balanced n f)) ≡ true → cond a (is_balanced (n + 1) g) (cond b (not c && is_balanced (n - 1) g) (is_balanced n g)) ≡ true
+    go : (a b c : Bool) → cond a (is_balanced (n + 1) f) (cond b (not c && is_balanced (n - 1) f) (is_balanced n f)) ≡
+        true → cond a (is_balanced (n + 1) g) (cond b (not c && is_balanced (n - 1) g) (is_balanced n g)) ≡ true
     go true b c e = p (n + 1) e
     go false true true e = e
     go false true false e = p (n - 1) e
@@ -111,7 +117,9 @@ calm_and true false y e d = d
 calm_and false false y e d = d
 
 -- two tokens joined
-joined_kept : (x : Token) (u : NewToken) (f g : Forest) → is_one (hash_comment x) u ≡ true → TokensKept f (leaf (shown_token u) g) → TokensKept (leaf x f) (leaf (shown_token (one_name (hash_comment x) u)) g)
+joined_kept : (x : Token) (u : NewToken) (f g : Forest) → is_one (hash_comment x) u ≡ true
+    → TokensKept f (leaf (shown_token u) g) → TokensKept (leaf x f)
+    (leaf (shown_token (one_name (hash_comment x) u)) g)
 joined_kept x u f g e p =
     let j = shown_token (one_name (hash_comment x) u) in
     let one = first_neutral x u e in
@@ -120,11 +128,17 @@ joined_kept x u f g e p =
     record {
       balanced = λ n h. passes n j g new ∙ sym (passes n (shown_token u) g two) ∙ p.balanced n (sym (passes n x f one) ∙ h);
       like = record {
-        elses = λ b d w h. calm_and d (goes_on_if (terminal j)) (elses_are_nearest false g) new.goes (p.like.elses false false (λ z. z) (and_right (not (b && goes_on_if (terminal x))) (elses_are_nearest false f) h));
+        elses = λ b d w h. calm_and d (goes_on_if (terminal j)) (elses_are_nearest false g) new.goes
+            (p.like.elses false false (λ z. z)
+            (and_right (not (b && goes_on_if (terminal x))) (elses_are_nearest false f) h));
         ifs = λ b d w h. p.like.ifs false false (λ z. z) h;
-        arrows = λ b d w h. calm_and d (is_to (terminal j)) (arrows_are_nearest false g) new.to (p.like.arrows false false (λ z. z) (and_right (not (b && is_to (terminal x))) (arrows_are_nearest false f) h));
+        arrows = λ b d w h. calm_and d (is_to (terminal j)) (arrows_are_nearest false g) new.to
+            (p.like.arrows false false (λ z. z)
+            (and_right (not (b && is_to (terminal x))) (arrows_are_nearest false f) h));
         yields = λ b d w h. p.like.yields false false (λ z. z) h;
-        same_else = last_of (is_else (terminal j)) (has_else g) new.else_ ∙ sym (last_of (is_else (terminal (shown_token u))) (has_else g) two.else_) ∙ p.like.same_else ∙ sym (last_of (is_else (terminal x)) (has_else f) one.else_);
+        same_else = last_of (is_else (terminal j)) (has_else g) new.else_
+            ∙ sym (last_of (is_else (terminal (shown_token u))) (has_else g) two.else_) ∙ p.like.same_else
+            ∙ sym (last_of (is_else (terminal x)) (has_else f) one.else_);
         edges = λ m d w. p.like.edges 0 0 (below_same 0);
         begins = λ h. refl;
         is_some = λ h. absurd cc;
@@ -137,7 +151,9 @@ front_kept x f no_more p = in_front_kept x f none p
 front_kept x f (new_node k c d) p = in_front_kept x f (node k (shown c) (shown d)) p
 front_kept x f (new_leaf u d) p = go (is_one (hash_comment x) u) refl
   where
-    go : (b : Bool) → is_one (hash_comment x) u ≡ b → TokensKept (leaf x f) (shown (if b && true then new_leaf (one_name (hash_comment x) u) d else new_leaf (hash_comment x) (new_leaf u d)))
+    go : (b : Bool) → is_one (hash_comment x) u ≡ b → TokensKept (leaf x f)
+        (shown (if b && true then new_leaf (one_name (hash_comment x) u) d else new_leaf (hash_comment x)
+        (new_leaf u d)))
     go true e = joined_kept x u f (shown d) e p
     go false e = in_front_kept x f (leaf (shown_token u) (shown d)) p
 
@@ -147,7 +163,10 @@ tokens_alone none = true
 tokens_alone (leaf x f) = tokens_alone f
 tokens_alone (node k c f) = false
 
-by_bracket : (a b : Bool) (n : ℕ) (f : Forest) → cond a (is_balanced (n + 1) f) (cond b (not (nat_eq n 0) && is_balanced (n - 1) f) (is_balanced n f)) ≡ true → (is_balanced (n + 1) f ≡ true → tokens_alone f ≡ true) → (is_balanced (n - 1) f ≡ true → tokens_alone f ≡ true) → (is_balanced n f ≡ true → tokens_alone f ≡ true) → tokens_alone f ≡ true
+by_bracket : (a b : Bool) (n : ℕ) (f : Forest) → cond a (is_balanced (n + 1) f)
+    (cond b (not (nat_eq n 0) && is_balanced (n - 1) f) (is_balanced n f)) ≡ true
+    → (is_balanced (n + 1) f ≡ true → tokens_alone f ≡ true) → (is_balanced (n - 1) f ≡ true → tokens_alone f ≡ true)
+    → (is_balanced n f ≡ true → tokens_alone f ≡ true) → tokens_alone f ≡ true
 by_bracket true b n f e p q r = p e
 by_bracket false true n f e p q r = q (and_right (not (nat_eq n 0)) (is_balanced (n - 1) f) e)
 by_bracket false false n f e p q r = r e
@@ -187,7 +206,9 @@ use_no : (own : Terminal) → same_class t.Use own ≡ true → is_brace own ≡
 use_no t.Use e = refl
 use_no _ e = absurd cc
 
-use_kept : (c : Forest) → Fits V74 (trait_use V74) c → AreSpelled c → AllGood c → (a : Bool → Option Around) (b : Bool) → has_before is_brace (new_parts a b c) ≡ false → Kept (trait_use V83) c (new_parts a b c)
+use_kept : (c : Forest) → Fits V74 (trait_use V74) c → AreSpelled c → AllGood c
+    → (a : Bool → Option Around) (b : Bool) → has_before is_brace (new_parts a b c) ≡ false
+    → Kept (trait_use V83) c (new_parts a b c)
 use_kept c (is_both {h = f} (is_word {x} p) (is_both {g} {h} q r e) d) s w a b n =
     let same : c ≡ leaf x (g +++ h) = d ∙ ap (leaf x) e in
     let s1 = (subst AreSpelled same s).1 in
@@ -196,15 +217,21 @@ use_kept c (is_both {h = f} (is_word {x} p) (is_both {g} {h} q r e) d) s w a b n
     let x2 = shown_token (hash_comment x) in
     let p1 : new_parts a b c ≡ leaf x2 (new_parts a false f) = ap (new_parts a b) d ∙ apart_parts a b (leaf x none) f (are_apart (is_word {c = t.Use} {x = x} p) whole refl) in
     let p2 : new_parts a false f ≡ new_parts a false g +++ new_parts a (still_first false g) h = ap (new_parts a false) e ∙ apart_parts a false g h (are_apart q r refl) in
-    let n1 = front_by (is_brace (terminal x2)) (is_keyword_now (terminal x2)) (has_before is_brace (new_parts a false f)) (ap is_brace (shown_terminal x) ∙ use_no (terminal x) p) (ap (has_before is_brace) (sym p1) ∙ n) in
-    let free : has is_keyword_now (new_parts a false g) ≡ false = before_front brace (new_parts a false g) (new_parts a (still_first false g) h) (both_no brace (listed a_name) refl g q (spelled_front g h s1) a false) (ap (has_before is_brace) (sym p2) ∙ n1.1) in
+    let n1 = front_by (is_brace (terminal x2)) (is_keyword_now (terminal x2))
+    (has_before is_brace (new_parts a false f)) (ap is_brace (shown_terminal x) ∙ use_no (terminal x) p)
+    (ap (has_before is_brace) (sym p1) ∙ n) in
+    let free : has is_keyword_now (new_parts a false g) ≡ false =
+    before_front brace (new_parts a false g) (new_parts a (still_first false g) h)
+    (both_no brace (listed a_name) refl g q (spelled_front g h s1) a false)
+    (ap (has_before is_brace) (sym p2) ∙ n1.1) in
     kept_join a b (word t.Use) (names V74 ~ tail_rule) (word t.Use) (names V83 ~ tail_rule) c (leaf x none) f d (is_word {x = x} p) whole refl
     (record { fits = is_word (steady_shown t.Use x refl p); like = like_leaf x x2 (shown_terminal x) })
     (kept_join a false (names V74) tail_rule (names V83) tail_rule f g h e q r refl
     (both_kept keywords (listed a_name) refl g q (spelled_front g h s1) (good_front g h w1) a false free)
     (tail_kept h r (good_rest g h w1) a (still_first false g)))
 
-pub good_trait_use : (a : Option Around) (c : Forest) → has_refused k.TraitUse c ≡ false → AreSpelled c → AllGood c → IsNode V74 k.TraitUse c → Good k.TraitUse c (new_tree a k.TraitUse c)
+pub good_trait_use : (a : Option Around) (c : Forest) → has_refused k.TraitUse c ≡ false → AreSpelled c → AllGood c
+    → IsNode V74 k.TraitUse c → Good k.TraitUse c (new_tree a k.TraitUse c)
 good_trait_use a c h s w (is_node x near fine) =
     let b = new_parts (within k.TraitUse c) true c in
     assemble a k.TraitUse c refl refl (use_kept c x s w (within k.TraitUse c) true (sym (before_new is_brace (within k.TraitUse c) true c) ∙ h)) near (lines_fine k.TraitUse b refl)

@@ -55,7 +55,8 @@ abbrev pub single : Token → NodeKind → Forest → Forest
 single x i e = leaf x (node i e none)
 
 -- a node of a tight level, with a token that stays tight
-pub single_good : (k : NodeKind) (x y : Token) (i : NodeKind) (e : Forest) (z : Tree) (r : ℕ) → level V74 (k, single x i e) ≤ 5 → level V83 (k, single y z.0 z.1) ≡ level V74 (k, single x i e)
+pub single_good : (k : NodeKind) (x y : Token) (i : NodeKind) (e : Forest) (z : Tree) (r : ℕ)
+    → level V74 (k, single x i e) ≤ 5 → level V83 (k, single y z.0 z.1) ≡ level V74 (k, single x i e)
     → Good i e z → IsNode V74 i e → may_stand V74 (Operand r) (i, e) ≡ true → r ≤ 5
     → EndsIn k (single x i e) (single y z.0 z.1) i e z r
 single_good k x y i e z r low same g n m tight = record {
@@ -83,7 +84,9 @@ abbrev PrefixGood : Forest → Type 0
 PrefixGood c = Good Prefix c (Prefix, new_parts (within Prefix c) true c)
 
 prefix_at : (x : Token) (i : NodeKind) (e : Forest) → Kept (prefix) (single x i e) (new_parts (within Prefix (single x i e)) true (single x i e)) → is_nearest (single x i e) ≡ true
-    → (is_dot (Prefix, single x i e) ≡ false → edge V74 (Prefix, single x i e) ≤ 8 → edge V83 (Prefix, new_parts (within Prefix (single x i e)) true (single x i e)) ≤ edge V74 (Prefix, single x i e))
+    → (is_dot (Prefix, single x i e) ≡ false → edge V74 (Prefix, single x i e) ≤ 8
+    → edge V83 (Prefix, new_parts (within Prefix (single x i e)) true (single x i e)) ≤ edge V74
+    (Prefix, single x i e))
     → (edge V74 (Prefix, single x i e) ≤ 18 → edge V83 (Prefix, new_parts (within Prefix (single x i e)) true (single x i e)) ≤ 17)
     → PrefixGood (single x i e)
 prefix_at x i e p near dots ternaries =
@@ -101,21 +104,25 @@ prefix_at x i e p near dots ternaries =
       ternaries = λ u w h. ternaries h;
     }
 
-prefix_operand : (op : Terminal) (r : ℕ) (c : Forest) → r ≤ 5 → Fits V74 (word op ~ place (Operand r)) c → AllGood c → Kept prefix c (new_parts (within Prefix c) true c) → is_nearest c ≡ true → PrefixGood c
+prefix_operand : (op : Terminal) (r : ℕ) (c : Forest) → r ≤ 5 → Fits V74 (word op ~ place (Operand r)) c → AllGood c
+    → Kept prefix c (new_parts (within Prefix c) true c) → is_nearest c ≡ true → PrefixGood c
 prefix_operand op r c tight f w p near =
     let y = one op (Operand r) c f in
     let u = subst AllGood y.same w in
     let z = new_tree (within Prefix (single y.x y.i y.e) false) y.i y.e in
     let g : Good y.i y.e z = u.0 (within Prefix (single y.x y.i y.e) false) y.shaped in
     let low : level V74 (Prefix, single y.x y.i y.e) ≤ 5 = leb-true (prefix_level (terminal y.x)) 5 (prefix_low (terminal y.x)) in
-    let same : level V83 (Prefix, single (shown_token (hash_comment y.x)) z.0 z.1) ≡ level V74 (Prefix, single y.x y.i y.e) = ap (λ (y : Token). prefix_level (terminal y)) (shown_is y.x) in
+    let same : level V83 (Prefix, single (shown_token (hash_comment y.x)) z.0 z.1) ≡ level V74
+    (Prefix, single y.x y.i y.e) = ap (λ (y : Token). prefix_level (terminal y)) (shown_is y.x) in
     let ends = single_good Prefix y.x (shown_token (hash_comment y.x)) y.i y.e z r low same g y.shaped y.stands tight in
     let b = single (shown_token (hash_comment y.x)) z.0 z.1 in
     subst PrefixGood (sym y.same)
     (prefix_at y.x y.i y.e (subst (λ (c : Forest). Kept prefix c (new_parts (within Prefix c) true c)) y.same p) (ap is_nearest (sym y.same) ∙ near)
     (λ n h. dots_by Prefix (single y.x y.i y.e) b y.i y.e z r ends g n h) (λ h. ternaries_by Prefix (single y.x y.i y.e) b y.i y.e z r ends g h))
 
-prefix_step : (c : Forest) → Fits V74 (word t.Step ~ place Target) c → Kept (word t.Step ~ place Target) c (new_parts (within Prefix c) true c) → Kept prefix c (new_parts (within Prefix c) true c) → is_nearest c ≡ true → PrefixGood c
+prefix_step : (c : Forest) → Fits V74 (word t.Step ~ place Target) c
+    → Kept (word t.Step ~ place Target) c (new_parts (within Prefix c) true c)
+    → Kept prefix c (new_parts (within Prefix c) true c) → is_nearest c ≡ true → PrefixGood c
 prefix_step c f q p near =
     let y = one t.Step Target c f in
     let d = single y.x y.i y.e in
@@ -182,7 +189,8 @@ yield_alone : (c : Forest) → Fits V74 yield c → Alone c
 yield_alone c (is_first (is_word {x} p)) = yield_word (leaf x none) x refl
 yield_alone c (is_second (is_first (is_both (is_word {x} p) (is_both (is_place {k = i} {c = e} m n) (is_first is_nothing) w) v))) =
     subst Alone (sym (v ∙ ap (leaf x) w)) (yield_one x i e)
-yield_alone c (is_second (is_first (is_both (is_word {x} p) (is_both (is_place {k = i} {c = e} m n) (is_second (is_both (is_word {x = y} q) (is_place {k = j} {c = d} m2 n2) u)) w) v))) =
+yield_alone c (is_second (is_first (is_both (is_word {x} p) (is_both (is_place {k = i} {c = e} m n)
+    (is_second (is_both (is_word {x = y} q) (is_place {k = j} {c = d} m2 n2) u)) w) v))) =
     subst Alone (sym (v ∙ ap (leaf x) (w ∙ ap (node i e) u))) (yield_two x i e y j d)
 yield_alone c (is_second (is_second (is_both (is_word {x} p) (is_place {k = i} {c = e} m n) w))) = subst Alone (sym w) (yield_one x i e)
 
@@ -193,8 +201,11 @@ good_yield a c w (is_node f near fine) = subst (Good Yield c) (sym (simple_tree 
 
 nested_paren : (o : NodeKind) (c : Forest) (j : NodeKind) (d : Forest) → nested.nests o j ≡ true → (y : Tree) × (new_tree (within o c true) j d ≡ in_paren y)
 nested_paren o c j d e =
-    let a = within o c true in
-    (wrapped (around_dot a (j, d)) (changed_tree j d), new_tree_is a j d ∙ ap (λ (b : Bool). wrapped ((if b then InParens ∷ [] else []) ++ around_dot a (j, d)) (changed_tree j d)) e)
+    let a = within o c true in (
+      wrapped (around_dot a (j, d)) (changed_tree j d),
+      new_tree_is a j d
+          ∙ ap (λ (b : Bool). wrapped ((if b then InParens ∷ [] else []) ++ around_dot a (j, d)) (changed_tree j d)) e,
+    )
 
 -- a left operand that is no ternary, or in parentheses
 left_once : (n : ℕ) (j : NodeKind) (d : Forest) (x : Tree) → Good j d x → is_ternary j ≡ false → may_stand V74 (Left 18) (j, d) ≡ true → may_stand V83 (Left 17) x ≡ true
@@ -206,7 +217,8 @@ left_once n j d x g e m =
 left_paren : (j : NodeKind) (d : Forest) (x y : Tree) → Good j d x → x ≡ in_paren y → may_stand V83 (Left 17) x ≡ true
 left_paren j d x y g e = subst (λ (z : Tree). may_stand V83 (Left 17) z ≡ true) (sym e) (le-leb (edge V83 (in_paren y)) 17 (omega (arith, paren_edge y)))
 
-left_ternary : (c : Forest) (j : NodeKind) (d : Forest) → Good j d (new_tree (within Ternary c true) j d) → may_stand V74 (Left 18) (j, d) ≡ true → may_stand V83 (Left 17) (new_tree (within Ternary c true) j d) ≡ true
+left_ternary : (c : Forest) (j : NodeKind) (d : Forest) → Good j d (new_tree (within Ternary c true) j d)
+    → may_stand V74 (Left 18) (j, d) ≡ true → may_stand V83 (Left 17) (new_tree (within Ternary c true) j d) ≡ true
 left_ternary c k.Ternary d g m = let y = nested_paren Ternary c Ternary d refl in left_paren Ternary d (new_tree (within Ternary c true) Ternary d) y.0 g y.1
 left_ternary c k.ShortTernary d g m = let y = nested_paren Ternary c ShortTernary d refl in left_paren ShortTernary d (new_tree (within Ternary c true) ShortTernary d) y.0 g y.1
 left_ternary c j d g m = left_once 17 j d (new_tree (within Ternary c true) j d) g refl m
@@ -231,7 +243,9 @@ ternary_kept c (is_both {h = h} (is_place {k = j} {c = d} m n) y e) w =
 short_tree : (c d : Forest) → new_tree (within ShortTernary c true) ShortTernary d ≡ changed_tree ShortTernary d
 short_tree c d = new_tree_is (within ShortTernary c true) ShortTernary d
 
-short_stands : (c d : Forest) → Good ShortTernary d (new_tree (within ShortTernary c true) ShortTernary d) → edge V74 (ShortTernary, d) ≤ 18 → may_stand V83 LeftShort (new_tree (within ShortTernary c true) ShortTernary d) ≡ true
+short_stands : (c d : Forest) → Good ShortTernary d (new_tree (within ShortTernary c true) ShortTernary d)
+    → edge V74 (ShortTernary, d) ≤ 18 → may_stand V83 LeftShort (new_tree (within ShortTernary c true) ShortTernary d)
+    ≡ true
 short_stands c d g h =
     let x = new_tree (within ShortTernary c true) ShortTernary d in
     let b = (edges_below ShortTernary d x g.like).loose in
@@ -242,7 +256,8 @@ abbrev Shorter : Forest → NodeKind → Forest → Type 0
 Shorter c j d = Fits V83 (place (Left 17) ||| place LeftShort) (node (new_tree (within ShortTernary c true) j d).0 (new_tree (within ShortTernary c true) j d).1 none)
 
 left_shorter : (c : Forest) (j : NodeKind) (d : Forest) → Good j d (new_tree (within ShortTernary c true) j d) → may_stand V74 (Left 18) (j, d) ≡ true → Shorter c j d
-left_shorter c k.Ternary d g m = let y = nested_paren ShortTernary c Ternary d refl in is_first (is_place (left_paren Ternary d (new_tree (within ShortTernary c true) Ternary d) y.0 g y.1) g.shaped)
+left_shorter c k.Ternary d g m = let y = nested_paren ShortTernary c Ternary d refl
+    in is_first (is_place (left_paren Ternary d (new_tree (within ShortTernary c true) Ternary d) y.0 g y.1) g.shaped)
 left_shorter c k.ShortTernary d g m = is_second (is_place (short_stands c d g (leb-true (edge V74 (ShortTernary, d)) 18 m)) g.shaped)
 left_shorter c j d g m = is_first (is_place (left_once 17 j d (new_tree (within ShortTernary c true) j d) g refl m) g.shaped)
 
@@ -250,7 +265,9 @@ again_shorter : (c : Forest) (j : NodeKind) (d : Forest) → Good j d (new_tree 
 again_shorter c k.ShortTernary d g m = is_second (is_place (short_stands c d g (leb-true (edge V74 (ShortTernary, d)) 18 m)) g.shaped)
 again_shorter c _ d g m = absurd cc
 
-short_join : (c h : Forest) (j : NodeKind) (d : Forest) → c ≡ node j d none +++ h → Fits V74 (place (Left 18) ||| place LeftShort) (node j d none) → Fits V74 short_tail h → AllGood (node j d none +++ h)
+short_join : (c h : Forest) (j : NodeKind) (d : Forest) → c ≡ node j d none +++ h
+    → Fits V74 (place (Left 18) ||| place LeftShort) (node j d none) → Fits V74 short_tail h
+    → AllGood (node j d none +++ h)
     → Good j d (new_tree (within ShortTernary c true) j d) → Shorter c j d → Kept (short_ternary V83) c (new_parts (within ShortTernary c) true c)
 short_join c h j d e f y u g p =
     let x = new_tree (within ShortTernary c true) j d in
@@ -299,8 +316,12 @@ plain_short c p near =
 
 pub good_ternary : (a : Option Around) (c : Forest) → AllGood c → IsNode V74 Ternary c → Good Ternary c (new_tree a Ternary c)
 good_ternary a c w (is_node f near fine) =
-    subst (Good Ternary c) (sym (new_tree_is a Ternary c)) (wrapped_good Ternary c (all.wrapping a (Ternary, c)) (changed_tree Ternary c) refl (plain_ternary c (ternary_kept c f w) near))
+    subst (Good Ternary c) (sym (new_tree_is a Ternary c))
+    (wrapped_good Ternary c (all.wrapping a (Ternary, c)) (changed_tree Ternary c) refl
+    (plain_ternary c (ternary_kept c f w) near))
 
 pub good_short : (a : Option Around) (c : Forest) → AllGood c → IsNode V74 ShortTernary c → Good ShortTernary c (new_tree a ShortTernary c)
 good_short a c w (is_node f near fine) =
-    subst (Good ShortTernary c) (sym (new_tree_is a ShortTernary c)) (wrapped_good ShortTernary c (all.wrapping a (ShortTernary, c)) (changed_tree ShortTernary c) refl (plain_short c (short_kept c f w) near))
+    subst (Good ShortTernary c) (sym (new_tree_is a ShortTernary c))
+    (wrapped_good ShortTernary c (all.wrapping a (ShortTernary, c)) (changed_tree ShortTernary c) refl
+    (plain_short c (short_kept c f w) near))

@@ -43,11 +43,15 @@ or_right false b e = e
 
 -- `\` before a label
 root_label : (t u : NewToken) → is_backslash t ≡ true → is_label u.kind ≡ true → is_one t u ≡ true
-root_label t u p q = or_left (is_backslash t && (is_label u.kind || (is_name u.kind && not (begins_root (before u.text))))) _ (and_both (is_backslash t) _ p (or_left (is_label u.kind) _ q))
+root_label t u p q = or_left (is_backslash t && (is_label u.kind
+    || (is_name u.kind && not (begins_root (before u.text))))) _
+    (and_both (is_backslash t) _ p (or_left (is_label u.kind) _ q))
 
 -- `\` before a name that doesn't begin with one
 root_name : (t u : NewToken) → is_backslash t ≡ true → is_name u.kind ≡ true → begins_root (before u.text) ≡ false → is_one t u ≡ true
-root_name t u p q r = or_left (is_backslash t && (is_label u.kind || (is_name u.kind && not (begins_root (before u.text))))) _ (and_both (is_backslash t) _ p (or_right (is_label u.kind) _ (and_both (is_name u.kind) _ q (ap not r))))
+root_name t u p q r = or_left (is_backslash t && (is_label u.kind
+    || (is_name u.kind && not (begins_root (before u.text))))) _
+    (and_both (is_backslash t) _ p (or_right (is_label u.kind) _ (and_both (is_name u.kind) _ q (ap not r))))
 
 -- a label or `namespace` before a name that begins with `\`
 part_name : (t u : NewToken) → (is_label t.kind || is_namespace t) ≡ true → is_name u.kind ≡ true → begins_root (before u.text) ≡ true → is_one t u ≡ true
@@ -100,16 +104,43 @@ deleted_after : (bytes : List ℕ) → after (deleted bytes) ≡ []
 deleted_after [] = refl
 deleted_after (b ∷ bs) = refl
 
-label_more : (y : Token) (d : Draft) → y.kind ≡ token.Label → is_label_text y.text ≡ true → More d → (u : NewToken) × Bare y u × (in_front true (hash_comment y) d ≡ new_leaf u draft.no_more)
+label_more : (y : Token) (d : Draft) → y.kind ≡ token.Label → is_label_text y.text ≡ true → More d → (u : NewToken)
+    × Bare y u × (in_front true (hash_comment y) d ≡ new_leaf u draft.no_more)
 label_more y d k s (inl e) = (hash_comment y, record { kind = inl refl; plain = no_root_front y.text [] s; text = inl refl }, ap (in_front true (hash_comment y)) e)
 label_more y d k s (inr r) = (
   one_name (hash_comment y) r.0,
-  record { kind = inr refl; plain = no_root_front y.text _ s; text = inr (refl, r.1.text.0, ap (λ (z : List ℕ). y.text ++ z) (after-append (deleted (before r.0.lead)) r.0.text ∙ ap (λ (z : List ℕ). z ++ after r.0.text) (deleted_after (before r.0.lead)) ∙ r.1.text.1)) },
-  ap (in_front true (hash_comment y)) r.2 ∙ joins (hash_comment y) r.0 draft.no_more (part_name (hash_comment y) r.0 (or_left (is_label y.kind) _ (label_is y.kind k)) (ap is_name r.1.kind) r.1.root),
+  record {
+    kind = inr refl;
+    plain = no_root_front y.text _ s;
+    text =
+        inr (
+          refl,
+          r.1.text.0,
+          ap (λ (z : List ℕ). y.text ++ z)
+              (after-append (deleted (before r.0.lead)) r.0.text ∙ ap (λ (z : List ℕ). z ++ after r.0.text)
+              (deleted_after (before r.0.lead)) ∙ r.1.text.1),
+        );
+  },
+  ap (in_front true (hash_comment y)) r.2 ∙ joins (hash_comment y) r.0 draft.no_more
+      (part_name (hash_comment y) r.0 (or_left (is_label y.kind) _ (label_is y.kind k)) (ap is_name r.1.kind)
+      r.1.root),
 )
 
-root_more : (x y : Token) (u : NewToken) → accepts V74 t.Backslash x ≡ true → y.kind ≡ token.Label → Bare y u → (v : NewToken) × Root v × (in_front true (hash_comment x) (new_leaf u draft.no_more) ≡ new_leaf v draft.no_more)
-root_more x y u p k b = (one_name (hash_comment x) u, record { kind = refl; root = root_front x.text _ (backslash_is x p); text = (after (deleted (before u.lead) ++ u.text), ap (λ (z : List ℕ). z ++ after (deleted (before u.lead) ++ u.text)) (backslash_is x p)) }, joins (hash_comment x) u draft.no_more (one b.kind))
+root_more : (x y : Token) (u : NewToken) → accepts V74 t.Backslash x ≡ true → y.kind ≡ token.Label → Bare y u
+    → (v : NewToken) × Root v × (in_front true (hash_comment x) (new_leaf u draft.no_more) ≡ new_leaf v draft.no_more)
+root_more x y u p k b = (
+  one_name (hash_comment x) u,
+  record {
+    kind = refl;
+    root = root_front x.text _ (backslash_is x p);
+    text = (
+      after (deleted (before u.lead) ++ u.text),
+      ap (λ (z : List ℕ). z ++ after (deleted (before u.lead) ++ u.text))
+          (backslash_is x p),
+    );
+  },
+  joins (hash_comment x) u draft.no_more (one b.kind),
+)
   where
     one : (u ≡ hash_comment y) ⊎ (u.kind ≡ token.Name) → is_one (hash_comment x) u ≡ true
     one (inl e) = root_label (hash_comment x) u (root_token x p) (ap (λ (z : NewToken). is_label z.kind) e ∙ label_is y.kind k)
@@ -154,22 +185,37 @@ name_is f (is_both {h = k} (is_second (is_second (is_both (is_word {x = n} o) (i
     inr (
       one_name (hash_comment n) r.0,
       refl,
-      ap (λ (g : Forest). names_whole (written a b g)) same ∙ ap (λ z. in_front true (hash_comment n) (in_front true (hash_comment x) z)) l.2 ∙ ap (in_front true (hash_comment n)) r.2
+      ap (λ (g : Forest). names_whole (written a b g)) same ∙ ap
+          (λ z. in_front true (hash_comment n) (in_front true (hash_comment x) z)) l.2
+          ∙ ap (in_front true (hash_comment n)) r.2
           ∙ joins (hash_comment n) r.0 draft.no_more (part_name (hash_comment n) r.0 (or_right (is_label n.kind) _ (space_token n o)) (ap is_name r.1.kind) r.1.root),
     )
 
 -- a name without a lead: a label, or one that doesn't begin with `\`
 pub plain_is : (f : Forest) → Fits V74 (word t.AnyLabel ~ more_of_name) f → AreSpelled f → begins_namespace f ≡ false → (a : Bool → Option Around) (b : Bool)
-    → (y : Token) × (accepts V74 t.AnyLabel y ≡ true) × ((is_label_text y.text ≡ true) × (is_namespace_word y.text ≡ false)) × (u : NewToken) × Bare y u × (names_whole (written a b f) ≡ new_leaf u draft.no_more)
+    → (y : Token) × (accepts V74 t.AnyLabel y ≡ true)
+    × ((is_label_text y.text ≡ true) × (is_namespace_word y.text ≡ false)) × (u : NewToken) × Bare y u
+    × (names_whole (written a b f) ≡ new_leaf u draft.no_more)
 plain_is f (is_both {h = h} (is_word {x = y} q) m d) s o a b =
     let sp = subst AreSpelled d s in
     let k = label_token y q in
     let word_ = label_spelled y.kind y.text k sp.0.0 in
-    let l = label_more y (names_whole (written a false h)) k word_ (more_is m sp.1 a false) in
-    (y, q, (word_, ap (λ (sort : TokenKind). is_namespace_label sort y.text) (sym k) ∙ ap begins_namespace (sym d) ∙ o), l.0, l.1, ap (λ (g : Forest). names_whole (written a b g)) d ∙ l.2)
+    let l = label_more y (names_whole (written a false h)) k word_ (more_is m sp.1 a false) in (
+      y,
+      q,
+      (
+        word_,
+        ap (λ (sort : TokenKind). is_namespace_label sort y.text) (sym k) ∙ ap begins_namespace (sym d)
+            ∙ o,
+      ),
+      l.0,
+      l.1,
+      ap (λ (g : Forest). names_whole (written a b g)) d ∙ l.2,
+    )
 
 -- a name behind `\`
-pub full_is : (x : Token) (g f : Forest) → f ≡ leaf x g → accepts V74 t.Backslash x ≡ true → Fits V74 (word t.AnyLabel ~ more_of_name) g → AreSpelled g → (a : Bool → Option Around) (b : Bool)
+pub full_is : (x : Token) (g f : Forest) → f ≡ leaf x g → accepts V74 t.Backslash x ≡ true
+    → Fits V74 (word t.AnyLabel ~ more_of_name) g → AreSpelled g → (a : Bool → Option Around) (b : Bool)
     → (v : NewToken) × Root v × (names_whole (written a b f) ≡ new_leaf v draft.no_more)
 full_is x g f c p (is_both {h = h} (is_word {x = y} q) m d) s a b =
     let sp = subst AreSpelled d s in

@@ -68,7 +68,8 @@ quiet_by t.ElseIf e = absurd cc
 quiet_by t.DoubleArrow e = absurd cc
 quiet_by _ e = (refl, refl, refl)
 
-imported_by : (own : Terminal) → is_name_of true own ≡ true → is_keyword_now own ≡ false → (((is_constant_label own || is_qualified own) || is_full own) || same_class t.ImportedName own) ≡ true
+imported_by : (own : Terminal) → is_name_of true own ≡ true → is_keyword_now own ≡ false
+    → (((is_constant_label own || is_qualified own) || is_full own) || same_class t.ImportedName own) ≡ true
 imported_by t.Label e d = refl
 imported_by t.MixedOrNever e d = refl
 imported_by t.QualifiedName e d = refl
@@ -85,7 +86,10 @@ grouped_by t.Match e d = absurd cc
 grouped_by t.Readonly e d = absurd cc
 grouped_by _ e d = absurd cc
 
-class_by : (own : Terminal) (refused : Bool) → is_name_of true own ≡ true → is_keyword_now own ≡ false → (is_type_now own || (is_whole_name own && refused)) ≡ false → ((is_plain_label own || ((is_qualified own || is_full own) && not refused)) || same_class t.ImportedClass own) ≡ true
+class_by : (own : Terminal) (refused : Bool) → is_name_of true own ≡ true → is_keyword_now own ≡ false
+    → (is_type_now own || (is_whole_name own && refused)) ≡ false
+    → ((is_plain_label own || ((is_qualified own || is_full own) && not refused)) || same_class t.ImportedClass own) ≡
+    true
 class_by t.Label r e d c = refl
 class_by t.QualifiedName false e d c = refl
 class_by t.FullName false e d c = refl
@@ -96,7 +100,9 @@ class_by t.Match r e d c = absurd cc
 class_by t.Readonly r e d c = absurd cc
 class_by _ r e d c = absurd cc
 
-grouped_class_by : (own : Terminal) (refused : Bool) → is_name_of false own ≡ true → is_keyword_now own ≡ false → (is_type_now own || (is_whole_name own && refused)) ≡ false → ((is_plain_label own || (is_qualified own && not refused)) || same_class t.GroupedClass own) ≡ true
+grouped_class_by : (own : Terminal) (refused : Bool) → is_name_of false own ≡ true → is_keyword_now own ≡ false
+    → (is_type_now own || (is_whole_name own && refused)) ≡ false
+    → ((is_plain_label own || (is_qualified own && not refused)) || same_class t.GroupedClass own) ≡ true
 grouped_class_by t.Label r e d c = refl
 grouped_class_by t.QualifiedName false e d c = refl
 grouped_class_by t.QualifiedName true e d c = absurd cc
@@ -120,21 +126,33 @@ pub record Imported (n k : Terminal) (f new : Forest) : Type 0 where
 abbrev pub Names : Rule → Terminal → Terminal → Type 0
 Names r n k = (f : Forest) → Fits V74 r f → AreSpelled f → begins_namespace f ≡ false → (a : Bool → Option Around) (b : Bool) → Imported n k f (new_parts a b f)
 
-imported_from : (n k : Terminal) (r : Rule) (f new : Forest) (u : Token) → Fits V74 r f → of_name r ≡ true → may_be_empty r ≡ false → new ≡ leaf u none → is_name_of true (terminal u) ≡ true
+imported_from : (n k : Terminal) (r : Rule) (f new : Forest) (u : Token) → Fits V74 r f → of_name r ≡ true
+    → may_be_empty r ≡ false → new ≡ leaf u none → is_name_of true (terminal u) ≡ true
     → (is_keyword_now (terminal u) ≡ false → accepts V83 n u ≡ true) → (is_keyword_now (terminal u) ≡ false → is_type_name u ≡ false → accepts V83 k u ≡ true) → Imported n k f new
 imported_from n k r f new u x e m same own takes_name takes_class = record {
   one = u;
   same = same;
   no_comma = no_comma_by (terminal u) own;
   no_code = no_code_by (terminal u) own;
-  as_name = λ h. record { fits = is_word (takes_name h); like = like_word f u (no_else x e) empty (quiet_by (terminal u) own).0 (quiet_by (terminal u) own).1 (quiet_by (terminal u) own).2 };
-  as_class = λ h d. record { fits = is_word (takes_class h d); like = like_word f u (no_else x e) empty (quiet_by (terminal u) own).0 (quiet_by (terminal u) own).1 (quiet_by (terminal u) own).2 };
+  as_name = λ h. record {
+    fits = is_word (takes_name h);
+    like =
+        like_word f u (no_else x e) empty (quiet_by (terminal u) own).0 (quiet_by (terminal u) own).1
+        (quiet_by (terminal u) own).2;
+  };
+  as_class = λ h d. record {
+    fits = is_word (takes_class h d);
+    like =
+        like_word f u (no_else x e) empty (quiet_by (terminal u) own).0 (quiet_by (terminal u) own).1
+        (quiet_by (terminal u) own).2;
+  };
 }
   where
     empty : f ≡ none → ⊥
     empty z = let c : false ≡ true = sym m ∙ empty_rule V74 x z in cc
 
-plain_class : (y : Token) (u : NewToken) → accepts V74 t.AnyLabel y ≡ true → is_label_text y.text ≡ true → is_namespace_word y.text ≡ false → Bare y u → is_name_of false (terminal (shown_token u)) ≡ true
+plain_class : (y : Token) (u : NewToken) → accepts V74 t.AnyLabel y ≡ true → is_label_text y.text ≡ true
+    → is_namespace_word y.text ≡ false → Bare y u → is_name_of false (terminal (shown_token u)) ≡ true
 plain_class y u p s n b = go b.text
   where
     go : (u ≡ hash_comment y) ⊎ ((u.kind ≡ token.Name) × (rest : List ℕ) × (after u.text ≡ y.text ++ 92 ∷ rest)) → is_name_of false (terminal (shown_token u)) ≡ true
@@ -155,7 +173,9 @@ grouped_names f x s o a b =
     imported_from t.GroupedName t.GroupedClass (namespace_name V74) f (new_parts a b f) u x refl refl (ap shown r.5) (to_full (terminal u) own)
     (λ h. grouped_by (terminal u) own h) (λ h d. grouped_class_by (terminal u) (names_refused u.text) own h d)
 
-imported_token : (f : Forest) (u : Token) (a : Bool → Option Around) (b : Bool) → Fits V74 (imported_name V74) f → new_parts a b f ≡ leaf u none → is_name_of true (terminal u) ≡ true → Imported t.ImportedName t.ImportedClass f (new_parts a b f)
+imported_token : (f : Forest) (u : Token) (a : Bool → Option Around) (b : Bool) → Fits V74 (imported_name V74) f
+    → new_parts a b f ≡ leaf u none → is_name_of true (terminal u) ≡ true
+    → Imported t.ImportedName t.ImportedClass f (new_parts a b f)
 imported_token f u a b x same own =
     imported_from t.ImportedName t.ImportedClass (imported_name V74) f (new_parts a b f) u x refl refl same own
     (λ h. imported_by (terminal u) own h) (λ h d. class_by (terminal u) (names_refused u.text) own h d)

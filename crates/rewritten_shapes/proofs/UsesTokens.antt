@@ -91,14 +91,17 @@ brace_code x e = ap (λ (sort : TokenKind). opens_name sort x.text) (op_kind x.k
 abbrev pub flag_after : Bool → Bool → Token → Bool
 flag_after u c z = if is_comma (terminal z) then u else (if is_of_code (terminal z) then false else c)
 
-use_by : (key c type renamed tail : Bool) → ((key || ((c && type) && (if renamed then false else true))) || tail) ≡ false → (key ≡ false) × (c ≡ true → renamed ≡ false → type ≡ false) × (tail ≡ false)
+use_by : (key c type renamed tail : Bool) → ((key || ((c && type) && (if renamed then false else true))) || tail) ≡
+    false → (key ≡ false) × (c ≡ true → renamed ≡ false → type ≡ false) × (tail ≡ false)
 use_by true c y r tail e = absurd cc
 use_by false true true true tail e = (refl, λ p q. absurd cc, e)
 use_by false true true false tail e = absurd cc
 use_by false true false r tail e = (refl, λ p q. refl, e)
 use_by false false y r tail e = (refl, λ p q. absurd cc, e)
 
-pub use_step : (u c : Bool) (z : Token) (f : Forest) → in_use u c (leaf z f) ≡ false → (is_keyword_now (terminal z) ≡ false) × (c ≡ true → is_renamed f ≡ false → is_type_name z ≡ false) × (in_use u (flag_after u c z) f ≡ false)
+pub use_step : (u c : Bool) (z : Token) (f : Forest) → in_use u c (leaf z f) ≡ false
+    → (is_keyword_now (terminal z) ≡ false) × (c ≡ true → is_renamed f ≡ false → is_type_name z ≡ false)
+    × (in_use u (flag_after u c z) f ≡ false)
 use_step u c z f e = use_by (is_keyword_now (terminal z)) c (is_type_name z) (is_renamed f) (in_use u (flag_after u c z) f) e
 
 pub same_flag : (u c : Bool) (z : Token) → is_comma (terminal z) ≡ false → is_of_code (terminal z) ≡ false → flag_after u c z ≡ c

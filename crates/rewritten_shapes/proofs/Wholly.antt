@@ -18,7 +18,19 @@ use Rattle.rewritten_shapes.proofs.Bare.{bare, bare_placed, unbare}
 use Rattle.rewritten_shapes.proofs.Binaries.{good_binary}
 use Rattle.rewritten_shapes.proofs.Braces.{good_brace, good_cast}
 use Rattle.rewritten_shapes.proofs.Classes.{good_class, good_class_constant, good_interface, good_static_call, good_static_prop, good_trait}
-use Rattle.rewritten_shapes.proofs.Named.{good_call, good_const, good_constant, good_declare, good_function, good_goto, good_instanceof, good_labelstmt, good_new, good_try, good_typename}
+use Rattle.rewritten_shapes.proofs.Named.{
+  good_call,
+  good_const,
+  good_constant,
+  good_declare,
+  good_function,
+  good_goto,
+  good_instanceof,
+  good_labelstmt,
+  good_new,
+  good_try,
+  good_typename,
+}
 use Rattle.rewritten_shapes.proofs.Kept.{AllGood, Good, kept}
 use Rattle.rewritten_shapes.proofs.QuotedTexts.{good_quoted}
 use Rattle.rewritten_shapes.proofs.Same.{good_same}
@@ -29,7 +41,8 @@ use Rattle.rewritten_shapes.proofs.Traits.{good_trait_use}
 use Rattle.rewritten_shapes.proofs.Unaries.{good_prefix, good_short, good_ternary, good_yield}
 use Rattle.rewritten_shapes.proofs.Uses.{good_use}
 
-good_node : (a : Option Around) (k : NodeKind) (c : Forest) → AreSpelled c → is_undecided (k, c) ≡ false → has_refused k c ≡ false → AllGood c → IsNode V74 k c → Good k c (new_tree a k c)
+good_node : (a : Option Around) (k : NodeKind) (c : Forest) → AreSpelled c → is_undecided (k, c) ≡ false
+    → has_refused k c ≡ false → AllGood c → IsNode V74 k c → Good k c (new_tree a k c)
 good_node a k.Block c s u r w n = good_same a k.Block c refl w n
 good_node a k.Empty c s u r w n = good_same a k.Empty c refl w n
 good_node a k.ExprStmt c s u r w n = good_same a k.ExprStmt c refl w n

@@ -116,7 +116,8 @@ and_false true b e d = cc
 and_false false b e d = cc
 
 -- a node of parentheses is good for any expression that stands before nothing
-pub paren_good : (k : NodeKind) (c f : Forest) → is_bare k ≡ true → IsNode V83 Paren f → ends_in_if false f ≡ false → ends_in_yield false f ≡ false → edge V83 (Paren, f) ≡ 0 → Good k c (Paren, f)
+pub paren_good : (k : NodeKind) (c f : Forest) → is_bare k ≡ true → IsNode V83 Paren f → ends_in_if false f ≡ false
+    → ends_in_yield false f ≡ false → edge V83 (Paren, f) ≡ 0 → Good k c (Paren, f)
 paren_good k c f e n i y z = record {
   shaped = n;
   like = record {

@@ -21,7 +21,8 @@ constants_with_their_case = refl
 
 -- use A\{B, function f as G, const C\D,};
 names_in_braces :
-    imports (codes "use" ∷ codes "A\\" ∷ codes "{" ∷ codes "B" ∷ codes "," ∷ codes "function" ∷ codes "f" ∷ codes "as" ∷ codes "G" ∷ codes "," ∷ codes "const" ∷ codes "C\\D" ∷ codes "," ∷ codes "}" ∷ codes ";" ∷ [])
+    imports (codes "use" ∷ codes "A\\" ∷ codes "{" ∷ codes "B" ∷ codes "," ∷ codes "function" ∷ codes "f" ∷ codes "as"
+    ∷ codes "G" ∷ codes "," ∷ codes "const" ∷ codes "C\\D" ∷ codes "," ∷ codes "}" ∷ codes ";" ∷ [])
     ≡ is OfClass (codes "b") (codes "A\\B") ∷ is OfFunction (codes "g") (codes "A\\f") ∷ is OfConstant (codes "D") (codes "A\\C\\D") ∷ []
 unfolding is
 names_in_braces = refl

@@ -51,20 +51,29 @@ no_constant_is_imported = refl
 
 -- final CLASS C Extends \P implements I {
 class_and_parent :
-    (within_form kind.Class (Word token.Label (codes "final") ∷ Word token.Label (codes "CLASS") ∷ Word token.Label (codes "C") ∷ Word token.Label (codes "Extends") ∷ Word token.Label (codes "\\P") ∷ Word token.Label (codes "implements") ∷ Word token.Label (codes "I") ∷ Word token.Label (codes "{") ∷ Child ∷ Word token.Label (codes "}") ∷ []) in_n)
+    (within_form kind.Class (Word token.Label (codes "final") ∷ Word token.Label (codes "CLASS")
+    ∷ Word token.Label (codes "C") ∷ Word token.Label (codes "Extends") ∷ Word token.Label (codes "\\P")
+    ∷ Word token.Label (codes "implements") ∷ Word token.Label (codes "I") ∷ Word token.Label (codes "{") ∷ Child
+    ∷ Word token.Label (codes "}") ∷ []) in_n)
     ≡ record in_n { number = 1; class = Some (codes "N\\C"); parent = Some (codes "P") }
 unfolding in_n
 class_and_parent = refl
 
 -- interface I extends J {
 interface_has_no_parent :
-    (within_form kind.Interface (Word token.Label (codes "interface") ∷ Word token.Label (codes "I") ∷ Word token.Label (codes "extends") ∷ Word token.Label (codes "J") ∷ Word token.Label (codes "{") ∷ Word token.Label (codes "}") ∷ []) in_n)
+    (within_form kind.Interface (Word token.Label (codes "interface") ∷ Word token.Label (codes "I")
+    ∷ Word token.Label (codes "extends") ∷ Word token.Label (codes "J") ∷ Word token.Label (codes "{")
+    ∷ Word token.Label (codes "}") ∷ []) in_n)
     ≡ record in_n { number = 1; class = Some (codes "N\\I") }
 unfolding in_n
 interface_has_no_parent = refl
 
 -- in class C: new class ( .. ) extends P { function f() { .. } }
 members_of_an_anonymous_class :
-    (within_form kind.Method [] (within_form kind.New (Word token.Label (codes "new") ∷ Word token.Label (codes "class") ∷ Word token.Label (codes "(") ∷ Child ∷ Word token.Label (codes ")") ∷ Word token.Label (codes "extends") ∷ Word token.Label (codes "P") ∷ Word token.Label (codes "{") ∷ Child ∷ Word token.Label (codes "}") ∷ []) (record (file_site (codes "a.php")) { class = Some (codes "C") }))).parent
+    (within_form kind.Method [] (within_form kind.New (Word token.Label (codes "new")
+    ∷ Word token.Label (codes "class") ∷ Word token.Label (codes "(") ∷ Child ∷ Word token.Label (codes ")")
+    ∷ Word token.Label (codes "extends") ∷ Word token.Label (codes "P") ∷ Word token.Label (codes "{") ∷ Child
+    ∷ Word token.Label (codes "}") ∷ []) (record (file_site (codes "a.php"))
+    { class = Some (codes "C") }))).parent
     ≡ Some (codes "P")
 members_of_an_anonymous_class = refl

@@ -18,7 +18,9 @@ pub edits_from-append : (at : ℕ) (ps qs : List Piece) → edits_from at (ps ++
 edits_from-append at [] qs = ap (λ x. edits_from x qs) (omega arith)
 edits_from-append at (p ∷ ps) qs =
     ap (λ x. edit_of at p ++ x) (edits_from-append (at + length (old_bytes p)) ps qs
-    ∙ ap (λ x. edits_from (at + length (old_bytes p)) ps ++ edits_from x qs) (let sum : length (old_bytes p ++ before ps) ≡ length (old_bytes p) + length (before ps) = length-append (old_bytes p) (before ps) in omega arith))
+    ∙ ap (λ x. edits_from (at + length (old_bytes p)) ps ++ edits_from x qs)
+    (let sum : length (old_bytes p ++ before ps) ≡ length (old_bytes p) + length (before ps) =
+    length-append (old_bytes p) (before ps) in omega arith))
     ∙ sym (append_assoc (edit_of at p) (edits_from (at + length (old_bytes p)) ps) (edits_from (at + length (before (p ∷ ps))) qs))
 
 -- ---- joining changes no byte

@@ -110,14 +110,18 @@ placed_same at (node k c f) h =
 placed_file_same : (f : File) → ArePlaced 0 (file_leaves f) → placed_file f ≡ f
 placed_file_same f h =
     let front : ArePlaced 0 (leaves f.statements) = placed-front 0 (leaves f.statements) (f.end ∷ []) h in
-    let back : ArePlaced (end_of 0 f.statements) (f.end ∷ []) = subst (λ x. ArePlaced x (f.end ∷ [])) (ends-leaves 0 f.statements) (placed-back 0 (leaves f.statements) (f.end ∷ []) h) in
+    let back : ArePlaced (end_of 0 f.statements) (f.end ∷ []) =
+    subst (λ x. ArePlaced x (f.end ∷ [])) (ends-leaves 0 f.statements)
+    (placed-back 0 (leaves f.statements) (f.end ∷ []) h) in
     rw (placed_same 0 f.statements front, in_place (end_of 0 f.statements) f.end back.0) refl
 
 -- ---- the law
 
 pub unchanged_is_the_file : UnchangedIsTheFile
 unchanged_is_the_file f =
-    let all_kept : OnlyKept (file_pieces (unchanged_file f)) = kept_append (pieces (unchanged f.statements)) (token_pieces (unchanged_token f.end)) (unchanged_kept f.statements) tt in
+    let all_kept : OnlyKept (file_pieces (unchanged_file f)) =
+    kept_append (pieces (unchanged f.statements)) (token_pieces (unchanged_token f.end))
+    (unchanged_kept f.statements) tt in
     record {
       no_edits = ap (edits_from 0) (joined_kept (file_pieces (unchanged_file f)) all_kept) ∙ no_edits 0 (file_pieces (unchanged_file f)) all_kept;
       bytes = before-append (pieces (unchanged f.statements)) (token_pieces (unchanged_token f.end)) ∙ rw (before-unchanged f.statements, before_token f.end) refl;

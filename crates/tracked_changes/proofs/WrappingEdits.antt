@@ -1,5 +1,30 @@
 -- The edits of parentheses as drafts are those of the table.
-use Rattle.std.proofs.Common.{◌≡◌, ℕ, suc, ◌+◌, ◌≤◌, Bool, true, false, cond, List, [], ◌∷◌, ◌++◌, length, refl, ap, sym, ◌∙◌, subst, arith, append_assoc, append-nil, length-append, le_refl}
+use Rattle.std.proofs.Common.{
+  ◌≡◌,
+  ℕ,
+  suc,
+  ◌+◌,
+  ◌≤◌,
+  Bool,
+  true,
+  false,
+  cond,
+  List,
+  [],
+  ◌∷◌,
+  ◌++◌,
+  length,
+  refl,
+  ap,
+  sym,
+  ◌∙◌,
+  subst,
+  arith,
+  append_assoc,
+  append-nil,
+  length-append,
+  le_refl,
+}
 use Rattle.std.proofs.Math.Bridge.{le_prop}
 use Rattle.std.proofs.Math.Nat.{le-add_right}
 use Rattle.span_edits.specs.declared.edit.Edit.{Edit}
@@ -24,7 +49,17 @@ use Rattle.tracked_changes.specs.Parens.{in_wrappings, wrapping, WrappingHasEdit
 use Rattle.tracked_changes.proofs.Joining.{before-append, edits_from-append}
 use Rattle.tracked_changes.proofs.Unchanged.{OnlyKept, no_edits, before_token, ends-leaves}
 use Rattle.tracked_changes.proofs.Walking.{before-drafted}
-use Rattle.tracked_changes.proofs.Wrapping.{no_pieces, pieces-without_lead, none_is_none, lead_is_lead, leaves-unplaced, same_none, same_lead, rewritten_is_rewritten, wrappings_keep_bytes}
+use Rattle.tracked_changes.proofs.Wrapping.{
+  no_pieces,
+  pieces-without_lead,
+  none_is_none,
+  lead_is_lead,
+  leaves-unplaced,
+  same_none,
+  same_lead,
+  rewritten_is_rewritten,
+  wrappings_keep_bytes,
+}
 
 -- ---- an insertion
 
@@ -215,7 +250,8 @@ module _ (p : Patches) where
       ∙ ap (λ es. table.openings from ws ++ es ++ table.closings (end_of at c) ws ++ edits_from (end_of at c) (pieces rest)) inner
       ∙ ap (λ es. table.openings from ws ++ table.edits_of p (suc id) c after_it ++ table.closings (end_of at c) ws ++ es) outer
       ∙ ap (λ x. table.openings x ws ++ table.edits_of p (suc id) c after_it ++ table.closings (end_of at c) ws ++ table.edits_of p (suc (id + count c)) f next) (sym first)
-      ∙ ap (λ x. table.openings (place_of (leaves c) after_it).0 ws ++ table.edits_of p (suc id) c after_it ++ table.closings x ws ++ table.edits_of p (suc (id + count c)) f next) (sym last)
+      ∙ ap (λ x. table.openings (place_of (leaves c) after_it).0 ws ++ table.edits_of p (suc id) c after_it
+      ++ table.closings x ws ++ table.edits_of p (suc (id + count c)) f next) (sym last)
 
   -- a node without tokens
   module _ (id at : ℕ) (k : NodeKind) (c f : Forest) (next : Token) (e : patched.has_none (leaves c) ≡ true) (h : HaveTokens p id (node k c f)) where
@@ -254,7 +290,9 @@ module _ (p : Patches) where
         let rest : Draft = draft (suc (id + count c)) f in
         ap (λ ts. edits_from (at + length (patched.first_lead ts)) (pieces (without_lead (draft id (node k c f))))) (none_append (leaves c) (leaves f) e)
         ∙ ap (λ d. edits_from (at + length (patched.first_lead (leaves f))) (pieces (without_lead d))) same_draft
-        ∙ ap (λ b. edits_from (at + length (patched.first_lead (leaves f))) (pieces (cond b (new_node k (draft (suc id) c) (without_lead rest)) (new_node k (without_lead (draft (suc id) c)) rest)))) (holds (suc id) c h.1 ∙ e)
+        ∙ ap (λ b. edits_from (at + length (patched.first_lead (leaves f)))
+        (pieces (cond b (new_node k (draft (suc id) c) (without_lead rest))
+        (new_node k (without_lead (draft (suc id) c)) rest)))) (holds (suc id) c h.1 ∙ e)
         ∙ ap (λ ps. edits_from (at + length (patched.first_lead (leaves f))) (ps ++ pieces (without_lead rest))) empty_inside
         ∙ ap (λ x. edits_from (x + length (patched.first_lead (leaves f))) (pieces (without_lead rest))) (sym no_place)
         ∙ outer ∙ listed inner

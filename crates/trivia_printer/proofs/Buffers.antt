@@ -39,25 +39,34 @@ written_nothing buffer at le =
     ap (λ (xs : List ℕ). xs ++ drop (at + 0) buffer) (append_nil (take at buffer)) ∙ ap (λ (n : ℕ). take at buffer ++ drop n buffer) here ∙ take-append-drop at buffer
 
 -- one run, and then another behind it
-pub written_twice : (buffer : List ℕ) (at : ℕ) (xs ys : List ℕ) → at + length xs + length ys ≤ length buffer → written (written buffer at xs) (at + length xs) ys ≡ written buffer at (xs ++ ys)
+pub written_twice : (buffer : List ℕ) (at : ℕ) (xs ys : List ℕ) → at + length xs + length ys ≤ length buffer
+    → written (written buffer at xs) (at + length xs) ys ≡ written buffer at (xs ++ ys)
 written_twice buffer at xs ys le =
     let p = take at buffer ++ xs in
     let d = drop (at + length xs) buffer in
     let long : at + length xs ≡ length p = omega (arith, length-append (take at buffer) xs, length_take buffer at (omega arith)) in
     let front : take (at + length xs) (p ++ d) ≡ p = take_front p d (at + length xs) long in
     let back : drop (at + length xs + length ys) (p ++ d) ≡ drop (length ys) d = drop_front p d (at + length xs + length ys) (length ys) (omega arith) in
-    let rest : drop (length ys) d ≡ drop (at + length (xs ++ ys)) buffer = drop-drop (length ys) (at + length xs) buffer ∙ ap (λ (n : ℕ). drop n buffer) (omega (arith, length-append xs ys)) in
+    let rest : drop (length ys) d ≡ drop (at + length (xs ++ ys)) buffer =
+    drop-drop (length ys) (at + length xs) buffer ∙ ap (λ (n : ℕ). drop n buffer)
+    (omega (arith, length-append xs ys)) in
     ap (λ (zs : List ℕ). zs ++ ys ++ drop (at + length xs + length ys) (p ++ d)) front
     ∙ ap (λ (zs : List ℕ). p ++ ys ++ zs) (back ∙ rest)
     ∙ ap (λ (zs : List ℕ). zs ++ drop (at + length (xs ++ ys)) buffer) (append_assoc (take at buffer) xs ys)
 
 -- a run behind another, by what is known of each
-pub written_pair : (buffer mid out : List ℕ) (at m : ℕ) (xs ys : List ℕ) → mid ≡ written buffer at xs → m ≡ at + length xs → out ≡ written mid m ys → at + length xs + length ys ≤ length buffer → out ≡ written buffer at (xs ++ ys)
+pub written_pair : (buffer mid out : List ℕ) (at m : ℕ) (xs ys : List ℕ) → mid ≡ written buffer at xs
+    → m ≡ at + length xs → out ≡ written mid m ys → at + length xs + length ys ≤ length buffer
+    → out ≡ written buffer at (xs ++ ys)
 written_pair buffer mid out at m xs ys p q r le =
     r ∙ ap (λ (b : List ℕ). written b m ys) p ∙ ap (λ (n : ℕ). written (written buffer at xs) n ys) q ∙ written_twice buffer at xs ys le
 
 -- a run of what is still to come, which then is less
-pub written_step : (first buffer out : List ℕ) (from at place : ℕ) (xs ys all whole : List ℕ) → out ≡ written buffer at xs → place ≡ at + length xs → all ≡ xs ++ ys → at + length all ≡ from + length whole → from + length whole ≤ length first → length buffer ≡ length first → written buffer at all ≡ written first from whole → (place + length ys ≡ from + length whole) × (written out place ys ≡ written first from whole) × (length out ≡ length first)
+pub written_step : (first buffer out : List ℕ) (from at place : ℕ) (xs ys all whole : List ℕ)
+    → out ≡ written buffer at xs → place ≡ at + length xs → all ≡ xs ++ ys → at + length all ≡ from + length whole
+    → from + length whole ≤ length first → length buffer ≡ length first
+    → written buffer at all ≡ written first from whole → (place + length ys ≡ from + length whole)
+    × (written out place ys ≡ written first from whole) × (length out ≡ length first)
 written_step first buffer out from at place xs ys all whole p q r sum room same bytes =
     let long : length all ≡ length xs + length ys = ap length r ∙ length-append xs ys in
     let le : at + length xs + length ys ≤ length buffer = omega arith in

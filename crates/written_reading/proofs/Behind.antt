@@ -40,14 +40,17 @@ some_kind k = Some k
 same_kind : (k j : Kind) → some_kind k ≡ some_kind j → k ≡ j
 same_kind k j e = cc
 
-rows_have : (p : Kind → List ℕ → Bool) (label : List ℕ) (rows : List Row) → every p rows ≡ true → (k : Kind) (text rest : List ℕ) → kind_by label rows text rest ≡ Some k → Has p k label text rest
+rows_have : (p : Kind → List ℕ → Bool) (label : List ℕ) (rows : List Row) → every p rows ≡ true
+    → (k : Kind) (text rest : List ℕ) → kind_by label rows text rest ≡ Some k → Has p k label text rest
 unfolding every
 rows_have p label [] h k text rest e = absurd cc
 rows_have p label (rule j w tail ∷ rows) h k text rest e =
     let f = and_parts (p j w) (every p rows) h in
     by (led lower w (is_tail label tail) text rest) refl f.0 (rows_have p label rows f.1 k text rest) e
   where
-    by : (t : Bool) → led lower w (is_tail label tail) text rest ≡ t → p j w ≡ true → (kind_by label rows text rest ≡ Some k → Has p k label text rest) → cond t (Some j) (kind_by label rows text rest) ≡ Some k → Has p k label text rest
+    by : (t : Bool) → led lower w (is_tail label tail) text rest ≡ t → p j w ≡ true
+        → (kind_by label rows text rest ≡ Some k → Has p k label text rest)
+        → cond t (Some j) (kind_by label rows text rest) ≡ Some k → Has p k label text rest
     by true h f others q = subst (λ (x : Kind). Has p x label text rest) (same_kind j k q) (record { word = w; tail = tail; holds = f; begins = h })
     by false h f others q = others q
 
@@ -235,7 +238,8 @@ lexed_none (token {version = v} {stack = stack} {bytes = bytes} {ts = ts} k n t 
           ∙ code_namespace v k (take n bytes) (drop n bytes) (subst (λ (m : Mode). kind_of v m (take n bytes) (drop n bytes) ≡ Some k) c h.is)),
       (
         none_by (opens_name t (take n bytes)) (first_namespace ts)
-            (λ o. ih.0 (to_code v stack stack.top k (take n bytes) (drop n bytes) h.is (opens_is k (take n bytes) (ap (λ (x : Option TokenKind). opt_opens x (take n bytes)) e ∙ o)))),
+            (λ o. ih.0 (to_code v stack stack.top k (take n bytes) (drop n bytes) h.is
+            (opens_is k (take n bytes) (ap (λ (x : Option TokenKind). opt_opens x (take n bytes)) e ∙ o)))),
         ih.1,
       ),
     )

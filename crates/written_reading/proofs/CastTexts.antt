@@ -1,5 +1,34 @@
 -- The texts of casts: one that 8.3 lacks is `(real)` or `(unset)`, with blanks and in any case.
-use Rattle.std.proofs.Common.{◌≡◌, ℕ, suc, ◌+◌, Bool, true, false, cond, not, ◌&&◌, ◌||◌, nat_eq, nat_le, nat_lt, List, [], ◌∷◌, ◌++◌, length, drop, slice_index, codes, refl, sym, ap, ◌∙◌, subst, arith}
+use Rattle.std.proofs.Common.{
+  ◌≡◌,
+  ℕ,
+  suc,
+  ◌+◌,
+  Bool,
+  true,
+  false,
+  cond,
+  not,
+  ◌&&◌,
+  ◌||◌,
+  nat_eq,
+  nat_le,
+  nat_lt,
+  List,
+  [],
+  ◌∷◌,
+  ◌++◌,
+  length,
+  drop,
+  slice_index,
+  codes,
+  refl,
+  sym,
+  ap,
+  ◌∙◌,
+  subst,
+  arith,
+}
 use Rattle.std.specs.List.{prefix_len}
 use Rattle.std.specs.Str.{bytes_eq}
 use Rattle.std.specs.Char.{to_ascii_lowercase}
@@ -56,7 +85,8 @@ lower_to a b h = lower_is b ∙ sym (eqb-true a (lower b) h)
 
 -- ---- behind the word
 
-plain_step : (b : ℕ) (bs rest : List ℕ) → is_letter b ≡ true → is_blank_byte b ≡ false → nat_eq b 41 ≡ false → is_until CastWord Plain (b ∷ bs) rest ≡ is_until CastWord Plain bs rest
+plain_step : (b : ℕ) (bs rest : List ℕ) → is_letter b ≡ true → is_blank_byte b ≡ false → nat_eq b 41 ≡ false
+    → is_until CastWord Plain (b ∷ bs) rest ≡ is_until CastWord Plain bs rest
 plain_step b bs rest l k f = rw (l, k, f) refl
 
 end_by : (b : ℕ) (bs rest : List ℕ) (l k f : Bool) → is_letter b ≡ l → is_blank_byte b ≡ k → nat_eq b 41 ≡ f → not (is_label_byte b) ≡ true
@@ -68,7 +98,9 @@ end_by b bs rest false false true p q r n h =
     bare_kept b bs q ∙ ap (λ (x : ℕ). to_ascii_lowercase x ∷ bare bs) (eqb-true b 41 r) ∙ ap (λ (x : List ℕ). 41 ∷ bare x) (nothing bs h)
 end_by b bs rest false false false p q r n h = absurd cc
 
-word_bare : (w : List ℕ) → all_small w ≡ true → (text rest : List ℕ) → starts_word w (text ++ rest) ≡ true → no_label (drop (length w) (text ++ rest)) ≡ true → is_until CastWord Plain text rest ≡ true → bare text ≡ w ++ 41 ∷ []
+word_bare : (w : List ℕ) → all_small w ≡ true → (text rest : List ℕ) → starts_word w (text ++ rest) ≡ true
+    → no_label (drop (length w) (text ++ rest)) ≡ true → is_until CastWord Plain text rest ≡ true → bare text ≡ w
+    ++ 41 ∷ []
 word_bare [] s [] rest p n h = absurd cc
 word_bare [] s (b ∷ bs) rest p n h = end_by b bs rest (is_letter b) (is_blank_byte b) (nat_eq b 41) refl refl refl n h
 word_bare (a ∷ w) s [] rest p n h = absurd cc
@@ -114,7 +146,9 @@ old_at b bs h =
     ap (λ (n : ℕ). cast_at n (b ∷ bs)) (no_more b bs h)
     ∙ ap (λ (t : Bool). cond t (cast_letter (to_ascii_lowercase b)) Cast) (less_zero (length bs) (nat_lt 0 (suc (length bs))) refl)
 
-rest_by : (text w : List ℕ) (x y z : Bool) → not (is_old (cast_at (opening text) text)) ≡ x → bytes_eq w (codes "real") ≡ y → bytes_eq w (codes "unset") ≡ z → bare text ≡ w ++ 41 ∷ [] → (x || (y || z)) ≡ true → Rest text
+rest_by : (text w : List ℕ) (x y z : Bool) → not (is_old (cast_at (opening text) text)) ≡ x
+    → bytes_eq w (codes "real") ≡ y → bytes_eq w (codes "unset") ≡ z → bare text ≡ w ++ 41 ∷ []
+    → (x || (y || z)) ≡ true → Rest text
 rest_by text w true y z p q r e h = rw p refl
 rest_by text w false true z p q r e h =
     let real : bare text ≡ codes "real)" = e ∙ ap (λ (x : List ℕ). x ++ 41 ∷ []) ((bytes_eq-Decides w (codes "real")).0 q) in rw (p, real) refl
@@ -122,7 +156,8 @@ rest_by text w false false true p q r e h =
     let unset : bare text ≡ codes "unset)" = e ∙ ap (λ (x : List ℕ). x ++ 41 ∷ []) ((bytes_eq-Decides w (codes "unset")).0 r) in rw (p, unset) refl
 rest_by text w false false false p q r e h = absurd cc
 
-word_rest : (a : ℕ) (w : List ℕ) (b : ℕ) (bs rest : List ℕ) → is_fine (a ∷ w) ≡ true → word_alone (a ∷ w) (b ∷ bs ++ rest) ≡ true → is_until CastWord Plain bs rest ≡ true → Rest (b ∷ bs)
+word_rest : (a : ℕ) (w : List ℕ) (b : ℕ) (bs rest : List ℕ) → is_fine (a ∷ w) ≡ true
+    → word_alone (a ∷ w) (b ∷ bs ++ rest) ≡ true → is_until CastWord Plain bs rest ≡ true → Rest (b ∷ bs)
 word_rest a w b bs rest f p h =
     let f2 = and_parts (all_small (a ∷ w)) (not (is_old (cast_letter a)) || (bytes_eq (a ∷ w) (codes "real") || bytes_eq (a ∷ w) (codes "unset"))) f in
     let s2 = and_parts (is_small a) (all_small w) f2.0 in
@@ -141,7 +176,10 @@ words_rest ((a ∷ w) ∷ ws) b bs rest f p h =
     let f2 = and_parts (is_fine (a ∷ w)) (all_fine ws) f in
     go (word_alone (a ∷ w) (b ∷ bs ++ rest)) refl (λ e. word_rest a w b bs rest f2.0 e h) (λ e. words_rest ws b bs rest f2.1 e h) p
   where
-    go : (t : Bool) → word_alone (a ∷ w) (b ∷ bs ++ rest) ≡ t → (word_alone (a ∷ w) (b ∷ bs ++ rest) ≡ true → Rest (b ∷ bs)) → (begins_word ws (b ∷ bs ++ rest) ≡ true → Rest (b ∷ bs)) → (t || begins_word ws (b ∷ bs ++ rest)) ≡ true → Rest (b ∷ bs)
+    go : (t : Bool) → word_alone (a ∷ w) (b ∷ bs ++ rest) ≡ t
+        → (word_alone (a ∷ w) (b ∷ bs ++ rest) ≡ true → Rest (b ∷ bs))
+        → (begins_word ws (b ∷ bs ++ rest) ≡ true → Rest (b ∷ bs)) → (t || begins_word ws (b ∷ bs ++ rest)) ≡ true
+        → Rest (b ∷ bs)
     go true e one others q = one e
     go false e one others q = others q
 
@@ -157,7 +195,9 @@ opens b h = by (nat_eq b 40) (nat_eq b 32) (nat_eq b 9) h
 behind_blank : (b : ℕ) (bs : List ℕ) → is_opening b ≡ true → cast_at (opening (b ∷ bs)) (b ∷ bs) ≡ cast_at (opening bs) bs
 behind_blank b bs h =
     ap (λ (n : ℕ). cast_at n (b ∷ bs)) (one_more b bs h)
-    ∙ ap (λ (t : Bool). cond t (cast_letter (to_ascii_lowercase (slice_index bs (opening bs)))) Cast) (less_suc (opening bs) (length bs) (nat_lt (suc (opening bs)) (suc (length bs))) (nat_lt (opening bs) (length bs)) refl refl)
+    ∙ ap (λ (t : Bool). cond t (cast_letter (to_ascii_lowercase (slice_index bs (opening bs)))) Cast)
+    (less_suc (opening bs) (length bs) (nat_lt (suc (opening bs)) (suc (length bs)))
+    (nat_lt (opening bs) (length bs)) refl refl)
 
 first_by : (b : ℕ) (bs rest : List ℕ) (k t : Bool) → is_blank_byte b ≡ k → begins_type (b ∷ bs ++ rest) ≡ t → (is_until CastWord First bs rest ≡ true → Rest bs)
     → (not (not (k || t)) && cond false (is_empty bs) (is_until CastWord (cond k First Plain) bs rest)) ≡ true → Rest (b ∷ bs)
@@ -173,9 +213,14 @@ cast_open : (bs : List ℕ) → cast (40 ∷ bs) ≡ cast_at (opening bs) bs
 cast_open bs = behind_blank 40 bs refl
 
 -- A cast that 8.3 lacks is `(real)` or `(unset)`.
-pub cast_text : (text rest : List ℕ) → led lower (40 ∷ []) (is_until CastWord First) text rest ≡ true → (not (is_old (cast text)) || (bytes_eq (bare text) (codes "(real)") || bytes_eq (bare text) (codes "(unset)"))) ≡ true
+pub cast_text : (text rest : List ℕ) → led lower (40 ∷ []) (is_until CastWord First) text rest ≡ true
+    → (not (is_old (cast text)) || (bytes_eq (bare text) (codes "(real)") || bytes_eq (bare text) (codes "(unset)")))
+    ≡ true
 cast_text [] rest h = absurd cc
 cast_text (b ∷ bs) rest h =
     let p = and_parts (nat_eq 40 (lower b)) (is_until CastWord First bs rest) h in
-    subst (λ (x : ℕ). (not (is_old (cast (x ∷ bs))) || (bytes_eq (bare (x ∷ bs)) (codes "(real)") || bytes_eq (bare (x ∷ bs)) (codes "(unset)"))) ≡ true) (sym (caseless 40 b refl p.0))
-    (subst (λ x. (not (is_old x) || (bytes_eq (bare (40 ∷ bs)) (codes "(real)") || bytes_eq (bare (40 ∷ bs)) (codes "(unset)"))) ≡ true) (sym (cast_open bs)) (first_rest bs rest p.1))
+    subst (λ (x : ℕ). (not (is_old (cast (x ∷ bs)))
+    || (bytes_eq (bare (x ∷ bs)) (codes "(real)") || bytes_eq (bare (x ∷ bs)) (codes "(unset)"))) ≡ true)
+    (sym (caseless 40 b refl p.0))
+    (subst (λ x. (not (is_old x) || (bytes_eq (bare (40 ∷ bs)) (codes "(real)")
+    || bytes_eq (bare (40 ∷ bs)) (codes "(unset)"))) ≡ true) (sym (cast_open bs)) (first_rest bs rest p.1))

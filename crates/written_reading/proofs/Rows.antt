@@ -151,7 +151,9 @@ kind_tells label (rule j w tail ∷ rows) fit k text rest e =
     let f = and_parts (fits j w tail) (all_fit rows) fit in
     by (led lower w (is_tail label tail) text rest) refl f.0 (kind_tells label rows f.1 k text rest) e
   where
-    by : (t : Bool) → led lower w (is_tail label tail) text rest ≡ t → fits j w tail ≡ true → (kind_by label rows text rest ≡ Some k → Tells k label text rest) → cond t (Some j) (kind_by label rows text rest) ≡ Some k → Tells k label text rest
+    by : (t : Bool) → led lower w (is_tail label tail) text rest ≡ t → fits j w tail ≡ true
+        → (kind_by label rows text rest ≡ Some k → Tells k label text rest)
+        → cond t (Some j) (kind_by label rows text rest) ≡ Some k → Tells k label text rest
     by true h f others q = subst (λ (x : Kind). Tells x label text rest) (same_kind j k q) (row_tells w tail label text rest h j f)
     by false h f others q = others q
 

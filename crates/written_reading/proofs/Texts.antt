@@ -117,7 +117,10 @@ pub bare_kept : (b : ℕ) (bs : List ℕ) → is_blank_byte b ≡ false → bare
 bare_kept b bs h = rw h refl
 
 -- behind the word stand blanks and `)`
-escaped_by : (b : ℕ) (bs rest : List ℕ) (t u : Bool) → is_blank_byte b ≡ t → nat_eq b 41 ≡ u → (is_until CastWord Escaped bs rest ≡ true → bare bs ≡ 41 ∷ []) → (not (not (t || u)) && cond u (is_empty bs) (is_until CastWord Escaped bs rest)) ≡ true → bare (b ∷ bs) ≡ 41 ∷ []
+escaped_by : (b : ℕ) (bs rest : List ℕ) (t u : Bool) → is_blank_byte b ≡ t → nat_eq b 41 ≡ u
+    → (is_until CastWord Escaped bs rest ≡ true → bare bs ≡ 41 ∷ [])
+    → (not (not (t || u)) && cond u (is_empty bs) (is_until CastWord Escaped bs rest)) ≡ true → bare (b ∷ bs) ≡ 41
+    ∷ []
 escaped_by b bs rest true true e f ih h = absurd (let g : is_blank_byte 41 ≡ true = subst (λ (x : ℕ). is_blank_byte x ≡ true) (eqb-true b 41 f) e in cc)
 escaped_by b bs rest true false e f ih h = bare_blank b bs e ∙ ih h
 escaped_by b bs rest false true e f ih h =

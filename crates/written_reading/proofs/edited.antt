@@ -23,3 +23,4 @@ pub mod Trees
 pub mod WholeFiles
 pub mod KeywordTexts
 pub mod Composed
+pub mod Plainly

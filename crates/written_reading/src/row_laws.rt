@@ -1,7 +1,7 @@
 // The row of tokens and trivia that the bytes of a rewritten file have, and what 8.3 reads from them.
 
 ghost use Rattle.written_reading.specs.edited.Rows.{DraftsHaveRows};
-ghost use Rattle.written_reading.specs.edited.Laws.{FilesHaveRows, WrittenFilesAreLexed, WrittenFilesAreRead};
+ghost use Rattle.written_reading.specs.edited.Laws.{FilesHaveRows, FilesWithNeitherArePlain, WrittenFilesAreLexed, WrittenFilesAreRead};
 
 /// A file that 7.4 reads has in 7.4 a row of tokens and trivia whose tokens are those of its draft by
 /// all rules on syntax but that on names.
@@ -60,3 +60,8 @@ pub fn written_files_are_read()
     written_files_are_lexed();
     crate::rewritten_is_read();
 }
+
+/// A file without quoted texts and uses of traits is plain, so the premises of the laws above can be met.
+pub fn files_with_neither_are_plain()
+    ensures { FilesWithNeitherArePlain }
+{}

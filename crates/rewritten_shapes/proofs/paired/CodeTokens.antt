@@ -51,7 +51,8 @@ byte_text b (a ∷ []) e = ap (λ (c : ℕ). c ∷ []) (eqb-true a b e)
 byte_text b (a ∷ c ∷ bs) e = absurd cc
 
 -- such a token isn't this byte, which has an outer class
-no_byte : (b : ℕ) (sort : TokenKind) (text : List ℕ) → is_inner (code (operator (b ∷ []))) ≡ false → is_inner (code (terminal_by sort text)) ≡ true → (is_op sort && is_byte b text) ≡ false
+no_byte : (b : ℕ) (sort : TokenKind) (text : List ℕ) → is_inner (code (operator (b ∷ []))) ≡ false
+    → is_inner (code (terminal_by sort text)) ≡ true → (is_op sort && is_byte b text) ≡ false
 no_byte b kind.Op text d e =
     by_test (is_byte b text) (λ h. no_clash (ap (λ (z : List ℕ). is_inner (code (operator z))) (byte_text b text h) ∙ d) e)
 no_byte b _ text d e = refl
@@ -70,7 +71,9 @@ inner_code x e =
     (none_of (is_mark 40 x) (is_mark 41 x) (is_mark 123 x) (is_mark 125 x)
     (no_byte 40 x.kind x.text refl e) (no_byte 41 x.kind x.text refl e) (no_byte 123 x.kind x.text refl e) (no_byte 125 x.kind x.text refl e))
 
-word_code : (sort : TokenKind) (text : List ℕ) → is_word_kind sort ≡ true → (is_code_kind sort && not (is_op sort && is_byte 40 text || (is_op sort && is_byte 41 text || (is_op sort && is_byte 123 text || is_op sort && is_byte 125 text)))) ≡ true
+word_code : (sort : TokenKind) (text : List ℕ) → is_word_kind sort ≡ true
+    → (is_code_kind sort && not (is_op sort && is_byte 40 text
+    || (is_op sort && is_byte 41 text || (is_op sort && is_byte 123 text || is_op sort && is_byte 125 text)))) ≡ true
 word_code kind.Label text e = refl
 word_code kind.Keyword text e = refl
 word_code _ text e = absurd cc

@@ -19,7 +19,26 @@ use Rattle.std.specs.Prelude.{nat_le}
 use Rattle.php_shapes.specs.Forms.{form}
 use Rattle.php_shapes.specs.Notation.{Rule, nothing, word, place, inside, ◌~◌, ◌|||◌, many, tokens}
 use Rattle.php_shapes.specs.Notation as rule
-use Rattle.php_shapes.specs.Places.{Place, Statement, Member, Operand, Left, LeftShort, OffsetBase, MemberBase, ClassBase, Callee, Target, TargetOrList, ClassName, begins_with_class_name, is_class_name, is_expression, is_prefix, may_stand}
+use Rattle.php_shapes.specs.Places.{
+  Place,
+  Statement,
+  Member,
+  Operand,
+  Left,
+  LeftShort,
+  OffsetBase,
+  MemberBase,
+  ClassBase,
+  Callee,
+  Target,
+  TargetOrList,
+  ClassName,
+  begins_with_class_name,
+  is_class_name,
+  is_expression,
+  is_prefix,
+  may_stand,
+}
 use Rattle.php_shapes.specs.Shapes.{Fits, is_nothing, is_word, is_kind, is_place, is_inside, is_both, is_first, is_second, no_more, once_more, is_tokens, IsNode, is_node}
 use Rattle.rewritten_shapes.specs.paired.Tokens.{begins_inside, ends_inside, is_edge}
 use Rattle.rewritten_shapes.proofs.paired.Asked.{asks, both_left, both_right, is_one_of, taken}
@@ -354,13 +373,17 @@ by_or P true b c f g e = f refl
 by_or P false true c f g e = g refl e
 by_or P false false c f g e = absurd cc
 
-begins_join : (e : Bool) (f g h : Forest) (a b c : Bool) → f ≡ g +++ h → (a ≡ true → begins_by false (leaves g) ≡ true) → (b ≡ true → begins_by true (leaves g) ≡ true) → (c ≡ true → begins_by e (leaves h) ≡ true) → (a || (b && c)) ≡ true → begins_by e (leaves f) ≡ true
+begins_join : (e : Bool) (f g h : Forest) (a b c : Bool) → f ≡ g +++ h
+    → (a ≡ true → begins_by false (leaves g) ≡ true) → (b ≡ true → begins_by true (leaves g) ≡ true)
+    → (c ≡ true → begins_by e (leaves h) ≡ true) → (a || (b && c)) ≡ true → begins_by e (leaves f) ≡ true
 begins_join e f g h a b c d p q r i =
     ap (λ (x : Forest). begins_by e (leaves x)) d ∙ ap (begins_by e) (leaves_join g h)
     ∙ by_or (begins_by e (leaves g ++ leaves h) ≡ true) a b c (λ z. begins_front e (leaves g) (leaves h) (p z))
     (λ y z. begins_both e (leaves g) (leaves h) (q y) (r z)) i
 
-ends_join : (e : Bool) (f g h : Forest) (a b c : Bool) → f ≡ g +++ h → (a ≡ true → ends_by false (leaves h) ≡ true) → (b ≡ true → ends_by true (leaves h) ≡ true) → (c ≡ true → ends_by e (leaves g) ≡ true) → (a || (b && c)) ≡ true → ends_by e (leaves f) ≡ true
+ends_join : (e : Bool) (f g h : Forest) (a b c : Bool) → f ≡ g +++ h → (a ≡ true → ends_by false (leaves h) ≡ true)
+    → (b ≡ true → ends_by true (leaves h) ≡ true) → (c ≡ true → ends_by e (leaves g) ≡ true) → (a || (b && c)) ≡ true
+    → ends_by e (leaves f) ≡ true
 ends_join e f g h a b c d p q r i =
     ap (λ (x : Forest). ends_by e (leaves x)) d ∙ ap (ends_by e) (leaves_join g h)
     ∙ by_or (ends_by e (leaves g ++ leaves h) ≡ true) a b c (λ z. ends_back e e (leaves g) (leaves h) (p z))

@@ -94,7 +94,9 @@ one_alone w text e = go (is_word w text) e
     go false e = e
 
 -- one that is a byte alone
-mark_by : (c : Terminal) (b : ℕ) (x : Token) → is_sign c ≡ true → same_class c t.OtherOp ≡ false → words_of c operators ≡ (b ∷ []) ∷ [] → ((text : List ℕ) → is_word (b ∷ []) text ≡ true → text ≡ b ∷ []) → same_class c (terminal x) ≡ true → IsMark b x
+mark_by : (c : Terminal) (b : ℕ) (x : Token) → is_sign c ≡ true → same_class c t.OtherOp ≡ false
+    → words_of c operators ≡ (b ∷ []) ∷ [] → ((text : List ℕ) → is_word (b ∷ []) text ≡ true → text ≡ b ∷ [])
+    → same_class c (terminal x) ≡ true → IsMark b x
 mark_by c b x h n w l e =
     let k : x.kind ≡ kind.Op = sign_kind c x h e in
     let o : same_class c (operator x.text) ≡ true = ap (λ (sort : TokenKind). same_class c (terminal_by sort x.text)) (sym k) ∙ e in

@@ -17,7 +17,23 @@ use Rattle.rewritten_shapes.specs.paired.Names.{State, calm, edge, run, step}
 use Rattle.rewritten_shapes.specs.paired.Traits.{PlainTraits, has_plain_rules, is_trait_use}
 use Rattle.rewritten_shapes.proofs.paired.Pairing.{past_names, plain_front, plain_rest}
 use Rattle.rewritten_shapes.proofs.paired.NameTokens.{part_of, word_holds, word_states}
-use Rattle.rewritten_shapes.proofs.paired.States.{States, at, at_calm, at_edge, at_is, at_key, first_holds, holds, image, image_holds, is_within, join, second_holds, wider_holds, wrong}
+use Rattle.rewritten_shapes.proofs.paired.States.{
+  States,
+  at,
+  at_calm,
+  at_edge,
+  at_is,
+  at_key,
+  first_holds,
+  holds,
+  image,
+  image_holds,
+  is_within,
+  join,
+  second_holds,
+  wider_holds,
+  wrong,
+}
 use Rattle.rewritten_shapes.proofs.paired.TraitNames.{FineLabels, fine_front, rules_run}
 
 -- ---- rules
@@ -175,7 +191,9 @@ NodeRuns j c = (s : State) → holds (entry j) s ≡ true → holds (exits j) (e
 abbrev Runs : Rule → Forest → Type 0
 Runs r f = (a : States) (s : State) → holds a s ≡ true → holds (trans r a) (run s f) ≡ true
 
-node_state : (j : NodeKind) (c : Forest) (d b : States) → is_within d (entry j) ≡ true → is_within (exits j) b ≡ true → NodeRuns j c → (a : States) (s : State) → holds a s ≡ true → holds (if is_within (image edge a) d then b else wrong) (edge (run (edge s) c)) ≡ true
+node_state : (j : NodeKind) (c : Forest) (d b : States) → is_within d (entry j) ≡ true → is_within (exits j) b ≡ true
+    → NodeRuns j c → (a : States) (s : State) → holds a s ≡ true
+    → holds (if is_within (image edge a) d then b else wrong) (edge (run (edge s) c)) ≡ true
 node_state j c d b v w n a s h = go (is_within (image edge a) d) refl
   where
     go : (z : Bool) → is_within (image edge a) d ≡ z → holds (if z then b else wrong) (edge (run (edge s) c)) ≡ true
@@ -220,17 +238,26 @@ repeats_more r g h p q a s o = go (is_within (trans r a) a) refl
     more : (d : Bool) → is_within (trans r (join a (trans r a))) (join a (trans r a)) ≡ d → holds (if d then join a (trans r a) else wrong) (run (run s g) h) ≡ true
     more true e =
         let first = wider_holds (trans r (join a (trans r a))) (join a (trans r a)) (run s g) e (p (join a (trans r a)) s (first_holds a (trans r a) s o)) in
-        sym (ap (λ (b : States). holds b (run (run s g) h)) (at_is (repeated (trans r)) (join a (trans r a)) ∙ ap (λ (d : Bool). if d then join a (trans r a) else at (λ b. if is_within (trans r b) b then b else wrong) (join (join a (trans r a)) (trans r (join a (trans r a))))) e))
+        sym (ap (λ (b : States). holds b (run (run s g) h))
+        (at_is (repeated (trans r)) (join a (trans r a))
+        ∙ ap (λ (d : Bool). if d then join a (trans r a) else at
+        (λ b. if is_within (trans r b) b then b else wrong)
+        (join (join a (trans r a)) (trans r (join a (trans r a))))) e))
         ∙ q (join a (trans r a)) (run s g) first
     more false e = refl
 
     go : (d : Bool) → is_within (trans r a) a ≡ d → holds (trans (many r) a) (run (run s g) h) ≡ true
     go true e = q a (run s g) (wider_holds (trans r a) a (run s g) e (p a s o))
     go false e =
-        ap (λ (b : States). holds b (run (run s g) h)) (at_is (repeated (trans r)) a ∙ ap (λ (d : Bool). if d then a else at (λ b. if is_within (trans r b) b then b else wrong) (join a (trans r a))) e)
-        ∙ at_holds (λ b. if is_within (trans r b) b then b else wrong) (join a (trans r a)) (run (run s g) h) (more (is_within (trans r (join a (trans r a))) (join a (trans r a))) refl)
+        ap (λ (b : States). holds b (run (run s g) h))
+        (at_is (repeated (trans r)) a
+        ∙ ap (λ (d : Bool). if d then a else at (λ b. if is_within (trans r b) b then b else wrong)
+        (join a (trans r a))) e)
+        ∙ at_holds (λ b. if is_within (trans r b) b then b else wrong) (join a (trans r a)) (run (run s g) h)
+        (more (is_within (trans r (join a (trans r a))) (join a (trans r a))) refl)
 
-trait_state : (c : Forest) (x : Token) (g i : Forest) → c ≡ leaf x (g +++ i) → (s : State) → run (run (step s (part_of x)) g) i ≡ calm → holds (exits k.TraitUse) (edge (run s c)) ≡ true
+trait_state : (c : Forest) (x : Token) (g i : Forest) → c ≡ leaf x (g +++ i) → (s : State)
+    → run (run (step s (part_of x)) g) i ≡ calm → holds (exits k.TraitUse) (edge (run s c)) ≡ true
 trait_state c x g i same s e =
     ap (λ (z : State). holds (exits k.TraitUse) (edge z)) (ap (run s) same ∙ run_join (step s (part_of x)) g i ∙ e)
 
@@ -266,7 +293,8 @@ mutual
       ∙ repeats_more r g i (runs_fit b (fine_front g i lines) (plain_front g i parts)) (runs_fit d (fine_rest g i lines) (plain_rest g i parts)) a s h
   runs_fit (is_tokens b) l w a s h = refl
 
-  node_runs : {j : NodeKind} {c : Forest} → IsNode V74 j c → FineLabels c → PlainTraits (node j c none) → (s : State) → holds (entry j) s ≡ true → holds (exits j) (edge (run s c)) ≡ true
+  node_runs : {j : NodeKind} {c : Forest} → IsNode V74 j c → FineLabels c → PlainTraits (node j c none) → (s : State)
+      → holds (entry j) s ≡ true → holds (exits j) (edge (run s c)) ≡ true
   node_runs (is_node {k = k.TraitUse} {c} (is_both {h = f} (is_word {x} p) (is_both {g} {h = i} q r e) d) near fine) l w s h =
       let same : c ≡ leaf x (g +++ i) = d ∙ ap (leaf x) e in
       let lines = subst FineLabels same l in

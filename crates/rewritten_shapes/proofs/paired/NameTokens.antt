@@ -61,7 +61,8 @@ label_part kind.Label (b ∷ bs) e d = go (b == 92) (both_left (not (b == 92)) (
 label_part _ text e d = absurd cc
 
 -- one that a form asks for as a label
-label_is : (c : Terminal) (x : Token) → (is_label_code (code c) && labels_hold is_label_code) ≡ true → (is_any_label (terminal x) || same_class c (terminal x)) ≡ true → FineLabel x → part_of x ≡ label
+label_is : (c : Terminal) (x : Token) → (is_label_code (code c) && labels_hold is_label_code) ≡ true
+    → (is_any_label (terminal x) || same_class c (terminal x)) ≡ true → FineLabel x → part_of x ≡ label
 label_is c x h e f =
     let l : is_label x.kind ≡ true = label_kind x.kind x.text (label_or is_label_code c (terminal x) h e) in
     label_part x.kind x.text l (f l)
@@ -127,7 +128,10 @@ no_right false true c e = absurd cc
 no_right false false true e = absurd cc
 no_right false false false e = refl
 
-plain_part : (sort : TokenKind) (text : List ℕ) → not (is_label sort || is_name sort) ≡ true → not (names.is_op sort && bytes_eq text (codes "\\") || (is_label sort || is_keyword sort && bytes_eq (str_to_ascii_lowercase text) (codes "namespace"))) ≡ true → is_plain_part (part_by sort text) ≡ true
+plain_part : (sort : TokenKind) (text : List ℕ) → not (is_label sort || is_name sort) ≡ true
+    → not (names.is_op sort && bytes_eq text (codes "\\") ||
+    (is_label sort || is_keyword sort && bytes_eq (str_to_ascii_lowercase text) (codes "namespace"))) ≡ true
+    → is_plain_part (part_by sort text) ≡ true
 plain_part kind.Label text e d = absurd cc
 plain_part kind.Name text e d = absurd cc
 plain_part kind.Keyword text e d = plain_if (is_namespace_word text) true (no_right false false (is_namespace_word text) d)
@@ -138,7 +142,9 @@ plain_is : (c : Terminal) (x : Token) → asks_calm c ≡ true → accepts V74 c
 plain_is c x h e =
     let calm_ = calm_asked c x h e in
     plain_part x.kind x.text (fresh_kind x.kind x.text calm_)
-    (ap (λ (text : List ℕ). not (names.is_op x.kind && bytes_eq text (codes "\\") || (is_label x.kind || is_keyword x.kind && bytes_eq (str_to_ascii_lowercase text) (codes "namespace")))) (sym (append-nil x.text)) ∙ calm_shut x calm_)
+    (ap (λ (text : List ℕ). not (names.is_op x.kind && bytes_eq text (codes "\\")
+    || (is_label x.kind || is_keyword x.kind && bytes_eq (str_to_ascii_lowercase text) (codes "namespace"))))
+    (sym (append-nil x.text)) ∙ calm_shut x calm_)
 
 -- classes whose tokens are no keywords
 unfoldable pub quiet_classes : List Terminal
@@ -166,7 +172,8 @@ quiet_part kind.Op text e h = mark_if (bytes_eq text (codes "\\")) (begins is_le
 quiet_part kind.Name text e h = absurd cc
 quiet_part _ text e h = refl
 
-quiet_is : (c : Terminal) (x : Token) → is_one_of quiet_classes (code c) ≡ true → asks_calm c ≡ true → same_class c (terminal x) ≡ true → accepts V74 c x ≡ true → is_quiet_part (part_of x) ≡ true
+quiet_is : (c : Terminal) (x : Token) → is_one_of quiet_classes (code c) ≡ true → asks_calm c ≡ true
+    → same_class c (terminal x) ≡ true → accepts V74 c x ≡ true → is_quiet_part (part_of x) ≡ true
 quiet_is c x h a e p =
     quiet_part x.kind x.text
     (no_keyword x.kind x.text (ap (is_one_of quiet_classes) (sym (eqb-true (code c) (code (terminal x)) e)) ∙ h))
@@ -249,7 +256,8 @@ no_set c _ text e = absurd cc
 set_word : (c : Terminal) (x : Token) → is_one_of (t.AnyWord ∷ t.ConstantWord ∷ []) (code c) ≡ true → same_class c (terminal x) ≡ true → is_word_kind x.kind ≡ true
 set_word c x h e = no_set c x.kind x.text (ap (is_one_of (t.AnyWord ∷ t.ConstantWord ∷ [])) (sym (eqb-true (code c) (code (terminal x)) e)) ∙ h)
 
-pub word_holds : (c : Terminal) (x : Token) → FineLabel x → accepts V74 c x ≡ true → (a : States) (s : State) → holds a s ≡ true → holds (word_states c a) (step s (part_of x)) ≡ true
+pub word_holds : (c : Terminal) (x : Token) → FineLabel x → accepts V74 c x ≡ true → (a : States) (s : State)
+    → holds a s ≡ true → holds (word_states c a) (step s (part_of x)) ≡ true
 unfolding label_classes quiet_classes
 word_holds t.AnyLabel x f e a s h = after_holds label (part_of x) a s (label_is t.AnyLabel x refl e f) h
 word_holds t.FreeLabel x f e a s h = after_holds label (part_of x) a s (label_is t.FreeLabel x refl e f) h

@@ -27,7 +27,27 @@ use Rattle.rewritten_shapes.specs.paired.Traits.{PlainTraits, are_plain, has_pla
 use Rattle.rewritten_shapes.proofs.paired.Asked.{asks, both_left, both_right, both_true}
 use Rattle.rewritten_shapes.proofs.paired.CodeTokens.{code_taken, is_brace, is_inner, no_brace, outer}
 use Rattle.rewritten_shapes.proofs.paired.Edges.{edges, expression_begins, expression_ends, fit_begins, fit_ends, starts, stops}
-use Rattle.rewritten_shapes.proofs.paired.Fronts.{Closing, Front, brace, closed, closes, either, front_closed, front_first, front_node, front_opened, front_second, front_token, join_assoc, join_none, opened, round, same_closing, same_front, unknown}
+use Rattle.rewritten_shapes.proofs.paired.Fronts.{
+  Closing,
+  Front,
+  brace,
+  closed,
+  closes,
+  either,
+  front_closed,
+  front_first,
+  front_node,
+  front_opened,
+  front_second,
+  front_token,
+  join_assoc,
+  join_none,
+  opened,
+  round,
+  same_closing,
+  same_front,
+  unknown,
+}
 use Rattle.rewritten_shapes.proofs.paired.Marks as told
 use Rattle.rewritten_shapes.proofs.paired.Stops.{grouped_stops}
 
@@ -190,14 +210,16 @@ by_implied P true b f e d = f e
 by_implied P false b f e d = absurd cc
 
 -- a node with parts of its own
-fine_node : (j : NodeKind) (r : Rule) (c f : Forest) → is_fine j r (behind r (closes [])) ≡ true → Fits V74 r c → Front (behind r (closes [])) (c +++ none) → Paired f → Paired (node j c f)
+fine_node : (j : NodeKind) (r : Rule) (c f : Forest) → is_fine j r (behind r (closes [])) ≡ true → Fits V74 r c
+    → Front (behind r (closes [])) (c +++ none) → Paired f → Paired (node j c f)
 fine_node j r c f e p o q =
     let e1 = both_right (is_common j) _ e in
     let e2 = both_right (not (is_groupable j)) _ e1 in
     let e3 = both_right (is_whole (behind r (closes []))) (not (is_expression j) || (starts false r && stops false r)) e2 in
     pairs.part (both_left (is_common j) _ e)
     (record {
-      begins = by_implied (begins_inside (leaves c) ≡ true) (is_expression j) (starts false r && stops false r) (λ d. fit_begins p (both_left (starts false r) (stops false r) d)) e3;
+      begins = by_implied (begins_inside (leaves c) ≡ true) (is_expression j) (starts false r && stops false r)
+          (λ d. fit_begins p (both_left (starts false r) (stops false r) d)) e3;
       ends = by_implied (ends_inside (leaves c) ≡ true) (is_expression j) (starts false r && stops false r) (λ d. fit_ends p (both_right (starts false r) (stops false r) d)) e3;
       stops = λ d. absurd (ungrouped j c (both_left (not (is_groupable j)) _ e1) d);
     })
@@ -221,7 +243,9 @@ plain_paired none u e = pairs.no_part
 plain_paired (leaf x none) u e =
     pairs.token (both_left (is_code_token x) _ (both_left (is_plain x) _ e)) pairs.no_part
 plain_paired (leaf x (leaf y f)) u e =
-    pairs.token (both_left (is_code_token x) _ (both_left (is_plain x) _ e)) (plain_paired (leaf y f) u (both_right (not (is_mark 92 x) || is_label y.kind) _ (both_right (is_plain x) _ e)))
+    pairs.token (both_left (is_code_token x) _ (both_left (is_plain x) _ e))
+    (plain_paired (leaf y f) u (both_right (not (is_mark 92 x) || is_label y.kind) _
+    (both_right (is_plain x) _ e)))
 plain_paired (leaf x (node j c f)) u e = absurd cc
 plain_paired (node j c f) u e = absurd cc
 
@@ -332,7 +356,9 @@ simple_part (is_second (is_second (is_inside {c} (is_both (is_inside (is_word {x
 
 -- ---- steps
 
-inside_front : (j : NodeKind) (r : Rule) (c : Forest) (s : Closing) (h : Forest) → Fits V74 r c → Front (behind r (closes [])) (c +++ none) → Front s h → (b : Bool) → is_fine j r (behind r (closes [])) ≡ b → Front (if b then s else unknown) (node j c h)
+inside_front : (j : NodeKind) (r : Rule) (c : Forest) (s : Closing) (h : Forest) → Fits V74 r c
+    → Front (behind r (closes [])) (c +++ none) → Front s h → (b : Bool) → is_fine j r (behind r (closes [])) ≡ b
+    → Front (if b then s else unknown) (node j c h)
 inside_front j r c s h p i o true e = front_node s j c h (λ g q. fine_node j r c g e p i q) o
 inside_front j r c s h p i o false e = tt
 
@@ -391,10 +417,14 @@ mutual
       let parts = subst PlainTraits same w in
       subst (λ (g : Forest). Interpolated (g +++ h)) (sym same)
       (pairs.curly (told.curly x p) (node_paired n (parts.0, parts.1, tt) none pairs.no_part) (told.close_brace y q) o)
-  piece_part (is_second (is_second (is_second (is_first (is_both {f} (is_word {x} p) (is_both (is_word {x = n} m) (is_both {h = i} (is_first is_nothing) (is_word {x = y} q) a) b) d))))) w h o =
+  piece_part (is_second (is_second (is_second (is_first (is_both {f} (is_word {x} p)
+      (is_both (is_word {x = n} m) (is_both {h = i} (is_first is_nothing) (is_word {x = y} q) a) b) d))))) w h o =
       let same : f ≡ leaf x (leaf n (leaf y none)) = d ∙ ap (leaf x) b ∙ ap (λ (g : Forest). leaf x (leaf n g)) a in
       subst (λ (g : Forest). Interpolated (g +++ h)) (sym same) (pairs.named (told.dollar x p) (told.var_name n m) (told.close_brace y q) o)
-  piece_part (is_second (is_second (is_second (is_first (is_both {f} (is_word {x} p) (is_both (is_word {x = n} m) (is_both {h = i} (is_second (is_both (is_word {x = b} u) (is_both (is_place {k = j} {c} v z) (is_word {x = s} l) ea) eb)) (is_word {x = y} q) a) e) d))))) w h o =
+  piece_part (is_second (is_second (is_second (is_first (is_both {f} (is_word {x} p)
+      (is_both (is_word {x = n} m) (is_both {h = i} (is_second
+      (is_both (is_word {x = b} u) (is_both (is_place {k = j} {c} v z) (is_word {x = s} l) ea) eb))
+      (is_word {x = y} q) a) e) d))))) w h o =
       let same : f ≡ leaf x (leaf n (leaf b (node j c (leaf s (leaf y none))))) =
       d ∙ ap (leaf x) e ∙ ap (λ (g : Forest). leaf x (leaf n g)) a
       ∙ ap (λ (g : Forest). leaf x (leaf n (g +++ leaf y none))) eb
@@ -414,7 +444,10 @@ mutual
       let same : c ≡ leaf x (g +++ leaf y none) = d ∙ ap (leaf x) e in
       subst (λ (b : Forest). Paired (node k.Quoted b f)) (sym same)
       (pairs.text (told.text_start x p) (pieces a (plain_front g (leaf y none) (subst PlainTraits same w.1)) (leaf y none) (pairs.text_end (told.text_end y q))) o)
-  node_paired (is_node {k = k.BraceOffset} {c} (is_both (is_place {k = i} {c = b} m1 n1) (is_both (is_word {x} p) (is_both (is_place {k = j} {c = d} m2 n2) (is_word {x = u} q) e1) e2) e3) near fine) w f o =
+  node_paired (is_node {k = k.BraceOffset} {c}
+      (is_both (is_place {k = i} {c = b} m1 n1)
+      (is_both (is_word {x} p) (is_both (is_place {k = j} {c = d} m2 n2) (is_word {x = u} q) e1) e2) e3) near fine) w
+      f o =
       let same : c ≡ node i b (leaf x (node j d (leaf u none))) = e3 ∙ ap (node i b) (e2 ∙ ap (leaf x) e1) in
       let parts = subst PlainTraits same w.1 in
       subst (λ (z : Forest). Paired (node k.BraceOffset z f)) (sym same)

@@ -14,7 +14,23 @@ use Rattle.php_shapes.specs.Forms.{form}
 use Rattle.php_shapes.specs.Notation.{Rule, nothing, word, place, inside, ◌~◌, ◌|||◌, many, tokens}
 use Rattle.php_shapes.specs.Notation as rule
 use Rattle.php_shapes.specs.Quoted.{interpolated, quoted, quoted_part}
-use Rattle.php_shapes.specs.Shapes.{is_balanced, Fits, is_nothing, is_word, is_kind, is_place, is_inside, is_both, is_first, is_second, no_more, once_more, is_tokens, IsNode, is_node}
+use Rattle.php_shapes.specs.Shapes.{
+  is_balanced,
+  Fits,
+  is_nothing,
+  is_word,
+  is_kind,
+  is_place,
+  is_inside,
+  is_both,
+  is_first,
+  is_second,
+  no_more,
+  once_more,
+  is_tokens,
+  IsNode,
+  is_node,
+}
 use Rattle.syntax_rules.specs.DollarBrace.{is_dollar_brace, is_piece}
 use Rattle.syntax_rules.specs.HashComment.{hash_comment}
 use Rattle.syntax_rules.specs.SplitName.{is_keyword, is_label}
@@ -42,7 +58,9 @@ is_free_kind _ = true
 abbrev IsFree : Token → Type 0
 IsFree t = (is_dollar_brace t.kind ≡ false) × (is_loose (hash_comment t) ≡ true)
 
-loose_by : (sort : TokenKind) (text : List ℕ) → is_free_kind sort ≡ true → (is_dollar_brace sort ≡ false) × ((not (names.is_op sort && bytes_eq text (codes "\\")) && not (is_label sort || is_keyword sort && bytes_eq (str_to_ascii_lowercase text) (codes "namespace"))) ≡ true)
+loose_by : (sort : TokenKind) (text : List ℕ) → is_free_kind sort ≡ true → (is_dollar_brace sort ≡ false)
+    × ((not (names.is_op sort && bytes_eq text (codes "\\"))
+    && not (is_label sort || is_keyword sort && bytes_eq (str_to_ascii_lowercase text) (codes "namespace"))) ≡ true)
 loose_by kind.Label text e = absurd cc
 loose_by kind.Keyword text e = absurd cc
 loose_by kind.Op text e = absurd cc
@@ -56,7 +74,9 @@ free_kind t e = loose_by t.kind (t.text ++ []) e
 free_mark : (b : ℕ) (t : Token) → IsMark b t → bytes_eq (b ∷ []) (codes "\\") ≡ false → IsFree t
 free_mark b t m e = (
   ap is_dollar_brace m.kind,
-  ap (λ (sort : TokenKind). not (names.is_op sort && bytes_eq (t.text ++ []) (codes "\\")) && not (is_label sort || is_keyword sort && bytes_eq (str_to_ascii_lowercase (t.text ++ [])) (codes "namespace"))) m.kind
+  ap (λ (sort : TokenKind). not (names.is_op sort && bytes_eq (t.text ++ []) (codes "\\"))
+      && not (is_label sort || is_keyword sort && bytes_eq (str_to_ascii_lowercase (t.text ++ []))
+      (codes "namespace"))) m.kind
       ∙ ap (λ (text : List ℕ). not (bytes_eq (text ++ []) (codes "\\")) && true) m.text
       ∙ ap (λ (x : Bool). not x && true) e,
 )
@@ -135,7 +155,9 @@ named_leads f x n y e p m q h r =
     ap (λ (g : Forest). is_quotable anything (g +++ h)) e
     ∙ dollar_step x (leaf n (leaf y h)) p (name_step n (leaf y h) (plain_by kind.VarName n m refl refl) (mark_step y h q r))
 
-offset_leads : (f : Forest) (x n o : Token) (j : NodeKind) (c : Forest) (s y : Token) → f ≡ leaf x (leaf n (leaf o (node j c (leaf s (leaf y none))))) → x.kind ≡ kind.DollarBrace → n.kind ≡ kind.VarName → IsMark 91 o → IsMark 93 s → IsMark 125 y → Leads f
+offset_leads : (f : Forest) (x n o : Token) (j : NodeKind) (c : Forest) (s y : Token)
+    → f ≡ leaf x (leaf n (leaf o (node j c (leaf s (leaf y none))))) → x.kind ≡ kind.DollarBrace
+    → n.kind ≡ kind.VarName → IsMark 91 o → IsMark 93 s → IsMark 125 y → Leads f
 offset_leads f x n o j c s y e p m a b q h r =
     ap (λ (g : Forest). is_quotable anything (g +++ h)) e
     ∙ dollar_step x (leaf n (leaf o (node j c (leaf s (leaf y h))))) p
@@ -156,9 +178,13 @@ part_leads (is_first (is_word {x} p)) h r = free_step x h (free_kind x (ap is_fr
 part_leads (is_second (is_first v)) h r = simple_leads v h r
 part_leads (is_second (is_second (is_first (is_both {f} (is_word {x} p) (is_both (is_place {k = j} {c} m n) (is_word {x = y} q) e) d)))) h r =
     curly_leads f x j c y (d ∙ ap (leaf x) e) (told.curly x p) (told.close_brace y q) h r
-part_leads (is_second (is_second (is_second (is_first (is_both {f} (is_word {x} p) (is_both (is_word {x = n} m) (is_both {h = i} (is_first is_nothing) (is_word {x = y} q) a) b) d))))) h r =
+part_leads (is_second (is_second (is_second (is_first (is_both {f} (is_word {x} p)
+    (is_both (is_word {x = n} m) (is_both {h = i} (is_first is_nothing) (is_word {x = y} q) a) b) d))))) h r =
     named_leads f x n y (d ∙ ap (leaf x) b ∙ ap (λ (g : Forest). leaf x (leaf n g)) a) (told.dollar x p) (told.var_name n m) (told.close_brace y q) h r
-part_leads (is_second (is_second (is_second (is_first (is_both {f} (is_word {x} p) (is_both (is_word {x = n} m) (is_both {h = i} (is_second (is_both (is_word {x = o} u) (is_both (is_place {k = j} {c} v w) (is_word {x = s} z) ea) eb)) (is_word {x = y} q) a) b) d))))) h r =
+part_leads (is_second (is_second (is_second (is_first (is_both {f} (is_word {x} p)
+    (is_both (is_word {x = n} m) (is_both {h = i} (is_second
+    (is_both (is_word {x = o} u) (is_both (is_place {k = j} {c} v w) (is_word {x = s} z) ea) eb)) (is_word {x = y} q)
+    a) b) d))))) h r =
     offset_leads f x n o j c s y
     (d ∙ ap (leaf x) b ∙ ap (λ (g : Forest). leaf x (leaf n g)) a
     ∙ ap (λ (g : Forest). leaf x (leaf n (g +++ leaf y none))) eb

@@ -41,7 +41,8 @@ dot_by _ e = absurd cc
 
 dot_op : (c : Terminal) (x : Token) → is_one_of binaries (code c) ≡ true → same_class c (terminal x) ≡ true → x.text ≡ codes "." → is_op x.kind ≡ true
 dot_op c x h e d =
-    dot_by x.kind (ap (λ (text : List ℕ). is_one_of binaries (code (terminal_by x.kind text))) (sym d) ∙ ap (is_one_of binaries) (sym (eqb-true (code c) (code (terminal x)) e)) ∙ h)
+    dot_by x.kind (ap (λ (text : List ℕ). is_one_of binaries (code (terminal_by x.kind text))) (sym d)
+    ∙ ap (is_one_of binaries) (sym (eqb-true (code c) (code (terminal x)) e)) ∙ h)
 
 or_front : (a b : Bool) → a ≡ true → (a || b) ≡ true
 or_front true b e = refl
@@ -55,7 +56,8 @@ or_back false b e = e
 abbrev reads_alone : Terminal → Type 0
 reads_alone c = (x : Token) → accepts V74 c x ≡ true → same_class c (terminal x) ≡ true
 
-two_operands : (a b : Place) (c : Terminal) (f : Forest) → reads_alone c → is_one_of binaries (code c) ≡ true → Fits V74 (place a ~ (word c ~ place b)) f → bytes_eq (operator_of f) (codes ".") ≡ true → has_stop f ≡ true
+two_operands : (a b : Place) (c : Terminal) (f : Forest) → reads_alone c → is_one_of binaries (code c) ≡ true
+    → Fits V74 (place a ~ (word c ~ place b)) f → bytes_eq (operator_of f) (codes ".") ≡ true → has_stop f ≡ true
 two_operands a b c f u h (is_both (is_place {k = j} {c = d} m n) (is_both (is_word {x} p) (is_place {k = i} {c = e} o q) y) z) w =
     let same : f ≡ node j d (leaf x (node i e none)) = z ∙ ap (node j d) y in
     let text : x.text ≡ codes "." = (bytes_eq-Decides x.text (codes ".")).0 (ap (λ (g : Forest). bytes_eq (operator_of g) (codes ".")) (sym same) ∙ w) in
@@ -72,14 +74,32 @@ binary_stops f (is_second (is_second (is_second (is_second (is_second (is_first 
 binary_stops f (is_second (is_second (is_second (is_second (is_second (is_second (is_first p))))))) e = two_operands _ _ t.Order f (λ x d. d) refl p e
 binary_stops f (is_second (is_second (is_second (is_second (is_second (is_second (is_second (is_first p)))))))) e = two_operands _ _ t.Equality f (λ x d. d) refl p e
 binary_stops f (is_second (is_second (is_second (is_second (is_second (is_second (is_second (is_second (is_first p))))))))) e = two_operands _ _ t.Ampersand f (λ x d. d) refl p e
-binary_stops f (is_second (is_second (is_second (is_second (is_second (is_second (is_second (is_second (is_second (is_first p)))))))))) e = two_operands _ _ t.Caret f (λ x d. d) refl p e
-binary_stops f (is_second (is_second (is_second (is_second (is_second (is_second (is_second (is_second (is_second (is_second (is_first p))))))))))) e = two_operands _ _ t.Bar f (λ x d. d) refl p e
-binary_stops f (is_second (is_second (is_second (is_second (is_second (is_second (is_second (is_second (is_second (is_second (is_second (is_first p)))))))))))) e = two_operands _ _ t.BooleanAnd f (λ x d. d) refl p e
-binary_stops f (is_second (is_second (is_second (is_second (is_second (is_second (is_second (is_second (is_second (is_second (is_second (is_second (is_first p))))))))))))) e = two_operands _ _ t.BooleanOr f (λ x d. d) refl p e
-binary_stops f (is_second (is_second (is_second (is_second (is_second (is_second (is_second (is_second (is_second (is_second (is_second (is_second (is_second (is_first p)))))))))))))) e = two_operands _ _ t.Coalesce f (λ x d. d) refl p e
-binary_stops f (is_second (is_second (is_second (is_second (is_second (is_second (is_second (is_second (is_second (is_second (is_second (is_second (is_second (is_second (is_first p))))))))))))))) e = two_operands _ _ t.And f (λ x d. d) refl p e
-binary_stops f (is_second (is_second (is_second (is_second (is_second (is_second (is_second (is_second (is_second (is_second (is_second (is_second (is_second (is_second (is_second (is_first p)))))))))))))))) e = two_operands _ _ t.Xor f (λ x d. d) refl p e
-binary_stops f (is_second (is_second (is_second (is_second (is_second (is_second (is_second (is_second (is_second (is_second (is_second (is_second (is_second (is_second (is_second (is_second p)))))))))))))))) e = two_operands _ _ t.Or f (λ x d. d) refl p e
+binary_stops f (is_second (is_second (is_second (is_second (is_second
+    (is_second (is_second (is_second (is_second (is_first p)))))))))) e =
+    two_operands _ _ t.Caret f (λ x d. d) refl p e
+binary_stops f (is_second (is_second (is_second (is_second (is_second
+    (is_second (is_second (is_second (is_second (is_second (is_first p))))))))))) e =
+    two_operands _ _ t.Bar f (λ x d. d) refl p e
+binary_stops f (is_second (is_second (is_second (is_second (is_second
+    (is_second (is_second (is_second (is_second (is_second (is_second (is_first p)))))))))))) e =
+    two_operands _ _ t.BooleanAnd f (λ x d. d) refl p e
+binary_stops f (is_second (is_second (is_second (is_second (is_second
+    (is_second (is_second (is_second (is_second (is_second (is_second (is_second (is_first p))))))))))))) e =
+    two_operands _ _ t.BooleanOr f (λ x d. d) refl p e
+binary_stops f (is_second (is_second (is_second (is_second (is_second
+    (is_second (is_second (is_second (is_second (is_second (is_second (is_second (is_second (is_first p))))))))))))))
+    e = two_operands _ _ t.Coalesce f (λ x d. d) refl p e
+binary_stops f (is_second (is_second (is_second (is_second (is_second
+    (is_second (is_second (is_second (is_second (is_second (is_second
+    (is_second (is_second (is_second (is_first p))))))))))))))) e = two_operands _ _ t.And f (λ x d. d) refl p e
+binary_stops f (is_second (is_second (is_second (is_second (is_second
+    (is_second (is_second (is_second (is_second (is_second (is_second
+    (is_second (is_second (is_second (is_second (is_first p)))))))))))))))) e =
+    two_operands _ _ t.Xor f (λ x d. d) refl p e
+binary_stops f (is_second (is_second (is_second (is_second (is_second
+    (is_second (is_second (is_second (is_second (is_second (is_second
+    (is_second (is_second (is_second (is_second (is_second p)))))))))))))))) e =
+    two_operands _ _ t.Or f (λ x d. d) refl p e
 
 -- a ternary
 question_stops : (f g h : Forest) (x : Token) → f ≡ g +++ leaf x h → is_op x.kind ≡ true → has_stop f ≡ true

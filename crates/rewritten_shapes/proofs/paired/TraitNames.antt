@@ -14,7 +14,28 @@ use Rattle.php_shapes.specs.Notation.{word, tokens, ◌~◌, ◌|||◌}
 use Rattle.php_shapes.specs.Shapes.{Fits, is_word, is_both, is_first, is_second, is_tokens}
 use Rattle.rewritten_shapes.specs.Laws.{is_label_text, is_namespace_word}
 use Rattle.syntax_rules.specs.SplitName.{is_label}
-use Rattle.rewritten_shapes.specs.paired.Names.{Part, State, bad, blank, calm, edged, failed, key, keyed, label, mark, other, part_by, root, rooted, rooted_key, run, space, step, worded}
+use Rattle.rewritten_shapes.specs.paired.Names.{
+  Part,
+  State,
+  bad,
+  blank,
+  calm,
+  edged,
+  failed,
+  key,
+  keyed,
+  label,
+  mark,
+  other,
+  part_by,
+  root,
+  rooted,
+  rooted_key,
+  run,
+  space,
+  step,
+  worded,
+}
 use Rattle.rewritten_shapes.specs.paired.Tokens.{IsMark, is_code_kind, is_code_token, is_mark, is_op}
 use Rattle.rewritten_shapes.specs.paired.Traits.{are_plain, has_plain_rules, is_plain}
 use Rattle.rewritten_shapes.proofs.paired.Asked.{both_left, both_right}
@@ -152,7 +173,8 @@ by_state P true b c f g e = f refl
 by_state P false true c f g e = g refl e
 by_state P false false c f g e = absurd cc
 
-goes_on : (x : Token) (f : Forest) (s : State) → is_plain x ≡ true → FineLabel x → (not (is_mark 92 x) || label_first f) ≡ true → may_go s (leaf x f) ≡ true → may_go (step s (part_of x)) f ≡ true
+goes_on : (x : Token) (f : Forest) (s : State) → is_plain x ≡ true → FineLabel x
+    → (not (is_mark 92 x) || label_first f) ≡ true → may_go s (leaf x f) ≡ true → may_go (step s (part_of x)) f ≡ true
 goes_on x f s e l n h =
     by_state (may_go (step s (part_of x)) f ≡ true) (is_ready s) (waits s) (is_label x.kind)
     (λ r. ready_step s (part_of x) f r (good_part x.kind x.text (both_left (is_code_kind x.kind) _ (both_left (is_code_token x) _ e)) l)
@@ -172,7 +194,8 @@ shut_step s u m h = ap (step s) (shut_is u m) ∙ go s (ap (λ (sort : TokenKind
     go failed e = absurd cc
     go edged e = absurd cc
 
-plain_run : (f : Forest) (u : Token) (s : State) → are_plain (f +++ leaf u none) ≡ true → FineLabels f → IsMark 125 u → may_go s (f +++ leaf u none) ≡ true → run s (f +++ leaf u none) ≡ calm
+plain_run : (f : Forest) (u : Token) (s : State) → are_plain (f +++ leaf u none) ≡ true → FineLabels f → IsMark 125 u
+    → may_go s (f +++ leaf u none) ≡ true → run s (f +++ leaf u none) ≡ calm
 plain_run none u s e l m h = shut_step s u m h
 plain_run (leaf x none) u s e l m h =
     shut_step (step s (part_of x)) u m
@@ -202,7 +225,8 @@ fine_front (leaf x f) g l = (l.0, fine_front f g l.1)
 fine_front (node j c f) g l = (l.0, fine_front f g l.1)
 
 -- what stands behind the names of traits
-pub rules_run : (h : Forest) → Fits V74 (word t.Semi ||| (word t.OpenBrace ~ tokens ~ word t.CloseBrace)) h → FineLabels h → has_plain_rules h ≡ true → (s : State) → holds at_word s ≡ true → run s h ≡ calm
+pub rules_run : (h : Forest) → Fits V74 (word t.Semi ||| (word t.OpenBrace ~ tokens ~ word t.CloseBrace)) h
+    → FineLabels h → has_plain_rules h ≡ true → (s : State) → holds at_word s ≡ true → run s h ≡ calm
 rules_run h (is_first (is_word {x} p)) l w s e = calm_is (step s (part_of x)) (word_holds t.Semi x l.0 p at_word s e)
 rules_run h (is_second (is_both {f = r} {g} (is_word {x} p) (is_both {g = i} (is_tokens b) (is_word {x = u} q) e) d)) l w s o =
     let same : h ≡ leaf x (i +++ leaf u none) = d ∙ ap (leaf x) e in

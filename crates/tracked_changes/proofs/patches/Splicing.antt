@@ -16,7 +16,21 @@ use Rattle.tracked_changes.specs.patches.Patches.{Patches, Wrapping, opening, cl
 use Rattle.tracked_changes.specs.patches.Rewritten.{has_none, first_lead, without_lead, wrapped, rewritten}
 use Rattle.tracked_changes.specs.patches.Changes.{insertion, openings, closings, edits_of, edits}
 use Rattle.tracked_changes.specs.patches.Laws.{HaveTokens, SplicedIsRewritten}
-use Rattle.tracked_changes.proofs.patches.Leads.{clash, none_append, lead_append, is_empty, printed_none, printed-without_lead, opened, closed, wrapped_filled, wrapped_printed, unwrapped, rewritten_none, rewritten_lead}
+use Rattle.tracked_changes.proofs.patches.Leads.{
+  clash,
+  none_append,
+  lead_append,
+  is_empty,
+  printed_none,
+  printed-without_lead,
+  opened,
+  closed,
+  wrapped_filled,
+  wrapped_printed,
+  unwrapped,
+  rewritten_none,
+  rewritten_lead,
+}
 
 -- ---- places
 
@@ -112,15 +126,22 @@ module _ (p : Patches) where
       let start : (place_of (leaves c) after).0 ≡ at + length (first_lead (leaves c)) = start_is at (leaves c) after e placed_c in
       let lead : first_lead (leaves c ++ leaves f) ≡ first_lead (leaves c) = lead_append (leaves c) (leaves f) e in
       let closes : AreApart (end_of at c) (closings (end_of at c) (p id) ++ tail) to = close_apart (end_of at c) to (p id) tail behind_it.apart in
-      let inner : Bare (suc id) at c after (printed f ++ rest) (closings (end_of at c) (p id) ++ tail) to = inside (closings (end_of at c) (p id) ++ tail) (printed f ++ rest) closes in
+      let inner : Bare (suc id) at c after (printed f ++ rest) (closings (end_of at c) (p id) ++ tail) to =
+      inside (closings (end_of at c) (p id) ++ tail) (printed f ++ rest) closes in
       let filled : has_none (leaves (rewritten p (suc id) c)) ≡ false = rewritten_none p (suc id) c h.1 ∙ e in
       let wrapping : has_none (leaves (wrapped (p id) (k, rewritten p (suc id) c)).1) ≡ false = wrapped_filled (p id) (k, rewritten p (suc id) c) filled in
-      let list : edits_of p id (node k c f) next ++ es ≡ openings (at + length (first_lead (leaves c))) (p id) ++ (edits_of p (suc id) c after ++ (closings (end_of at c) (p id) ++ tail)) =
+      let list : edits_of p id (node k c f) next ++ es ≡ openings (at + length (first_lead (leaves c))) (p id)
+      ++ (edits_of p (suc id) c after ++ (closings (end_of at c) (p id) ++ tail)) =
       rw (stop, start) (simp append_assoc) in
       record {
         same = rw (list, lead, e, wrapping)
-            (ap (λ x. spliced_from (at + length (first_lead (leaves c))) x (openings (at + length (first_lead (leaves c))) (p id) ++ (edits_of p (suc id) c after ++ (closings (end_of at c) (p id) ++ tail)))) (append_assoc (printed (without_lead c)) (printed f) rest)
-            ∙ opened_splice (at + length (first_lead (leaves c))) to (p id) (printed (without_lead c) ++ (printed f ++ rest)) (edits_of p (suc id) c after ++ (closings (end_of at c) (p id) ++ tail)) inner.apart
+            (ap (λ x. spliced_from (at + length (first_lead (leaves c))) x
+            (openings (at + length (first_lead (leaves c))) (p id)
+            ++ (edits_of p (suc id) c after ++ (closings (end_of at c) (p id) ++ tail))))
+            (append_assoc (printed (without_lead c)) (printed f) rest)
+            ∙ opened_splice (at + length (first_lead (leaves c))) to (p id)
+            (printed (without_lead c) ++ (printed f ++ rest))
+            (edits_of p (suc id) c after ++ (closings (end_of at c) (p id) ++ tail)) inner.apart
             ∙ ap (λ x. opened (p id) ++ x)
             (inner.same ∙ ap (λ x. printed (without_lead (rewritten p (suc id) c)) ++ x)
             (closed_splice (end_of at c) to (p id) (printed f ++ rest) tail behind_it.apart ∙ ap (λ x. closed (p id) ++ x) behind_it.same))
@@ -172,7 +193,8 @@ module _ (p : Patches) where
   empty_whole id at k c f next rest es to a w =
       let back : Whole (suc (id + count c)) at f next rest es to = subst (λ x. Whole (suc (id + count c)) x f next rest es to) a.here w in
       let out : printed (rewritten p id (node k c f)) ≡ printed (rewritten p (suc (id + count c)) f) = ap printed a.written ∙ rw a.still refl in
-      let front : spliced_from at ((printed c ++ printed f) ++ rest) (edits_of p (suc (id + count c)) f next ++ es) ≡ printed (rewritten p (suc (id + count c)) f) ++ spliced_from (end_of (end_of at c) f) rest es =
+      let front : spliced_from at ((printed c ++ printed f) ++ rest) (edits_of p (suc (id + count c)) f next ++ es) ≡
+      printed (rewritten p (suc (id + count c)) f) ++ spliced_from (end_of (end_of at c) f) rest es =
       rw (a.empty, a.here) back.same in
       record {
         same = rw a.listed (front ∙ ap (λ x. x ++ spliced_from (end_of (end_of at c) f) rest es) (sym out));

@@ -73,7 +73,8 @@ pub record IsPut (x : ℕ) (t : Token) (n : NewToken) : Type 0 where
   pub kind : n.kind ≡ token.Op
   pub text : after n.text ≡ x ∷ []
 
-module _ (means : Means) (join : BecomesJoin) (b c x y : ℕ) (into : List Mode → List Mode) (opens : OpensCode b into) (law : BetweenBecomes b c x y) (shut : nat_eq b 41 ≡ false) where
+module _ (means : Means) (join : BecomesJoin) (b c x y : ℕ) (into : List Mode → List Mode) (opens : OpensCode b into)
+    (law : BetweenBecomes b c x y) (shut : nat_eq b 41 ≡ false) where
   between_row :
       (h stop : Bool) (t u : Token) (ss : List Token) (ts : List NewToken) (n o : NewToken) (below : List Mode) (depth : ℕ) (tiles : List Tile) (more : List Lexeme) →
       IsMark b t →
@@ -127,7 +128,9 @@ module _ (means : Means) (join : BecomesJoin) (b c x y : ℕ) (into : List Mode 
             (law false (any_stops i.xs) i.xs i.ys i.row);
       }
 
-  pub between_turns : (h stop : Bool) (t u : Token) (ss : List Token) (ts : List NewToken) (n o : NewToken) → IsMark b t → IsMark c u → IsPut x t n → IsPut y u o → Turns false stop ss ts → Turns h true (t ∷ (ss ++ u ∷ [])) (n ∷ (ts ++ o ∷ []))
+  pub between_turns : (h stop : Bool) (t u : Token) (ss : List Token) (ts : List NewToken) (n o : NewToken)
+      → IsMark b t → IsMark c u → IsPut x t n → IsPut y u o → Turns false stop ss ts
+      → Turns h true (t ∷ (ss ++ u ∷ [])) (n ∷ (ts ++ o ∷ []))
   between_turns h stop t u ss ts n o mt mu pn po turns below depth tiles more m steps same =
       let l : Last h t tiles (map lexeme (ss ++ u ∷ []) ++ more) below depth =
       last_of means below depth h t tiles (map lexeme (ss ++ u ∷ []) ++ more) (mark_edge t b mt) (more_behind (ss ++ u ∷ []) more m) steps same in

@@ -47,8 +47,10 @@ float_turns means law h t n cast new below depth tiles more m steps same =
     filled_one means h false below depth t n tiles more steps f Cast 40 (codes "float)") new.lead
     (ap Some (sym new.kind)) (sym new.text) (λ x. absurd cc)
     (subst (λ (x : Kind). stays_open (tile x f.b f.a ∷ []) ≡ true) (sym kind) refl) refl
-    (subst (λ (x : Bool). Becomes false (any_stops (tile f.kind f.b f.a ∷ [])) (mode_of x) (mode_of (leaves_html t.kind)) (tile f.kind f.b f.a ∷ []) (tile Cast 40 (codes "float)") ∷ [])) (sym coded)
-    (subst (λ (x : TokenKind). Becomes false (any_stops (tile f.kind f.b f.a ∷ [])) code (mode_of (leaves_html x)) (tile f.kind f.b f.a ∷ []) (tile Cast 40 (codes "float)") ∷ [])) (sym cast)
+    (subst (λ (x : Bool). Becomes false (any_stops (tile f.kind f.b f.a ∷ [])) (mode_of x)
+    (mode_of (leaves_html t.kind)) (tile f.kind f.b f.a ∷ []) (tile Cast 40 (codes "float)") ∷ [])) (sym coded)
+    (subst (λ (x : TokenKind). Becomes false (any_stops (tile f.kind f.b f.a ∷ [])) code (mode_of (leaves_html x))
+    (tile f.kind f.b f.a ∷ []) (tile Cast 40 (codes "float)") ∷ [])) (sym cast)
     (subst (λ (x : Kind). Becomes false (any_stops (tile x f.b f.a ∷ [])) code code (tile x f.b f.a ∷ []) (tile Cast 40 (codes "float)") ∷ [])) (sym kind) (law f.b f.a))))
 
 -- ---- `(unset)`
@@ -61,7 +63,9 @@ pub record IsNull (t : Token) (o n s : NewToken) : Type 0 where
   pub null : new_lexeme n ≡ record { kind = token.Label; lead = []; text = codes "null" }
   pub shut : new_lexeme s ≡ record { kind = token.Op; lead = []; text = codes ")" }
 
-null_spells : Spells (tile Word 110 (codes "ull") ∷ tile Op 41 [] ∷ []) (record { kind = token.Label; lead = []; text = codes "null" } ∷ record { kind = token.Op; lead = []; text = codes ")" } ∷ [])
+null_spells : Spells (tile Word 110 (codes "ull") ∷ tile Op 41 [] ∷ [])
+    (record { kind = token.Label; lead = []; text = codes "null" }
+    ∷ record { kind = token.Op; lead = []; text = codes ")" } ∷ [])
 null_spells rest = refl
 
 null_row :
@@ -102,19 +106,24 @@ null_row law h t v o n s below depth tiles more cast variable new l first k seco
   kind_is = ap Some (sym new.kind);
   text_is = sym new.text;
   spells = subst (λ (x : Lexeme). Spells (tile Word 110 (codes "ull") ∷ tile Op 41 [] ∷ []) (x ∷ new_lexeme s ∷ [])) (sym new.null)
-      (subst (λ (x : Lexeme). Spells (tile Word 110 (codes "ull") ∷ tile Op 41 [] ∷ []) (record { kind = token.Label; lead = []; text = codes "null" } ∷ x ∷ [])) (sym new.shut) null_spells);
+      (subst (λ (x : Lexeme). Spells (tile Word 110 (codes "ull") ∷ tile Op 41 [] ∷ [])
+      (record { kind = token.Label; lead = []; text = codes "null" } ∷ x ∷ [])) (sym new.shut) null_spells);
   clean_lead = l.clean;
   clean = refl;
   lead = l.row;
-  row = subst (λ (x : TokenKind). Becomes false true code (mode_of (leaves_html x)) (tile Cast l.b l.a ∷ k.xs ++ tile Variable k.b k.a ∷ []) (between 40 41 (tile Word 110 (codes "ull") ∷ []))) (sym variable)
+  row = subst (λ (x : TokenKind). Becomes false true code (mode_of (leaves_html x))
+      (tile Cast l.b l.a ∷ k.xs ++ tile Variable k.b k.a ∷ []) (between 40 41 (tile Word 110 (codes "ull") ∷ [])))
+      (sym variable)
       (law l.b k.b l.a k.a k.xs k.plain);
 }
 
-pub null_turns : Means → CastsBecomeNull → (h : Bool) (t v : Token) (o n s : NewToken) → t.kind ≡ token.Cast → v.kind ≡ token.Variable → IsNull t o n s → Turns h false (t ∷ v ∷ []) (o ∷ n ∷ s ∷ [])
+pub null_turns : Means → CastsBecomeNull → (h : Bool) (t v : Token) (o n s : NewToken) → t.kind ≡ token.Cast
+    → v.kind ≡ token.Variable → IsNull t o n s → Turns h false (t ∷ v ∷ []) (o ∷ n ∷ s ∷ [])
 null_turns means law h t v o n s cast variable new below depth tiles more m steps same =
     let l : Last h t tiles (lexeme v ∷ more) below depth = last_of means below depth h t tiles (lexeme v ∷ more) (cast_edge t cast) refl steps same in
     let first : l.kind ≡ Cast = cast_tile l.kind (l.b ∷ l.a) t.kind cast l.is in
-    let at : Steps V74 (stack_of code below depth) (tile Cast l.b l.a ∷ l.rest) = subst (λ (z : Kind). Steps V74 (stack_of code below depth) (tile z l.b l.a ∷ l.rest)) first l.steps in
+    let at : Steps V74 (stack_of code below depth) (tile Cast l.b l.a ∷ l.rest) =
+    subst (λ (z : Kind). Steps V74 (stack_of code below depth) (tile z l.b l.a ∷ l.rest)) first l.steps in
     let behind : Steps V74 (stack_of code below depth) l.rest = step_behind at in
     let k : Last false v l.rest more below depth = last_of means below depth false v l.rest more (ap is_edge variable) m behind l.left in
     null_row law h t v o n s below depth tiles more cast variable new l first k (variable_tile k.kind (k.b ∷ k.a) v.kind variable k.is)

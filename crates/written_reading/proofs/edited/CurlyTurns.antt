@@ -34,7 +34,20 @@ use Rattle.written_reading.proofs.edited.Leads.{front_of, Means}
 use Rattle.written_reading.proofs.edited.Insides.{Inside, inside}
 use Rattle.written_reading.proofs.edited.Between.{mark_tile, mark_edge}
 use Rattle.written_reading.proofs.edited.FrontsKept.{new_front, old_front, Dollar}
-use Rattle.written_reading.proofs.edited.QuotedTiles.{tile_by, quoted_bare, Next, next_of, next_spells, curly_tile, dollar_tile, next_name, is_name_kind, no_name_first, named_code, name_front}
+use Rattle.written_reading.proofs.edited.QuotedTiles.{
+  tile_by,
+  quoted_bare,
+  Next,
+  next_of,
+  next_spells,
+  curly_tile,
+  dollar_tile,
+  next_name,
+  is_name_kind,
+  no_name_first,
+  named_code,
+  name_front,
+}
 use Rattle.written_reading.proofs.edited.TextTurns.{TextTurn, TextTurns, as_tile, as_kind}
 
 -- ---- `$` at the front of tiles
@@ -58,12 +71,14 @@ front_bytes tiles l more f = ap joined f.whole ∙ joined_append f.trivia (tile 
 front_token : (tiles : List Tile) (l : Lexeme) (more : List Lexeme) → (f : Front [] tiles l more) → joined f.trivia ++ f.b ∷ f.a ≡ l.lead ++ l.text
 front_token tiles l more f = ap (λ (x : List ℕ). x ++ f.b ∷ f.a) f.lead ∙ ap (λ (x : List ℕ). l.lead ++ x) f.text
 
-dollar_old : FrontOfRow → (tiles : List Tile) (l : Lexeme) (more : List Lexeme) → has_more more ≡ true → spelled [] tiles ≡ l ∷ more → Dollar (joined tiles) → Dollar (l.lead ++ l.text)
+dollar_old : FrontOfRow → (tiles : List Tile) (l : Lexeme) (more : List Lexeme) → has_more more ≡ true
+    → spelled [] tiles ≡ l ∷ more → Dollar (joined tiles) → Dollar (l.lead ++ l.text)
 dollar_old front tiles l more m same h =
     let f : Front [] tiles l more = front_of front tiles l more m same in
     subst Dollar (front_token tiles l more f) (front_cut (joined f.trivia) f.b f.a (joined f.rest) (subst Dollar (front_bytes tiles l more f) h))
 
-dollar_new : FrontOfRow → (tiles : List Tile) (l : Lexeme) (more : List Lexeme) → has_more more ≡ true → spelled [] tiles ≡ l ∷ more → Dollar (l.lead ++ l.text) → Dollar (joined tiles)
+dollar_new : FrontOfRow → (tiles : List Tile) (l : Lexeme) (more : List Lexeme) → has_more more ≡ true
+    → spelled [] tiles ≡ l ∷ more → Dollar (l.lead ++ l.text) → Dollar (joined tiles)
 dollar_new front tiles l more m same h =
     let f : Front [] tiles l more = front_of front tiles l more m same in
     subst Dollar (sym (front_bytes tiles l more f)) (front_add (joined f.trivia) f.b f.a (joined f.rest) (subst Dollar (sym (front_token tiles l more f)) h))
@@ -77,13 +92,16 @@ first_dollar : (ys : List Tile) → Dollar (joined ((ys ++ tile Op 125 [] ∷ []
 first_dollar [] h = absurd cc
 first_dollar (tile kind b a ∷ ys) h = h
 
-written_dollar : FrontOfRow → (ys : List Tile) (ns : List NewToken) (l : Lexeme) → Spells (ys ++ tile Op 125 [] ∷ []) (map new_lexeme ns ++ l ∷ []) → Dollar (new_front ns) → Dollar (joined ys)
+written_dollar : FrontOfRow → (ys : List Tile) (ns : List NewToken) (l : Lexeme)
+    → Spells (ys ++ tile Op 125 [] ∷ []) (map new_lexeme ns ++ l ∷ []) → Dollar (new_front ns) → Dollar (joined ys)
 written_dollar front ys [] l p h = absurd cc
 written_dollar front ys (n ∷ ns) l p h =
     first_dollar ys
-    (dollar_new front ((ys ++ tile Op 125 [] ∷ []) ++ []) (new_lexeme n) ((map new_lexeme ns ++ l ∷ []) ++ spelled [] []) (last_more (map new_lexeme ns) (spelled [] []) l) (p []) h)
+    (dollar_new front ((ys ++ tile Op 125 [] ∷ []) ++ []) (new_lexeme n)
+    ((map new_lexeme ns ++ l ∷ []) ++ spelled [] []) (last_more (map new_lexeme ns) (spelled [] []) l) (p []) h)
 
-source_dollar : FrontOfRow → (tiles : List Tile) (cs : List Token) (l : Lexeme) (more : List Lexeme) → spelled [] tiles ≡ map lexeme cs ++ l ∷ more → Dollar (joined tiles) → (cs ≡ [] → ⊥) → Dollar (old_front cs)
+source_dollar : FrontOfRow → (tiles : List Tile) (cs : List Token) (l : Lexeme) (more : List Lexeme)
+    → spelled [] tiles ≡ map lexeme cs ++ l ∷ more → Dollar (joined tiles) → (cs ≡ [] → ⊥) → Dollar (old_front cs)
 source_dollar front tiles [] l more same h some = absurd (some refl)
 source_dollar front tiles (c ∷ cs) l more same h some = dollar_old front tiles (lexeme c) (map lexeme cs ++ l ∷ more) (more_last cs l more) same h
   where
@@ -94,7 +112,8 @@ source_dollar front tiles (c ∷ cs) l more same h some = dollar_old front tiles
 -- ---- code up to `}`
 
 -- The tiles of code up to `}`, and those of the text behind it.
-pub record Shut (mark : Mark) (label : List ℕ) (over : List Mode) (depth : ℕ) (ns : List NewToken) (starts : Bool) (u : Token) (ts : List NewToken) (tiles : List Tile) (more : List Lexeme) : Type 0 where
+pub record Shut (mark : Mark) (label : List ℕ) (over : List Mode) (depth : ℕ) (ns : List NewToken) (starts : Bool)
+    (u : Token) (ts : List NewToken) (tiles : List Tile) (more : List Lexeme) : Type 0 where
   pub xs : List Tile
   pub ys : List Tile
   pub row : Becomes false (any_stops xs) code code xs ys
@@ -116,7 +135,11 @@ pub record Shut (mark : Mark) (label : List ℕ) (over : List Mode) (depth : ℕ
       Spells us ls →
       Spells (ys ++ tile k c e ∷ us) (map new_lexeme ns ++ new_lexeme n ∷ ls)
 
-pub shut : Means → BecomesJoin → (stop starts : Bool) (u : Token) (cs : List Token) (ns : List NewToken) (ss : List Token) (ts : List NewToken) → IsMark 125 u → Turns false stop cs ns → TextTurns starts ss ts → (mark : Mark) (label : List ℕ) (over : List Mode) (depth : ℕ) (tiles : List Tile) (more : List Lexeme) → has_more more ≡ true → Steps V74 (stack_of code (quoted mark label false ∷ over) depth) tiles → spelled [] tiles ≡ map lexeme (cs ++ u ∷ ss) ++ more → Shut mark label over depth ns starts u ts tiles more
+pub shut : Means → BecomesJoin → (stop starts : Bool) (u : Token) (cs : List Token) (ns : List NewToken)
+    (ss : List Token) (ts : List NewToken) → IsMark 125 u → Turns false stop cs ns → TextTurns starts ss ts
+    → (mark : Mark) (label : List ℕ) (over : List Mode) (depth : ℕ) (tiles : List Tile) (more : List Lexeme)
+    → has_more more ≡ true → Steps V74 (stack_of code (quoted mark label false ∷ over) depth) tiles
+    → spelled [] tiles ≡ map lexeme (cs ++ u ∷ ss) ++ more → Shut mark label over depth ns starts u ts tiles more
 shut means join stop starts u cs ns ss ts mu turns texts mark label over depth tiles more m steps same =
     let low = quoted mark label false ∷ over in
     let i : Inside ns u tiles (map lexeme ss ++ more) low depth =
@@ -149,7 +172,10 @@ kept_end u mu = sym (ap (λ (l : List ℕ). l ++ []) mu.text)
 
 -- ---- `{$..}`
 
-pub curly_turns : Means → BecomesJoin → (stop starts : Bool) (t u : Token) (cs : List Token) (ns : List NewToken) (ss : List Token) (ts : List NewToken) → t.kind ≡ token.CurlyOpen → IsMark 125 u → (cs ≡ [] → ⊥) → (Dollar (old_front cs) → Dollar (new_front ns)) → Turns false stop cs ns → TextTurns starts ss ts → TextTurns false (t ∷ (cs ++ u ∷ ss)) (hash_comment t ∷ (ns ++ hash_comment u ∷ ts))
+pub curly_turns : Means → BecomesJoin → (stop starts : Bool) (t u : Token) (cs : List Token) (ns : List NewToken)
+    (ss : List Token) (ts : List NewToken) → t.kind ≡ token.CurlyOpen → IsMark 125 u → (cs ≡ [] → ⊥)
+    → (Dollar (old_front cs) → Dollar (new_front ns)) → Turns false stop cs ns → TextTurns starts ss ts
+    → TextTurns false (t ∷ (cs ++ u ∷ ss)) (hash_comment t ∷ (ns ++ hash_comment u ∷ ts))
 curly_turns means join stop starts t u cs ns ss ts is mu some dollar turns texts mark label fresh over depth tiles more m steps same =
     let stack = stack_of (quoted mark label fresh) over depth in
     let left = map lexeme (cs ++ u ∷ ss) ++ more in
@@ -161,9 +187,12 @@ curly_turns means join stop starts t u cs ns ss ts is mu some dollar turns texts
     let at = first stack CurlyOpen 123 [] n.rest (subst (λ (x : Tile). Steps V74 stack (x ∷ n.rest)) one there) in
     let s : Shut mark label over depth ns starts u ts n.rest more = shut means join stop starts u cs ns ss ts mu turns texts mark label over depth n.rest more m at.more n.tokens in
     let old : Dollar (old_front cs) =
-    source_dollar means.front n.rest cs (lexeme u) (map lexeme ss ++ more) (n.tokens ∙ parted_spelled cs (u ∷ ss) more) (curly_next mark label fresh (joined n.rest) at.longest) some in
+    source_dollar means.front n.rest cs (lexeme u) (map lexeme ss ++ more)
+    (n.tokens ∙ parted_spelled cs (u ∷ ss) more) (curly_next mark label fresh (joined n.rest) at.longest) some in
     let new : Dollar (joined s.ys) =
-    written_dollar means.front s.ys ns (new_lexeme (hash_comment u)) (s.row_spells (hash_comment u) Op 125 [] refl (ap Some (sym mu.kind)) (kept_end u mu) [] [] (λ rest. refl)) (dollar old) in
+    written_dollar means.front s.ys ns (new_lexeme (hash_comment u))
+    (s.row_spells (hash_comment u) Op 125 [] refl (ap Some (sym mu.kind)) (kept_end u mu) [] [] (λ rest. refl))
+    (dollar old) in
     let p : Next t tiles left = as_tile CurlyOpen 123 [] t tiles left n (ap (λ (x : Kind). tile x n.b n.a) kind ∙ one) in
     record {
       xs = tile CurlyOpen 123 [] ∷ s.xs ++ tile Op 125 [] ∷ s.r_xs;
@@ -173,7 +202,8 @@ curly_turns means join stop starts t u cs ns ss ts is mu some dollar turns texts
       left = s.left;
       row = units.curly false (any_stops s.xs) s.xs s.ys new s.row s.text_row;
       starts_is = refl;
-      spells = subst (λ (l : List Lexeme). Spells (tile CurlyOpen 123 [] ∷ s.ys ++ tile Op 125 [] ∷ s.r_ys) (new_lexeme (hash_comment t) ∷ l)) (sym (news_append ns (hash_comment u ∷ ts)))
+      spells = subst (λ (l : List Lexeme). Spells (tile CurlyOpen 123 [] ∷ s.ys ++ tile Op 125 [] ∷ s.r_ys)
+          (new_lexeme (hash_comment t) ∷ l)) (sym (news_append ns (hash_comment u ∷ ts)))
           (next_spells t tiles left p (s.ys ++ tile Op 125 [] ∷ s.r_ys) (map new_lexeme ns ++ new_lexeme (hash_comment u) ∷ map new_lexeme ts)
           (s.row_spells (hash_comment u) Op 125 [] refl (ap Some (sym mu.kind)) (kept_end u mu) s.r_ys (map new_lexeme ts) s.text_spells));
       clean = clean_append s.ys (tile Op 125 [] ∷ s.r_ys) s.clean_row s.clean_text;
@@ -189,14 +219,18 @@ pub record Opened (mark : Mark) (label : List ℕ) (over : List Mode) (depth : �
   pub lead : [] ≡ after (spaced outside t.lead)
   pub behind : Steps V74 (stack_of named (quoted mark label false ∷ over) depth) rest
 
-opened : FrontOfRow → (mark : Mark) (label : List ℕ) (fresh : Bool) (over : List Mode) (depth : ℕ) (t : Token) (tiles : List Tile) (more : List Lexeme) → t.kind ≡ token.DollarBrace → has_more more ≡ true → Steps V74 (stack_of (quoted mark label fresh) over depth) tiles → spelled [] tiles ≡ lexeme t ∷ more → Opened mark label over depth t tiles more
+opened : FrontOfRow → (mark : Mark) (label : List ℕ) (fresh : Bool) (over : List Mode) (depth : ℕ) (t : Token)
+    (tiles : List Tile) (more : List Lexeme) → t.kind ≡ token.DollarBrace → has_more more ≡ true
+    → Steps V74 (stack_of (quoted mark label fresh) over depth) tiles → spelled [] tiles ≡ lexeme t ∷ more
+    → Opened mark label over depth t tiles more
 opened front mark label fresh over depth t tiles more is m steps same =
     let stack = stack_of (quoted mark label fresh) over depth in
     let n : Next t tiles more = next_of front stack (quoted_bare mark label fresh) t tiles more m steps same in
     let kind : n.kind ≡ DollarBrace = tile_by token.DollarBrace refl n.kind (n.b ∷ n.a) t.kind is n.is in
     let there : Steps V74 stack (tile DollarBrace n.b n.a ∷ n.rest) =
     subst (λ (x : Kind). Steps V74 stack (tile x n.b n.a ∷ n.rest)) kind (subst (λ (l : List Tile). Steps V74 stack l) n.whole steps) in
-    let two : tile DollarBrace n.b n.a ≡ tile DollarBrace 36 (123 ∷ []) = dollar_tile mark label fresh n.b n.a (joined n.rest) (first stack DollarBrace n.b n.a n.rest there).longest in
+    let two : tile DollarBrace n.b n.a ≡ tile DollarBrace 36 (123 ∷ []) =
+    dollar_tile mark label fresh n.b n.a (joined n.rest) (first stack DollarBrace n.b n.a n.rest there).longest in
     record {
       rest = n.rest;
       whole = n.whole ∙ ap (λ (x : Kind). tile x n.b n.a ∷ n.rest) kind ∙ ap (λ (x : Tile). x ∷ n.rest) two;
@@ -206,7 +240,10 @@ opened front mark label fresh over depth t tiles more is m steps same =
     }
 
 -- `${name..}`
-pub named_turns : Means → BecomesJoin → (stop starts : Bool) (t v u : Token) (cs : List Token) (ns : List NewToken) (ss : List Token) (ts : List NewToken) → t.kind ≡ token.DollarBrace → v.kind ≡ token.VarName → IsMark 125 u → Turns false stop cs ns → TextTurns starts ss ts → TextTurns true (t ∷ v ∷ (cs ++ u ∷ ss)) (curly (hash_comment t) ∷ dollar_name (hash_comment v) ∷ (ns ++ hash_comment u ∷ ts))
+pub named_turns : Means → BecomesJoin → (stop starts : Bool) (t v u : Token) (cs : List Token) (ns : List NewToken)
+    (ss : List Token) (ts : List NewToken) → t.kind ≡ token.DollarBrace → v.kind ≡ token.VarName → IsMark 125 u
+    → Turns false stop cs ns → TextTurns starts ss ts → TextTurns true (t ∷ v ∷ (cs ++ u ∷ ss))
+    (curly (hash_comment t) ∷ dollar_name (hash_comment v) ∷ (ns ++ hash_comment u ∷ ts))
 named_turns means join stop starts t v u cs ns ss ts is name mu turns texts mark label fresh over depth tiles more m steps same =
     let low = quoted mark label false ∷ over in
     let left = map lexeme (cs ++ u ∷ ss) ++ more in
@@ -214,7 +251,8 @@ named_turns means join stop starts t v u cs ns ss ts is name mu turns texts mark
     let n : Next v o.rest left = next_name means.front low depth v o.rest left name (more_behind (cs ++ u ∷ ss) more m) o.behind o.tokens in
     let kind : n.kind ≡ VarName = tile_by token.VarName refl n.kind (n.b ∷ n.a) v.kind name n.is in
     let there : Steps V74 (stack_of named low depth) (tile VarName n.b n.a ∷ n.rest) =
-    subst (λ (x : Kind). Steps V74 (stack_of named low depth) (tile x n.b n.a ∷ n.rest)) kind (subst (λ (l : List Tile). Steps V74 (stack_of named low depth) l) n.whole o.behind) in
+    subst (λ (x : Kind). Steps V74 (stack_of named low depth) (tile x n.b n.a ∷ n.rest)) kind
+    (subst (λ (l : List Tile). Steps V74 (stack_of named low depth) l) n.whole o.behind) in
     let s : Shut mark label over depth ns starts u ts n.rest more =
     shut means join stop starts u cs ns ss ts mu turns texts mark label over depth n.rest more m (first (stack_of named low depth) VarName n.b n.a n.rest there).more n.tokens in
     let p : Next v o.rest left = as_kind VarName v o.rest left n kind in
@@ -230,8 +268,11 @@ named_turns means join stop starts t v u cs ns ss ts is name mu turns texts mark
       left = s.left;
       row = units.dollar_name false (any_stops s.xs) n.b n.a s.xs s.ys s.row s.text_row;
       starts_is = refl;
-      spells = subst (λ (l : List Lexeme). Spells (tile CurlyOpen 123 [] ∷ tile Variable 36 (n.b ∷ n.a) ∷ behind) (new_lexeme (curly (hash_comment t)) ∷ new_lexeme (dollar_name (hash_comment v)) ∷ l)) (sym (news_append ns (hash_comment u ∷ ts)))
-          (led_spells [] refl CurlyOpen 123 [] (new_lexeme (curly (hash_comment t))) o.lead refl refl (tile Variable 36 (n.b ∷ n.a) ∷ behind) (new_lexeme (dollar_name (hash_comment v)) ∷ last)
+      spells = subst (λ (l : List Lexeme). Spells (tile CurlyOpen 123 [] ∷ tile Variable 36 (n.b ∷ n.a) ∷ behind)
+          (new_lexeme (curly (hash_comment t)) ∷ new_lexeme (dollar_name (hash_comment v)) ∷ l))
+          (sym (news_append ns (hash_comment u ∷ ts)))
+          (led_spells [] refl CurlyOpen 123 [] (new_lexeme (curly (hash_comment t))) o.lead refl refl
+          (tile Variable 36 (n.b ∷ n.a) ∷ behind) (new_lexeme (dollar_name (hash_comment v)) ∷ last)
           (led_spells [] refl Variable 36 (n.b ∷ n.a) (new_lexeme (dollar_name (hash_comment v))) refl refl text behind last
           (s.row_spells (hash_comment u) Op 125 [] refl (ap Some (sym mu.kind)) (kept_end u mu) s.r_ys (map new_lexeme ts) s.text_spells)));
       clean = clean_append s.ys (tile Op 125 [] ∷ s.r_ys) s.clean_row s.clean_text;
@@ -242,12 +283,17 @@ abbrev pub begins_other : List Token → Bool
 begins_other [] = true
 begins_other (t ∷ ts) = not (is_name_kind t.kind)
 
-other_first : (tiles : List Tile) (cs : List Token) (u : Token) (more : List Lexeme) → begins_other cs ≡ true → u.kind ≡ token.Op → spelled [] tiles ≡ map lexeme cs ++ lexeme u ∷ more → units.begins_var_name tiles ≡ false
+other_first : (tiles : List Tile) (cs : List Token) (u : Token) (more : List Lexeme) → begins_other cs ≡ true
+    → u.kind ≡ token.Op → spelled [] tiles ≡ map lexeme cs ++ lexeme u ∷ more → units.begins_var_name tiles ≡ false
 other_first tiles [] u more h op same = no_name_first tiles (lexeme u) more same (ap is_name_kind op)
 other_first tiles (c ∷ cs) u more h op same = no_name_first tiles (lexeme c) (map lexeme cs ++ lexeme u ∷ more) same (not-true (is_name_kind c.kind) h)
 
 -- `${..}`
-pub row_turns : Means → BecomesJoin → (stop starts : Bool) (t u : Token) (cs : List Token) (ns : List NewToken) (ss : List Token) (ts : List NewToken) → t.kind ≡ token.DollarBrace → begins_other cs ≡ true → IsMark 125 u → Turns false stop cs ns → TextTurns starts ss ts → TextTurns true (t ∷ (cs ++ u ∷ ss)) (curly (hash_comment t) ∷ put_also token.Op (codes "$") ∷ put_also token.Op (codes "{") ∷ (ns ++ retexted token.Op (codes "}") (hash_comment u) ∷ put_also token.Op (codes "}") ∷ ts))
+pub row_turns : Means → BecomesJoin → (stop starts : Bool) (t u : Token) (cs : List Token) (ns : List NewToken)
+    (ss : List Token) (ts : List NewToken) → t.kind ≡ token.DollarBrace → begins_other cs ≡ true → IsMark 125 u
+    → Turns false stop cs ns → TextTurns starts ss ts → TextTurns true (t ∷ (cs ++ u ∷ ss))
+    (curly (hash_comment t) ∷ put_also token.Op (codes "$") ∷ put_also token.Op (codes "{")
+    ∷ (ns ++ retexted token.Op (codes "}") (hash_comment u) ∷ put_also token.Op (codes "}") ∷ ts))
 row_turns means join stop starts t u cs ns ss ts is other mu turns texts mark label fresh over depth tiles more m steps same =
     let low = quoted mark label false ∷ over in
     let left = map lexeme (cs ++ u ∷ ss) ++ more in
@@ -269,8 +315,13 @@ row_turns means join stop starts t u cs ns ss ts is other mu turns texts mark la
           (name_front s.xs (tile Op 125 [] ∷ s.r_xs ++ s.rest)
           (subst (λ (l : List Tile). units.begins_var_name l ≡ false) (s.split ∙ append_assoc s.xs (tile Op 125 [] ∷ s.r_xs) s.rest) apart)) s.row s.text_row;
       starts_is = refl;
-      spells = subst (λ (l : List Lexeme). Spells (tile CurlyOpen 123 [] ∷ tile Op 36 [] ∷ tile Op 123 [] ∷ behind) (new_lexeme (curly (hash_comment t)) ∷ new_lexeme (put_also token.Op (codes "$")) ∷ new_lexeme (put_also token.Op (codes "{")) ∷ l)) (sym (news_append ns (close ∷ put_also token.Op (codes "}") ∷ ts)))
-          (led_spells [] refl CurlyOpen 123 [] (new_lexeme (curly (hash_comment t))) o.lead refl refl (tile Op 36 [] ∷ tile Op 123 [] ∷ behind) (new_lexeme (put_also token.Op (codes "$")) ∷ new_lexeme (put_also token.Op (codes "{")) ∷ last)
+      spells = subst (λ (l : List Lexeme). Spells (tile CurlyOpen 123 [] ∷ tile Op 36 [] ∷ tile Op 123 [] ∷ behind)
+          (new_lexeme (curly (hash_comment t)) ∷ new_lexeme (put_also token.Op (codes "$"))
+          ∷ new_lexeme (put_also token.Op (codes "{")) ∷ l))
+          (sym (news_append ns (close ∷ put_also token.Op (codes "}") ∷ ts)))
+          (led_spells [] refl CurlyOpen 123 [] (new_lexeme (curly (hash_comment t))) o.lead refl refl
+          (tile Op 36 [] ∷ tile Op 123 [] ∷ behind)
+          (new_lexeme (put_also token.Op (codes "$")) ∷ new_lexeme (put_also token.Op (codes "{")) ∷ last)
           (led_spells [] refl Op 36 [] (new_lexeme (put_also token.Op (codes "$"))) refl refl refl (tile Op 123 [] ∷ behind) (new_lexeme (put_also token.Op (codes "{")) ∷ last)
           (led_spells [] refl Op 123 [] (new_lexeme (put_also token.Op (codes "{"))) refl refl refl behind last
           (s.row_spells close Op 125 [] refl refl refl twice (new_lexeme (put_also token.Op (codes "}")) ∷ map new_lexeme ts)

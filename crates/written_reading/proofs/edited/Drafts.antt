@@ -116,7 +116,9 @@ abbrev pub part_draft : (Bool → Option Around) → Bool → NodeKind → Fores
 part_draft around i k c = (in_wrappings (wrapping (around i) (k, c)) (changed_node (k, c) (k, draft_in (within k c) true c))).1
 
 -- parts, a token, and other parts
-pub draft_behind : (around : Bool → Option Around) (i : Bool) (g : Forest) (u : Token) (h : Forest) → draft_tokens (draft_in around i (g +++ leaf u h)) ≡ draft_tokens (draft_in around i g) ++ hash_comment u ∷ draft_tokens (draft_in around false h)
+pub draft_behind : (around : Bool → Option Around) (i : Bool) (g : Forest) (u : Token) (h : Forest)
+    → draft_tokens (draft_in around i (g +++ leaf u h)) ≡ draft_tokens (draft_in around i g) ++ hash_comment u
+    ∷ draft_tokens (draft_in around false h)
 draft_behind around i none u h = refl
 draft_behind around i (leaf t g) u h = ap (λ (l : List NewToken). hash_comment t ∷ l) (draft_behind around false g u h)
 draft_behind around i (node k c g) u h =

@@ -78,7 +78,8 @@ front_more [] us h d = absurd cc
 front_more (t ∷ ts) us h d = d
 
 -- the parts of a node round which nothing is put
-pub free_draft : (around : Bool → Option Around) (i : Bool) (k : NodeKind) (c : Forest) → is_free (around i) ≡ true → part_draft around i k c ≡ (changed_node (k, c) (k, draft_in (within k c) true c)).1
+pub free_draft : (around : Bool → Option Around) (i : Bool) (k : NodeKind) (c : Forest) → is_free (around i) ≡ true
+    → part_draft around i k c ≡ (changed_node (k, c) (k, draft_in (within k c) true c)).1
 free_draft around i k c h =
     ap (λ (ws : List Wrapping). (in_wrappings ws (changed_node (k, c) (k, draft_in (within k c) true c))).1) (free_wrapping (around i) (k, c) h)
 
@@ -95,7 +96,10 @@ no_unset [] h d = cc
 no_unset (x ∷ xs) h d =
     let e : bytes_eq (bare (36 ∷ xs)) (codes "(unset)") ≡ true = subst (λ (y : ℕ). bytes_eq (bare (y ∷ xs)) (codes "(unset)") ≡ true) (eqb-true x 36 d) h in cc
 
-cast_front : (around : Bool → Option Around) (t : Token) (c : Forest) (x y : Bool) → is_real_cast (kind.Cast, leaf t c) ≡ x → is_edited (kind.Cast, leaf t c) ≡ y → Dollar (t.lead ++ t.text) → Dollar (new_front (draft_tokens (changed_node (kind.Cast, leaf t c) (kind.Cast, draft_in around true (leaf t c))).1))
+cast_front : (around : Bool → Option Around) (t : Token) (c : Forest) (x y : Bool)
+    → is_real_cast (kind.Cast, leaf t c) ≡ x → is_edited (kind.Cast, leaf t c) ≡ y → Dollar (t.lead ++ t.text)
+    → Dollar (new_front (draft_tokens (changed_node (kind.Cast, leaf t c)
+    (kind.Cast, draft_in around true (leaf t c))).1))
 cast_front around t c true y e g h = rw e (lead_front t.lead t.text (codes "(float)") h (λ d. absurd (no_real t.text e d)))
 cast_front around t c false true e g h =
     rw (e, g) (lead_front t.lead t.text (codes "(") h (λ d. absurd (no_unset t.text (and_parts (bytes_eq (bare t.text) (codes "(unset)")) (of_variable (leaf t c)) g).0 d)))
@@ -112,7 +116,9 @@ Kept f =
     Dollar (new_front (draft_tokens (draft_in around i f)))
 
 -- a node is kept at its front where the draft of its parts is
-node_kept : (around : Bool → Option Around) (i : Bool) (k : NodeKind) (c f : Forest) → is_free (around i) ≡ true → Dollar (new_front (draft_tokens (changed_node (k, c) (k, draft_in (within k c) true c)).1)) → Dollar (new_front (draft_tokens (draft_in around i (node k c f))))
+node_kept : (around : Bool → Option Around) (i : Bool) (k : NodeKind) (c f : Forest) → is_free (around i) ≡ true
+    → Dollar (new_front (draft_tokens (changed_node (k, c) (k, draft_in (within k c) true c)).1))
+    → Dollar (new_front (draft_tokens (draft_in around i (node k c f))))
 node_kept around i k c f free h =
     more_front (draft_tokens (part_draft around i k c)) (draft_tokens (draft_in around false f))
     (subst (λ (d : Draft). Dollar (new_front (draft_tokens d))) (sym (free_draft around i k c free)) h)
@@ -138,7 +144,9 @@ front_kept (brace_offset {i = m} {j} {t} {u} {b} {c} {f} pb mt pc mu pf) around 
     (front_kept pb (within kind.BraceOffset all) true refl plain (front_more (leaves b) [] some first)))
 front_kept (cast {j} {t} {b} {f} is pb pf) around i free plain h =
     node_kept around i kind.Cast (leaf t (node j b none)) f free
-    (cast_front (within kind.Cast (leaf t (node j b none))) t (node j b none) (is_real_cast (kind.Cast, leaf t (node j b none))) (is_edited (kind.Cast, leaf t (node j b none))) refl refl h)
+    (cast_front (within kind.Cast (leaf t (node j b none))) t (node j b none)
+    (is_real_cast (kind.Cast, leaf t (node j b none))) (is_edited (kind.Cast, leaf t (node j b none))) refl refl
+    h)
 front_kept (text {t} {c} {f} opens inner pf) around i free plain h =
     node_kept around i kind.Quoted (leaf t c) f free
     (subst (λ (d : Draft). Dollar (new_front (draft_tokens d))) (sym (opening_part (hash_comment t) (draft_in (within kind.Quoted (leaf t c)) false c) opens)) (hash_front t h))

@@ -69,7 +69,9 @@ pub record Last (h : Bool) (u : Token) (tiles : List Tile) (more : List Lexeme) 
   pub clean : all_clean ys ≡ true
   pub row : Becomes false (any_stops xs) (mode_of h) code xs ys
 
-pub last_of : Means → (below : List Mode) (depth : ℕ) (h : Bool) (u : Token) (tiles : List Tile) (more : List Lexeme) → is_edge u.kind ≡ false → has_more more ≡ true → Steps V74 (stack_of (mode_of h) below depth) tiles → spelled [] tiles ≡ lexeme u ∷ more → Last h u tiles more below depth
+pub last_of : Means → (below : List Mode) (depth : ℕ) (h : Bool) (u : Token) (tiles : List Tile) (more : List Lexeme)
+    → is_edge u.kind ≡ false → has_more more ≡ true → Steps V74 (stack_of (mode_of h) below depth) tiles
+    → spelled [] tiles ≡ lexeme u ∷ more → Last h u tiles more below depth
 last_of means below depth h u tiles more edge m steps same =
     let f : Front [] tiles (lexeme u) more = front_of means.front tiles (lexeme u) more m same in
     let behind = steps_inner means h below depth tiles (lexeme u) more f steps in
@@ -116,7 +118,9 @@ module _ (means : Means) (join : BecomesJoin) (below : List Mode) (depth : ℕ) 
         (led_spells l.ys l.free k c e (new_lexeme n) (l.lead ∙ ap after (sym lead)) is text us ls p);
   }
 
-  inside_some : (stop : Bool) (s : Token) (ss : List Token) (ts : List NewToken) (tiles : List Tile) → (f : Filled false stop s ss ts tiles (lexeme u ∷ more)) → Last (html_behind false (s ∷ ss)) u f.rest more below depth → Inside ts u tiles more below depth
+  inside_some : (stop : Bool) (s : Token) (ss : List Token) (ts : List NewToken) (tiles : List Tile)
+      → (f : Filled false stop s ss ts tiles (lexeme u ∷ more))
+      → Last (html_behind false (s ∷ ss)) u f.rest more below depth → Inside ts u tiles more below depth
   inside_some stop s ss ts tiles f l =
       let one = tile f.kind f.b f.a ∷ f.body in
       let new = tile f.k f.c f.e ∷ f.us in
@@ -143,18 +147,23 @@ module _ (means : Means) (join : BecomesJoin) (below : List Mode) (depth : ℕ) 
             subst (λ (x : List Tile). Spells x (map new_lexeme ts ++ new_lexeme n ∷ ls))
             (sym (append_assoc f.spaced (new ++ l.ys) (tile k c e ∷ us) ∙ ap (λ (x : List Tile). f.spaced ++ x) (append_assoc new l.ys (tile k c e ∷ us))))
             (subst (λ (x : List NewToken). Spells (f.spaced ++ (new ++ (l.ys ++ tile k c e ∷ us))) (map new_lexeme x ++ new_lexeme n ∷ ls)) (sym f.tokens)
-            (led_spells f.spaced f.free f.k f.c f.e (new_lexeme f.first) f.lead_is f.kind_is f.text_is (f.us ++ (l.ys ++ tile k c e ∷ us)) (map new_lexeme f.others ++ new_lexeme n ∷ ls)
+            (led_spells f.spaced f.free f.k f.c f.e (new_lexeme f.first) f.lead_is f.kind_is f.text_is
+            (f.us ++ (l.ys ++ tile k c e ∷ us)) (map new_lexeme f.others ++ new_lexeme n ∷ ls)
             (spells_join f.us (l.ys ++ tile k c e ∷ us) (map new_lexeme f.others) (new_lexeme n ∷ ls) f.spells
             (led_spells l.ys l.free k c e (new_lexeme n) (l.lead ∙ ap after (sym lead)) is text us ls p))));
       }
 
-  inside_row : (stop : Bool) (ss : List Token) (ts : List NewToken) (tiles : List Tile) → is_edge u.kind ≡ false → has_more more ≡ true → Steps V74 (stack_of code below depth) tiles → spelled [] tiles ≡ map lexeme ss ++ lexeme u ∷ more → Row false stop ss ts tiles (lexeme u ∷ more) → Inside ts u tiles more below depth
+  inside_row : (stop : Bool) (ss : List Token) (ts : List NewToken) (tiles : List Tile) → is_edge u.kind ≡ false
+      → has_more more ≡ true → Steps V74 (stack_of code below depth) tiles → spelled [] tiles ≡ map lexeme ss
+      ++ lexeme u ∷ more → Row false stop ss ts tiles (lexeme u ∷ more) → Inside ts u tiles more below depth
   inside_row stop [] ts tiles edge m steps same r = inside_none ts tiles r.1 (last_of means below depth false u tiles more edge m steps same)
   inside_row stop (s ∷ ss) ts tiles edge m steps same r =
       inside_some stop s ss ts tiles r
       (last_of means below depth (html_behind false (s ∷ ss)) u r.rest more edge m (steps_left r below depth steps) r.left)
 
   -- code up to a token
-  pub inside : (stop : Bool) (ss : List Token) (ts : List NewToken) (tiles : List Tile) → is_edge u.kind ≡ false → Turns false stop ss ts → has_more more ≡ true → Steps V74 (stack_of code below depth) tiles → spelled [] tiles ≡ map lexeme ss ++ lexeme u ∷ more → Inside ts u tiles more below depth
+  pub inside : (stop : Bool) (ss : List Token) (ts : List NewToken) (tiles : List Tile) → is_edge u.kind ≡ false
+      → Turns false stop ss ts → has_more more ≡ true → Steps V74 (stack_of code below depth) tiles
+      → spelled [] tiles ≡ map lexeme ss ++ lexeme u ∷ more → Inside ts u tiles more below depth
   inside stop ss ts tiles edge turns m steps same =
       inside_row stop ss ts tiles edge m steps same (turns below depth tiles (lexeme u ∷ more) refl steps same)

@@ -50,7 +50,8 @@ keyed_tokens (a_node {k} {c} {d} x y) = texts_append (draft_tokens c) (draft_tok
 
 -- ---- parentheses
 
-without_by : (k : NodeKind) (c d : Draft) (b : Bool) → Keyed c → Keyed (without_lead c) → Keyed d → Keyed (without_lead d) → Keyed (cond b (new_node k c (without_lead d)) (new_node k (without_lead c) d))
+without_by : (k : NodeKind) (c d : Draft) (b : Bool) → Keyed c → Keyed (without_lead c) → Keyed d
+    → Keyed (without_lead d) → Keyed (cond b (new_node k c (without_lead d)) (new_node k (without_lead c) d))
 without_by k c d true i j x y = a_node i y
 without_by k c d false i j x y = a_node j x
 
@@ -176,7 +177,8 @@ abbrev AllText : List Lexeme → Type 0
 AllText [] = Unit {0}
 AllText (x ∷ xs) = KeywordText x.kind x.text × AllText xs
 
-spelled_by : (k : Option TokenKind) (lead : List ℕ) (b : ℕ) (a : List ℕ) (rest : List ℕ → List Lexeme) → ((l : List ℕ) → AllText (rest l)) → AllText (lexeme_with k lead (b ∷ a) rest)
+spelled_by : (k : Option TokenKind) (lead : List ℕ) (b : ℕ) (a : List ℕ) (rest : List ℕ → List Lexeme)
+    → ((l : List ℕ) → AllText (rest l)) → AllText (lexeme_with k lead (b ∷ a) rest)
 spelled_by None lead b a rest h = h (lead ++ b ∷ a)
 spelled_by (Some k) lead b a rest h = (λ w. refl, h [])
 
@@ -194,6 +196,7 @@ leaves_keyed (node k c f) rest h =
 
 pub keywords_have_text : (bytes : List ℕ) (f : File) → Reads V74 bytes f → KeywordsHaveText (draft_tokens (nameless_draft f).statements)
 keywords_have_text bytes f r =
-    let row = tokens_are_tiles V74 start [] bytes (map lexeme (file_leaves f)) (subst (λ (ts : List Token). Lexed V74 start [] bytes (map lexeme ts)) r.parsed.text r.lexed.lexed) in
+    let row = tokens_are_tiles V74 start [] bytes (map lexeme (file_leaves f))
+    (subst (λ (ts : List Token). Lexed V74 start [] bytes (map lexeme ts)) r.parsed.text r.lexed.lexed) in
     let texts : AllText (map lexeme (file_leaves f)) = subst AllText row.tokens (spelled_text [] row.tiles) in
     keyed_tokens (keyed_drafted (patches f.statements) 0 f.statements (leaves_keyed f.statements (f.end ∷ []) texts).0)

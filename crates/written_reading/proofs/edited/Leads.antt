@@ -4,7 +4,25 @@ use Rattle.std.proofs.lemmas.Bool.{and_parts}
 use Rattle.php_tree.specs.declared.version.Version.TheVariants.{V74}
 use Rattle.php_tree.specs.declared.token.Token.{Token}
 use Rattle.php_spellings.specs.declared.table.Kind.{Kind}
-use Rattle.php_spellings.specs.declared.table.Kind.TheVariants.{Space, Comment, Tag, InlineHtml, Name, Text, Quote, Backtick, HeredocStart, Op, AttributeOpen, Close, Piece, CurlyOpen, DollarBrace, VarName, QuotedEnd}
+use Rattle.php_spellings.specs.declared.table.Kind.TheVariants.{
+  Space,
+  Comment,
+  Tag,
+  InlineHtml,
+  Name,
+  Text,
+  Quote,
+  Backtick,
+  HeredocStart,
+  Op,
+  AttributeOpen,
+  Close,
+  Piece,
+  CurlyOpen,
+  DollarBrace,
+  VarName,
+  QuotedEnd,
+}
 use Rattle.php_spellings.specs.Words.{token_of}
 use Rattle.php_lexer.specs.Modes.{Mode, html, code, IsLongest}
 use Rattle.php_lexer.specs.Lexed.{Lexeme, lexeme}
@@ -73,7 +91,9 @@ pub record Means : Type 0 where
   pub nowdocs : NowdocsBecome
 
 module _ (means : Means) where
-  html_lead : (below : List Mode) (depth : ℕ) (ts rest : List Tile) → all_trivia ts ≡ true → Steps V74 (stack_of html below depth) (ts ++ rest) → Becomes false (any_stops ts) html (mode_of (inner_mode true ts)) ts (spaced_trivia ts)
+  html_lead : (below : List Mode) (depth : ℕ) (ts rest : List Tile) → all_trivia ts ≡ true
+      → Steps V74 (stack_of html below depth) (ts ++ rest) → Becomes false (any_stops ts) html
+      (mode_of (inner_mode true ts)) ts (spaced_trivia ts)
   html_lead below depth [] rest p steps = means.loosely.nothing html
   html_lead below depth (tile Tag b a ∷ ts) rest p steps = means.trivia html (tile Tag b a ∷ ts) p refl
   html_lead below depth (tile Space b a ∷ ts) rest p steps = absurd (no_html Space (b ∷ a) (joined (ts ++ rest)) refl (step_longest steps))
@@ -84,24 +104,33 @@ module _ (means : Means) where
   code_lead [] p = means.loosely.nothing code
   code_lead (t ∷ ts) p = means.trivia code (t ∷ ts) p refl
 
-  pub lead_becomes : (h : Bool) (below : List Mode) (depth : ℕ) (ts rest : List Tile) → all_trivia ts ≡ true → Steps V74 (stack_of (mode_of h) below depth) (ts ++ rest) → Becomes false (any_stops ts) (mode_of h) (mode_of (inner_mode h ts)) ts (spaced_trivia ts)
+  pub lead_becomes : (h : Bool) (below : List Mode) (depth : ℕ) (ts rest : List Tile) → all_trivia ts ≡ true
+      → Steps V74 (stack_of (mode_of h) below depth) (ts ++ rest)
+      → Becomes false (any_stops ts) (mode_of h) (mode_of (inner_mode h ts)) ts (spaced_trivia ts)
   lead_becomes true below depth ts rest p steps = html_lead below depth ts rest p steps
   lead_becomes false below depth ts rest p steps = code_lead ts p
 
   -- the trivia at the front of a row
-  pub front_becomes : (h : Bool) (below : List Mode) (depth : ℕ) (tiles : List Tile) (l : Lexeme) (more : List Lexeme) → (f : Front [] tiles l more) → Steps V74 (stack_of (mode_of h) below depth) tiles → Becomes false (any_stops f.trivia) (mode_of h) (mode_of (inner_mode h f.trivia)) f.trivia (spaced_trivia f.trivia)
+  pub front_becomes : (h : Bool) (below : List Mode) (depth : ℕ) (tiles : List Tile) (l : Lexeme) (more : List Lexeme)
+      → (f : Front [] tiles l more) → Steps V74 (stack_of (mode_of h) below depth) tiles
+      → Becomes false (any_stops f.trivia) (mode_of h) (mode_of (inner_mode h f.trivia)) f.trivia
+      (spaced_trivia f.trivia)
   front_becomes h below depth tiles l more f steps =
       lead_becomes h below depth f.trivia (tile f.kind f.b f.a ∷ f.rest) f.free
       (subst (λ (ts : List Tile). Steps V74 (stack_of (mode_of h) below depth) ts) f.whole steps)
 
   -- the steps behind the trivia
-  pub steps_inner : (h : Bool) (below : List Mode) (depth : ℕ) (tiles : List Tile) (l : Lexeme) (more : List Lexeme) → (f : Front [] tiles l more) → Steps V74 (stack_of (mode_of h) below depth) tiles → Steps V74 (stack_of (mode_of (inner_mode h f.trivia)) below depth) (tile f.kind f.b f.a ∷ f.rest)
+  pub steps_inner : (h : Bool) (below : List Mode) (depth : ℕ) (tiles : List Tile) (l : Lexeme) (more : List Lexeme)
+      → (f : Front [] tiles l more) → Steps V74 (stack_of (mode_of h) below depth) tiles
+      → Steps V74 (stack_of (mode_of (inner_mode h f.trivia)) below depth) (tile f.kind f.b f.a ∷ f.rest)
   steps_inner h below depth tiles l more f steps =
       (front_becomes h below depth tiles l more f steps).source below depth (tile f.kind f.b f.a ∷ f.rest)
       (subst (λ (ts : List Tile). Steps V74 (stack_of (mode_of h) below depth) ts) f.whole steps)
 
   -- the bytes of the written trivia
-  pub lead_written : (h : Bool) (below : List Mode) (depth : ℕ) (tiles : List Tile) (l : Lexeme) (more : List Lexeme) → (f : Front [] tiles l more) → Steps V74 (stack_of (mode_of h) below depth) tiles → joined (spaced_trivia f.trivia) ≡ after (spaced outside l.lead)
+  pub lead_written : (h : Bool) (below : List Mode) (depth : ℕ) (tiles : List Tile) (l : Lexeme) (more : List Lexeme)
+      → (f : Front [] tiles l more) → Steps V74 (stack_of (mode_of h) below depth) tiles
+      → joined (spaced_trivia f.trivia) ≡ after (spaced outside l.lead)
   lead_written h below depth tiles l more f steps =
       sym (means.written (stack_of (mode_of h) below depth) f.trivia (tile f.kind f.b f.a ∷ f.rest) f.free
       (subst (λ (ts : List Tile). Steps V74 (stack_of (mode_of h) below depth) ts) f.whole steps))
@@ -159,7 +188,9 @@ module _ (means : Means) where
 
   -- ---- tokens that stay
 
-  kept_html : (kind : Kind) (b : ℕ) (a r : List ℕ) → IsLongest V74 html (b ∷ a ++ r) kind (suc (length a)) → Becomes false (any_stops (tile kind b a ∷ [])) html (mode_of (leaves_html (token_like kind))) (tile kind b a ∷ []) (tile kind b a ∷ [])
+  kept_html : (kind : Kind) (b : ℕ) (a r : List ℕ) → IsLongest V74 html (b ∷ a ++ r) kind (suc (length a))
+      → Becomes false (any_stops (tile kind b a ∷ [])) html (mode_of (leaves_html (token_like kind)))
+      (tile kind b a ∷ []) (tile kind b a ∷ [])
   kept_html Close b a r l = absurd (let e = longest_meets is_close V74 html (b ∷ a) r Close refl l in cc)
     where
       is_close : Kind → Bool
@@ -173,7 +204,9 @@ module _ (means : Means) where
   kept_text b a true h = means.codes Text b a h
   kept_text b a false h = means.nowdocs b a h
 
-  kept_op : (b : ℕ) (a : List ℕ) (p q s t : Bool) → nat_eq b 40 ≡ p → nat_eq b 41 ≡ q → nat_eq b 123 ≡ s → nat_eq b 125 ≡ t → (p || (q || (s || t))) ≡ false → Becomes false true code code (tile Op b a ∷ []) (tile Op b a ∷ [])
+  kept_op : (b : ℕ) (a : List ℕ) (p q s t : Bool) → nat_eq b 40 ≡ p → nat_eq b 41 ≡ q → nat_eq b 123 ≡ s
+      → nat_eq b 125 ≡ t → (p || (q || (s || t))) ≡ false → Becomes false true code code (tile Op b a ∷ [])
+      (tile Op b a ∷ [])
   kept_op b a true q s t e f g h m = absurd cc
   kept_op b a false true s t e f g h m = absurd cc
   kept_op b a false false true t e f g h m = absurd cc
@@ -182,7 +215,11 @@ module _ (means : Means) where
       subst (λ (x : Bool). Becomes x true code code (tile Op b a ∷ []) (tile Op b a ∷ [])) e
       (means.codes Op b a (rw (g, h) refl))
 
-  kept_code : (kind : Kind) (b : ℕ) (a r : List ℕ) → is_code_kind (token_like kind) ≡ true → (is_op (token_like kind) ≡ true → is_marked (b ∷ a) ≡ false) → IsLongest V74 code (b ∷ a ++ r) kind (suc (length a)) → Becomes false (any_stops (tile kind b a ∷ [])) code (mode_of (leaves_html (token_like kind))) (tile kind b a ∷ []) (tile kind b a ∷ [])
+  kept_code : (kind : Kind) (b : ℕ) (a r : List ℕ) → is_code_kind (token_like kind) ≡ true
+      → (is_op (token_like kind) ≡ true → is_marked (b ∷ a) ≡ false)
+      → IsLongest V74 code (b ∷ a ++ r) kind (suc (length a))
+      → Becomes false (any_stops (tile kind b a ∷ [])) code (mode_of (leaves_html (token_like kind)))
+      (tile kind b a ∷ []) (tile kind b a ∷ [])
   kept_code Space b a r p m l = absurd cc
   kept_code Comment b a r p m l = absurd cc
   kept_code Tag b a r p m l = absurd cc
@@ -205,7 +242,11 @@ module _ (means : Means) where
   kept_code Op b a r p m l = kept_op b a (nat_eq b 40) (nat_eq b 41) (nat_eq b 123) (nat_eq b 125) refl refl refl refl (no_mark b a r (m refl) l)
   kept_code kind b a r p m l = means.codes kind b a refl
 
-  pub kept : (h : Bool) (kind : Kind) (b : ℕ) (a r : List ℕ) → is_code_kind (token_like kind) ≡ true → (is_op (token_like kind) ≡ true → is_marked (b ∷ a) ≡ false) → IsLongest V74 (mode_of h) (b ∷ a ++ r) kind (suc (length a)) → Becomes false (any_stops (tile kind b a ∷ [])) (mode_of h) (mode_of (leaves_html (token_like kind))) (tile kind b a ∷ []) (tile kind b a ∷ [])
+  pub kept : (h : Bool) (kind : Kind) (b : ℕ) (a r : List ℕ) → is_code_kind (token_like kind) ≡ true
+      → (is_op (token_like kind) ≡ true → is_marked (b ∷ a) ≡ false)
+      → IsLongest V74 (mode_of h) (b ∷ a ++ r) kind (suc (length a))
+      → Becomes false (any_stops (tile kind b a ∷ [])) (mode_of h) (mode_of (leaves_html (token_like kind)))
+      (tile kind b a ∷ []) (tile kind b a ∷ [])
   kept true kind b a r p m l = kept_html kind b a r l
   kept false kind b a r p m l = kept_code kind b a r p m l
 

@@ -39,17 +39,25 @@ ends_coded h (t ∷ []) e = edge_leaves t.kind (not-true (is_edge t.kind) e)
 ends_coded h (t ∷ u ∷ ts) e = ends_coded (leaves_html t.kind) (u ∷ ts) e
 
 -- a node's tokens in parentheses
-in_wraps : RoundsComeIn → (ws : List Wrapping) (h : Bool) (t : Token) (ss : List Token) → is_edge t.kind ≡ false → html_behind h (t ∷ ss) ≡ false → (n : NewTree) → Turns h true (t ∷ ss) (draft_tokens n.1) → Turns h true (t ∷ ss) (draft_tokens (in_wrappings ws n).1)
+in_wraps : RoundsComeIn → (ws : List Wrapping) (h : Bool) (t : Token) (ss : List Token) → is_edge t.kind ≡ false
+    → html_behind h (t ∷ ss) ≡ false → (n : NewTree) → Turns h true (t ∷ ss) (draft_tokens n.1)
+    → Turns h true (t ∷ ss) (draft_tokens (in_wrappings ws n).1)
 in_wraps rounds [] h t ss edge coded n turns = turns
 in_wraps rounds (InParens ∷ ws) h t ss edge coded n turns =
     wrapped_turns rounds h t ss edge coded (in_wrappings ws n).1 (in_wraps rounds ws h t ss edge coded n turns)
 
-some_wraps : RoundsComeIn → (ws : List Wrapping) (h : Bool) (ss : List Token) → begins_inside ss ≡ true → ends_inside ss ≡ true → (n : NewTree) → Turns h true ss (draft_tokens n.1) → Turns h true ss (draft_tokens (in_wrappings ws n).1)
+some_wraps : RoundsComeIn → (ws : List Wrapping) (h : Bool) (ss : List Token) → begins_inside ss ≡ true
+    → ends_inside ss ≡ true → (n : NewTree) → Turns h true ss (draft_tokens n.1)
+    → Turns h true ss (draft_tokens (in_wrappings ws n).1)
 some_wraps rounds ws h [] b e n turns = absurd cc
 some_wraps rounds ws h (t ∷ ss) b e n turns = in_wraps rounds ws h t ss (not-true (is_edge t.kind) b) (ends_coded h (t ∷ ss) e) n turns
 
 -- A node in what is put round it, where only nodes that may be grouped are put in parentheses.
-pub node_turns : RoundsComeIn → (ws : List Wrapping) (h stop : Bool) (k : NodeKind) (c : Forest) (n : NewTree) → (is_wrapped ws ≡ true → may_be_grouped (k, c) ≡ true) → (may_be_grouped (k, c) ≡ true → (stop ≡ true) × (begins_inside (leaves c) ≡ true) × (ends_inside (leaves c) ≡ true)) → Turns h stop (leaves c) (draft_tokens n.1) → Turns h false (leaves c) (draft_tokens (in_wrappings ws n).1)
+pub node_turns : RoundsComeIn → (ws : List Wrapping) (h stop : Bool) (k : NodeKind) (c : Forest) (n : NewTree)
+    → (is_wrapped ws ≡ true → may_be_grouped (k, c) ≡ true) →
+    (may_be_grouped (k, c) ≡ true → (stop ≡ true) × (begins_inside (leaves c) ≡ true)
+    × (ends_inside (leaves c) ≡ true)) → Turns h stop (leaves c) (draft_tokens n.1)
+    → Turns h false (leaves c) (draft_tokens (in_wrappings ws n).1)
 node_turns rounds [] h stop k c n grouped fits turns = unstopped h stop (leaves c) (draft_tokens n.1) turns
 node_turns rounds (w ∷ ws) h stop k c n grouped fits turns =
     let f = fits (grouped refl) in
@@ -58,13 +66,17 @@ node_turns rounds (w ∷ ws) h stop k c n grouped fits turns =
     (subst (λ (x : Bool). Turns h x (leaves c) (draft_tokens n.1)) f.0 turns))
 
 -- a node by where it stands
-pub standing_turns : RoundsComeIn → (a : Option Around) (h : Bool) (k : NodeKind) (c : Forest) (n : NewTree) → IsStanding k c → Turns h (has_stop c) (leaves c) (draft_tokens n.1) → Turns h false (leaves c) (draft_tokens (in_wrappings (wrapping a (k, c)) n).1)
+pub standing_turns : RoundsComeIn → (a : Option Around) (h : Bool) (k : NodeKind) (c : Forest) (n : NewTree)
+    → IsStanding k c → Turns h (has_stop c) (leaves c) (draft_tokens n.1)
+    → Turns h false (leaves c) (draft_tokens (in_wrappings (wrapping a (k, c)) n).1)
 standing_turns rounds a h k c n standing turns =
     node_turns rounds (wrapping a (k, c)) h (has_stop c) k c n (wrapped_groups a (k, c))
     (λ g. let e = grouped_expression k _ g in (standing.stops g, standing.begins e, standing.ends e)) turns
 
 -- a node that is never grouped
-pub plain_turns : RoundsComeIn → (a : Option Around) (h stop : Bool) (k : NodeKind) (c : Forest) (n : NewTree) → may_be_grouped (k, c) ≡ false → Turns h stop (leaves c) (draft_tokens n.1) → Turns h false (leaves c) (draft_tokens (in_wrappings (wrapping a (k, c)) n).1)
+pub plain_turns : RoundsComeIn → (a : Option Around) (h stop : Bool) (k : NodeKind) (c : Forest) (n : NewTree)
+    → may_be_grouped (k, c) ≡ false → Turns h stop (leaves c) (draft_tokens n.1)
+    → Turns h false (leaves c) (draft_tokens (in_wrappings (wrapping a (k, c)) n).1)
 plain_turns rounds a h stop k c n single turns =
     node_turns rounds (wrapping a (k, c)) h stop k c n (wrapped_groups a (k, c))
     (λ g. absurd (let clash : true ≡ false = sym g ∙ single in cc)) turns

@@ -6,7 +6,25 @@ use Rattle.php_tree.specs.declared.token.Token.{Token}
 use Rattle.php_tree.specs.declared.token.TokenKind.{TokenKind}
 use Rattle.php_tree.specs.declared.token.TokenKind.TheVariants as token
 use Rattle.php_spellings.specs.declared.table.Kind.{Kind}
-use Rattle.php_spellings.specs.declared.table.Kind.TheVariants.{Space, Comment, Tag, Variable, Word, Label, Keyword, Decimal, Octal, Hexadecimal, Binary, Op, Piece, CurlyOpen, DollarBrace, VarName, QuotedEnd}
+use Rattle.php_spellings.specs.declared.table.Kind.TheVariants.{
+  Space,
+  Comment,
+  Tag,
+  Variable,
+  Word,
+  Label,
+  Keyword,
+  Decimal,
+  Octal,
+  Hexadecimal,
+  Binary,
+  Op,
+  Piece,
+  CurlyOpen,
+  DollarBrace,
+  VarName,
+  QuotedEnd,
+}
 use Rattle.php_spellings.specs.declared.table.Mark.{Mark}
 use Rattle.php_spellings.specs.declared.table.Mark.TheVariants.{Double, Back, Here}
 use Rattle.php_spellings.specs.Bytes.{lower, is_empty, begins_by}
@@ -101,7 +119,9 @@ pub property_bare : NoTrivia property
 property_bare kind b a r p h = let none : false ≡ true = longest_meets is_trivia V74 property (b ∷ a) r kind p h in cc
 
 -- behind a variable of a quoted text
-part_bare : (mark : Mark) (label : List ℕ) (stack : Stack) (t u : Bool) → NoTrivia (turned_by (cond t (enter offset (quoted mark label false)) (cond u (enter property (quoted mark label false)) (stay (quoted mark label false)))) stack).top
+part_bare : (mark : Mark) (label : List ℕ) (stack : Stack) (t u : Bool)
+    → NoTrivia (turned_by (cond t (enter offset (quoted mark label false))
+    (cond u (enter property (quoted mark label false)) (stay (quoted mark label false)))) stack).top
 part_bare mark label stack true u = offset_bare
 part_bare mark label stack false true = property_bare
 part_bare mark label stack false false = quoted_bare mark label false
@@ -140,14 +160,17 @@ next_by t tiles more f none = record {
   tokens = f.tokens;
 }
 
-pub next_of : FrontOfRow → (stack : Stack) → NoTrivia stack.top → (t : Token) (tiles : List Tile) (more : List Lexeme) → has_more more ≡ true → Steps V74 stack tiles → spelled [] tiles ≡ lexeme t ∷ more → Next t tiles more
+pub next_of : FrontOfRow → (stack : Stack) → NoTrivia stack.top → (t : Token) (tiles : List Tile) (more : List Lexeme)
+    → has_more more ≡ true → Steps V74 stack tiles → spelled [] tiles ≡ lexeme t ∷ more → Next t tiles more
 next_of front stack bare t tiles more m steps same =
     let f : Front [] tiles (lexeme t) more = front_of front tiles (lexeme t) more m same in
     next_by t tiles more f
     (no_gap stack bare f.trivia (tile f.kind f.b f.a ∷ f.rest) f.free (subst (λ (ts : List Tile). Steps V74 stack ts) f.whole steps))
 
 -- the tile that is kept for it
-pub next_spells : (t : Token) (tiles : List Tile) (more : List Lexeme) → (n : Next t tiles more) → (us : List Tile) (ls : List Lexeme) → Spells us ls → Spells (tile n.kind n.b n.a ∷ us) (new_lexeme (hash_comment t) ∷ ls)
+pub next_spells : (t : Token) (tiles : List Tile) (more : List Lexeme) → (n : Next t tiles more)
+    → (us : List Tile) (ls : List Lexeme) → Spells us ls → Spells (tile n.kind n.b n.a ∷ us)
+    (new_lexeme (hash_comment t) ∷ ls)
 next_spells t tiles more n us ls p =
     led_spells [] refl n.kind n.b n.a (new_lexeme (hash_comment t)) (sym (ap (λ (l : List ℕ). after (spaced outside l)) n.lead)) n.is (n.text ∙ sym (append-nil t.text)) us ls p
 
@@ -175,7 +198,9 @@ curly_by b a r x h =
     ap (λ (y : ℕ). tile CurlyOpen y a) (mark_same 123 b refl p.0) ∙ ap (tile CurlyOpen 123) (empty_is a (and_parts (is_empty a) x p.1).0)
 
 -- `{` is one byte
-pub curly_tile : (mark : Mark) (label : List ℕ) (fresh : Bool) (b : ℕ) (a r : List ℕ) → IsLongest V74 (quoted mark label fresh) (b ∷ a ++ r) CurlyOpen (suc (length a)) → tile CurlyOpen b a ≡ tile CurlyOpen 123 []
+pub curly_tile : (mark : Mark) (label : List ℕ) (fresh : Bool) (b : ℕ) (a r : List ℕ)
+    → IsLongest V74 (quoted mark label fresh) (b ∷ a ++ r) CurlyOpen (suc (length a))
+    → tile CurlyOpen b a ≡ tile CurlyOpen 123 []
 curly_tile Double label fresh b a r h = curly_by b a r (begins_by 36 r) (longest_meets is_curly V74 (quoted Double label fresh) (b ∷ a) r CurlyOpen refl h)
 curly_tile Back label fresh b a r h = curly_by b a r (begins_by 36 r) (longest_meets is_curly V74 (quoted Back label fresh) (b ∷ a) r CurlyOpen refl h)
 curly_tile Here label true b a r h = curly_by b a r (begins_by 36 r) (longest_meets is_curly V74 (quoted Here label true) (b ∷ a) r CurlyOpen refl h)
@@ -192,33 +217,43 @@ brace_by x a h =
     ap (λ (y : ℕ). y ∷ a) (mark_same 123 x refl q.0) ∙ ap (λ (l : List ℕ). 123 ∷ l) (empty_is a (and_parts (is_empty a) true q.1).0)
 
 -- `${` is two bytes
-pub dollar_tile : (mark : Mark) (label : List ℕ) (fresh : Bool) (b : ℕ) (a r : List ℕ) → IsLongest V74 (quoted mark label fresh) (b ∷ a ++ r) DollarBrace (suc (length a)) → tile DollarBrace b a ≡ tile DollarBrace 36 (123 ∷ [])
+pub dollar_tile : (mark : Mark) (label : List ℕ) (fresh : Bool) (b : ℕ) (a r : List ℕ)
+    → IsLongest V74 (quoted mark label fresh) (b ∷ a ++ r) DollarBrace (suc (length a))
+    → tile DollarBrace b a ≡ tile DollarBrace 36 (123 ∷ [])
 dollar_tile Double label fresh b [] r h = dollar_by b [] false (longest_meets is_dollar V74 (quoted Double label fresh) (b ∷ []) r DollarBrace refl h) (λ e. absurd cc)
-dollar_tile Double label fresh b (x ∷ a) r h = dollar_by b (x ∷ a) (nat_eq 123 (lower x) && (is_empty a && true)) (longest_meets is_dollar V74 (quoted Double label fresh) (b ∷ x ∷ a) r DollarBrace refl h) (brace_by x a)
+dollar_tile Double label fresh b (x ∷ a) r h = dollar_by b (x ∷ a) (nat_eq 123 (lower x) && (is_empty a && true))
+    (longest_meets is_dollar V74 (quoted Double label fresh) (b ∷ x ∷ a) r DollarBrace refl h) (brace_by x a)
 dollar_tile Back label fresh b [] r h = dollar_by b [] false (longest_meets is_dollar V74 (quoted Back label fresh) (b ∷ []) r DollarBrace refl h) (λ e. absurd cc)
-dollar_tile Back label fresh b (x ∷ a) r h = dollar_by b (x ∷ a) (nat_eq 123 (lower x) && (is_empty a && true)) (longest_meets is_dollar V74 (quoted Back label fresh) (b ∷ x ∷ a) r DollarBrace refl h) (brace_by x a)
+dollar_tile Back label fresh b (x ∷ a) r h = dollar_by b (x ∷ a) (nat_eq 123 (lower x) && (is_empty a && true))
+    (longest_meets is_dollar V74 (quoted Back label fresh) (b ∷ x ∷ a) r DollarBrace refl h) (brace_by x a)
 dollar_tile Here label true b [] r h = dollar_by b [] false (longest_meets is_dollar V74 (quoted Here label true) (b ∷ []) r DollarBrace refl h) (λ e. absurd cc)
-dollar_tile Here label true b (x ∷ a) r h = dollar_by b (x ∷ a) (nat_eq 123 (lower x) && (is_empty a && true)) (longest_meets is_dollar V74 (quoted Here label true) (b ∷ x ∷ a) r DollarBrace refl h) (brace_by x a)
+dollar_tile Here label true b (x ∷ a) r h = dollar_by b (x ∷ a) (nat_eq 123 (lower x) && (is_empty a && true))
+    (longest_meets is_dollar V74 (quoted Here label true) (b ∷ x ∷ a) r DollarBrace refl h) (brace_by x a)
 dollar_tile Here label false b [] r h = dollar_by b [] false (longest_meets is_dollar V74 (quoted Here label false) (b ∷ []) r DollarBrace refl h) (λ e. absurd cc)
-dollar_tile Here label false b (x ∷ a) r h = dollar_by b (x ∷ a) (nat_eq 123 (lower x) && (is_empty a && true)) (longest_meets is_dollar V74 (quoted Here label false) (b ∷ x ∷ a) r DollarBrace refl h) (brace_by x a)
+dollar_tile Here label false b (x ∷ a) r h = dollar_by b (x ∷ a) (nat_eq 123 (lower x) && (is_empty a && true))
+    (longest_meets is_dollar V74 (quoted Here label false) (b ∷ x ∷ a) r DollarBrace refl h) (brace_by x a)
 
 -- ---- names behind `${`
 
-no_var : (below : List Mode) (depth : ℕ) (ts : List Tile) (b : ℕ) (a : List ℕ) (rest : List Tile) → all_trivia ts ≡ true → Steps V74 (stack_of code below depth) (ts ++ tile VarName b a ∷ rest) → ⊥
+no_var : (below : List Mode) (depth : ℕ) (ts : List Tile) (b : ℕ) (a : List ℕ) (rest : List Tile)
+    → all_trivia ts ≡ true → Steps V74 (stack_of code below depth) (ts ++ tile VarName b a ∷ rest) → ⊥
 no_var below depth [] b a rest p steps = let none : false ≡ true = longest_meets is_var_name V74 code (b ∷ a) (joined rest) VarName refl (step_longest steps) in cc
 no_var below depth (tile Space x y ∷ ts) b a rest p steps = no_var below depth ts b a rest p (step_behind steps)
 no_var below depth (tile Comment x y ∷ ts) b a rest p steps = no_var below depth ts b a rest p (step_behind steps)
 no_var below depth (tile Tag x y ∷ ts) b a rest p steps = no_var below depth ts b a rest p (step_behind steps)
 no_var below depth (tile _ x y ∷ ts) b a rest p steps = cc
 
-name_gap : (below : List Mode) (depth : ℕ) (ts : List Tile) (b : ℕ) (a : List ℕ) (rest : List Tile) → all_trivia ts ≡ true → Steps V74 (stack_of named below depth) (ts ++ tile VarName b a ∷ rest) → ts ≡ []
+name_gap : (below : List Mode) (depth : ℕ) (ts : List Tile) (b : ℕ) (a : List ℕ) (rest : List Tile)
+    → all_trivia ts ≡ true → Steps V74 (stack_of named below depth) (ts ++ tile VarName b a ∷ rest) → ts ≡ []
 name_gap below depth [] b a rest p steps = refl
 name_gap below depth (tile Space x y ∷ ts) b a rest p steps = absurd (no_var below depth ts b a rest p (step_behind steps))
 name_gap below depth (tile Comment x y ∷ ts) b a rest p steps = absurd (no_var below depth ts b a rest p (step_behind steps))
 name_gap below depth (tile Tag x y ∷ ts) b a rest p steps = absurd (no_var below depth ts b a rest p (step_behind steps))
 name_gap below depth (tile _ x y ∷ ts) b a rest p steps = absurd cc
 
-pub next_name : FrontOfRow → (below : List Mode) (depth : ℕ) (t : Token) (tiles : List Tile) (more : List Lexeme) → t.kind ≡ token.VarName → has_more more ≡ true → Steps V74 (stack_of named below depth) tiles → spelled [] tiles ≡ lexeme t ∷ more → Next t tiles more
+pub next_name : FrontOfRow → (below : List Mode) (depth : ℕ) (t : Token) (tiles : List Tile) (more : List Lexeme)
+    → t.kind ≡ token.VarName → has_more more ≡ true → Steps V74 (stack_of named below depth) tiles
+    → spelled [] tiles ≡ lexeme t ∷ more → Next t tiles more
 next_name front below depth t tiles more name m steps same =
     let f : Front [] tiles (lexeme t) more = front_of front tiles (lexeme t) more m same in
     let kind : f.kind ≡ VarName = tile_by token.VarName refl f.kind (f.b ∷ f.a) t.kind name f.is in
@@ -245,7 +280,8 @@ not_name : (kind : Kind) (b : ℕ) (a : List ℕ) (ts : List Tile) → begins_va
 not_name VarName b a ts h = absurd cc
 not_name kind b a ts h = refl
 
-pub named_code : (below : List Mode) (depth : ℕ) (tiles : List Tile) → begins_var_name tiles ≡ false → Steps V74 (stack_of named below depth) tiles → Steps V74 (stack_of code below depth) tiles
+pub named_code : (below : List Mode) (depth : ℕ) (tiles : List Tile) → begins_var_name tiles ≡ false
+    → Steps V74 (stack_of named below depth) tiles → Steps V74 (stack_of code below depth) tiles
 named_code below depth [] h (done p) = done p
 named_code below depth (tile kind b a ∷ ts) h steps = named_steps below depth kind b a ts (not_name kind b a ts h) steps
 
@@ -283,5 +319,6 @@ label_like Word b a r p h = absurd (no_word Word b a r refl h)
 label_like Keyword b a r p h = absurd (no_word Keyword b a r refl h)
 label_like kind b a r p h = absurd cc
 
-pub label_tile : (kind : Kind) (b : ℕ) (a r : List ℕ) (k : TokenKind) → k ≡ token.Label → token_of kind (b ∷ a) ≡ Some k → IsLongest V74 property (b ∷ a ++ r) kind (suc (length a)) → kind ≡ Label
+pub label_tile : (kind : Kind) (b : ℕ) (a r : List ℕ) (k : TokenKind) → k ≡ token.Label
+    → token_of kind (b ∷ a) ≡ Some k → IsLongest V74 property (b ∷ a ++ r) kind (suc (length a)) → kind ≡ Label
 label_tile kind b a r k same e h = label_like kind b a r (sym (told is_word_kind refl refl kind (b ∷ a) k e) ∙ ap is_word_kind same) h

@@ -18,7 +18,20 @@ use Rattle.written_tokens.specs.tokens.Levels.{stack_of}
 use Rattle.written_tokens.specs.tiles.Goes.{is_trivia}
 use Rattle.written_tokens.specs.tiles.Becomes.{gap_behind, Becomes}
 use Rattle.written_tokens.specs.tiles.Going.{any_stops}
-use Rattle.written_tokens.specs.texts.TextRows.{TextRow, quote_end, piece, escaped_piece, variable, with_offset, with_property, curly, dollar_name, dollar_row, opens_text, TextsBecome}
+use Rattle.written_tokens.specs.texts.TextRows.{
+  TextRow,
+  quote_end,
+  piece,
+  escaped_piece,
+  variable,
+  with_offset,
+  with_property,
+  curly,
+  dollar_name,
+  dollar_row,
+  opens_text,
+  TextsBecome,
+}
 use Rattle.written_tokens.proofs.texts.Stepping.{first}
 use Rattle.rewritten_shapes.specs.paired.Tokens.{is_edge}
 use Rattle.rewritten_shapes.specs.paired.Tokens.{opens_text as opens_token}
@@ -71,10 +84,19 @@ record Entered (kind : Kind) (b : ℕ) (a : List ℕ) (rest : List Tile) (below 
   fresh : Bool
   steps : Steps V74 (stack_of (quoted mark label fresh) (code ∷ below) (suc depth)) rest
 
-entered : (kind : Kind) (b : ℕ) (a : List ℕ) (rest : List Tile) (below : List Mode) (depth : ℕ) → opens_token (token_like kind) ≡ true → Steps V74 (stack_of code below depth) (tile kind b a ∷ rest) → Entered kind b a rest below depth
+entered : (kind : Kind) (b : ℕ) (a : List ℕ) (rest : List Tile) (below : List Mode) (depth : ℕ)
+    → opens_token (token_like kind) ≡ true → Steps V74 (stack_of code below depth) (tile kind b a ∷ rest)
+    → Entered kind b a rest below depth
 entered Quote b a rest below depth h steps = record { mark = Double; label = []; fresh = false; steps = (first (stack_of code below depth) Quote b a rest steps).more }
 entered Backtick b a rest below depth h steps = record { mark = Back; label = []; fresh = false; steps = (first (stack_of code below depth) Backtick b a rest steps).more }
-entered HeredocStart b a rest below depth h steps = record { mark = Here; label = label_of (b ∷ a); fresh = true; steps = (first (stack_of code below depth) HeredocStart b a rest steps).more }
+entered HeredocStart b a rest below depth h steps =
+    record {
+      mark = Here;
+      label = label_of (b ∷ a);
+      fresh = true;
+      steps =
+          (first (stack_of code below depth) HeredocStart b a rest steps).more;
+    }
 entered kind b a rest below depth h steps = absurd cc
 
 -- ---- the text
@@ -82,8 +104,11 @@ entered kind b a rest below depth h steps = absurd cc
 opens_row : (kind : Kind) (b : ℕ) (a : List ℕ) (us : List Tile) → all_clean (tile kind b a ∷ []) ≡ true → all_clean us ≡ true → all_clean (tile kind b a ∷ us) ≡ true
 opens_row kind b a us p q = clean_append (tile kind b a ∷ []) us p q
 
-module _ (means : Means) (law : TextsBecome) (h starts : Bool) (t : Token) (ss : List Token) (ts : List NewToken) (opens : opens_token t.kind ≡ true) (coded : html_behind h (t ∷ ss) ≡ false) where
-  text_row : (below : List Mode) (depth : ℕ) (tiles : List Tile) (more : List Lexeme) → (l : Last h t tiles (map lexeme ss ++ more) below depth) → Opening l.kind l.b l.a → TextTurn ts starts l.rest more → Filled h false t ss (hash_comment t ∷ ts) tiles more
+module _ (means : Means) (law : TextsBecome) (h starts : Bool) (t : Token) (ss : List Token) (ts : List NewToken)
+    (opens : opens_token t.kind ≡ true) (coded : html_behind h (t ∷ ss) ≡ false) where
+  text_row : (below : List Mode) (depth : ℕ) (tiles : List Tile) (more : List Lexeme)
+      → (l : Last h t tiles (map lexeme ss ++ more) below depth) → Opening l.kind l.b l.a
+      → TextTurn ts starts l.rest more → Filled h false t ss (hash_comment t ∷ ts) tiles more
   text_row below depth tiles more l o r = record {
     inner = false;
     trivia = l.xs;

@@ -57,7 +57,9 @@ pub record Named (mark : Mark) (label : List ℕ) (fresh : Bool) (over : List Mo
   pub behind : Steps V74 (turned_by (part_turn V74 (quoted mark label false) (joined next.rest)) (stack_of (quoted mark label fresh) over depth)) next.rest
 
 module _ (front : FrontOfRow) (mark : Mark) (label : List ℕ) (fresh : Bool) (over : List Mode) (depth : ℕ) where
-  named : (v : Token) (tiles : List Tile) (more : List Lexeme) → v.kind ≡ token.Variable → has_more more ≡ true → Steps V74 (stack_of (quoted mark label fresh) over depth) tiles → spelled [] tiles ≡ lexeme v ∷ more → Named mark label fresh over depth v tiles more
+  named : (v : Token) (tiles : List Tile) (more : List Lexeme) → v.kind ≡ token.Variable → has_more more ≡ true
+      → Steps V74 (stack_of (quoted mark label fresh) over depth) tiles → spelled [] tiles ≡ lexeme v ∷ more
+      → Named mark label fresh over depth v tiles more
   named v tiles more is m steps same =
       let stack = stack_of (quoted mark label fresh) over depth in
       let n : Next v tiles more = next_of front stack (quoted_bare mark label fresh) v tiles more m steps same in
@@ -67,22 +69,29 @@ module _ (front : FrontOfRow) (mark : Mark) (label : List ℕ) (fresh : Bool) (o
       record { next = n; kind = kind; at = at; behind = (first stack Variable n.b n.a n.rest at).more }
 
   -- the token behind it
-  behind_named : (v o : Token) (tiles : List Tile) (more : List Lexeme) → has_more more ≡ true → (n : Named mark label fresh over depth v tiles (lexeme o ∷ more)) → Next o n.next.rest more
+  behind_named : (v o : Token) (tiles : List Tile) (more : List Lexeme) → has_more more ≡ true
+      → (n : Named mark label fresh over depth v tiles (lexeme o ∷ more)) → Next o n.next.rest more
   behind_named v o tiles more m n =
       next_of front (turned_by (part_turn V74 (quoted mark label false) (joined n.next.rest)) (stack_of (quoted mark label fresh) over depth))
       (behind_bare mark label (stack_of (quoted mark label fresh) over depth) (joined n.next.rest)) o n.next.rest more m n.behind n.next.tokens
 
   -- the steps from the variable on, where the next tile is given
-  from_named : (v o : Token) (tiles : List Tile) (more : List Lexeme) (x : Kind) (y : ℕ) (z : List ℕ) → (n : Named mark label fresh over depth v tiles (lexeme o ∷ more)) → (k : Next o n.next.rest more) → tile k.kind k.b k.a ≡ tile x y z → Steps V74 (stack_of (quoted mark label fresh) over depth) (tile Variable n.next.b n.next.a ∷ tile x y z ∷ k.rest)
+  from_named : (v o : Token) (tiles : List Tile) (more : List Lexeme) (x : Kind) (y : ℕ) (z : List ℕ)
+      → (n : Named mark label fresh over depth v tiles (lexeme o ∷ more)) → (k : Next o n.next.rest more)
+      → tile k.kind k.b k.a ≡ tile x y z → Steps V74 (stack_of (quoted mark label fresh) over depth)
+      (tile Variable n.next.b n.next.a ∷ tile x y z ∷ k.rest)
   from_named v o tiles more x y z n k same =
       subst (λ (u : Tile). Steps V74 (stack_of (quoted mark label fresh) over depth) (tile Variable n.next.b n.next.a ∷ u ∷ k.rest)) same
       (subst (λ (l : List Tile). Steps V74 (stack_of (quoted mark label fresh) over depth) (tile Variable n.next.b n.next.a ∷ l)) k.whole n.at)
 
 -- ---- alone
 
-pub alone_turns : FrontOfRow → (starts : Bool) (v s : Token) (ss : List Token) (ts : List NewToken) → v.kind ≡ token.Variable → is_unit_token s.kind ≡ true → TextTurns starts (s ∷ ss) ts → TextTurns false (v ∷ s ∷ ss) (hash_comment v ∷ ts)
+pub alone_turns : FrontOfRow → (starts : Bool) (v s : Token) (ss : List Token) (ts : List NewToken)
+    → v.kind ≡ token.Variable → is_unit_token s.kind ≡ true → TextTurns starts (s ∷ ss) ts
+    → TextTurns false (v ∷ s ∷ ss) (hash_comment v ∷ ts)
 alone_turns front starts v s ss ts is unit turns mark label fresh over depth tiles more m steps same =
-    let n : Named mark label fresh over depth v tiles (map lexeme (s ∷ ss) ++ more) = named front mark label fresh over depth v tiles (map lexeme (s ∷ ss) ++ more) is refl steps same in
+    let n : Named mark label fresh over depth v tiles (map lexeme (s ∷ ss) ++ more) =
+    named front mark label fresh over depth v tiles (map lexeme (s ∷ ss) ++ more) is refl steps same in
     let k : Next s n.next.rest (map lexeme ss ++ more) = behind_named front mark label fresh over depth v s tiles (map lexeme ss ++ more) (more_behind ss more m) n in
     let head : Head n.next.rest = record {
       kind = k.kind;
@@ -144,7 +153,9 @@ module _ (front : FrontOfRow) (mark : Mark) (label : List ℕ) (over : List Mode
   abbrev Off : Stack
   Off = stack_of offset (quoted mark label false ∷ over) depth
 
-  keyed : (k u : Token) (tiles : List Tile) (more : List Lexeme) → is_key_token k.kind ≡ true → IsMark 93 u → has_more more ≡ true → Steps V74 Off tiles → spelled [] tiles ≡ lexeme k ∷ lexeme u ∷ more → Keyed mark label over depth k u tiles more
+  keyed : (k u : Token) (tiles : List Tile) (more : List Lexeme) → is_key_token k.kind ≡ true → IsMark 93 u
+      → has_more more ≡ true → Steps V74 Off tiles → spelled [] tiles ≡ lexeme k ∷ lexeme u ∷ more
+      → Keyed mark label over depth k u tiles more
   keyed k u tiles more is mu m steps same =
       let n : Next k tiles (lexeme u ∷ more) = next_of front Off offset_bare k tiles (lexeme u ∷ more) refl steps same in
       let like : is_key_token (token_like n.kind) ≡ true = sym (told is_key_token refl refl n.kind (n.b ∷ n.a) k.kind n.is) ∙ is in
@@ -159,16 +170,21 @@ module _ (front : FrontOfRow) (mark : Mark) (label : List ℕ) (over : List Mode
       record { key = n; no_mark = plain; clean = key_clean n.kind n.b n.a like; shut = s; same = shut; behind = (first Off Op 93 [] s.rest last).more }
 
   -- behind `[`
-  opened : (fresh : Bool) (v o : Token) (tiles : List Tile) (more : List Lexeme) → IsMark 91 o → (n : Named mark label fresh over depth v tiles (lexeme o ∷ more)) → (k : Next o n.next.rest more) → Steps V74 Off k.rest
+  opened : (fresh : Bool) (v o : Token) (tiles : List Tile) (more : List Lexeme) → IsMark 91 o
+      → (n : Named mark label fresh over depth v tiles (lexeme o ∷ more)) → (k : Next o n.next.rest more)
+      → Steps V74 Off k.rest
   opened fresh v o tiles more mo n k =
       (first Off Op 91 [] k.rest
       (first (stack_of (quoted mark label fresh) over depth) Variable n.next.b n.next.a (tile Op 91 [] ∷ k.rest)
       (from_named front mark label fresh over depth v o tiles more Op 91 [] n k (mark_tile o 91 mo k.kind k.b k.a k.is k.text))).more).more
 
-pub offset_turns : FrontOfRow → (starts : Bool) (v o k u : Token) (ss : List Token) (ts : List NewToken) → v.kind ≡ token.Variable → IsMark 91 o → is_key_token k.kind ≡ true → IsMark 93 u → TextTurns starts ss ts → TextTurns false (v ∷ o ∷ k ∷ u ∷ ss) (hash_comment v ∷ hash_comment o ∷ hash_comment k ∷ hash_comment u ∷ ts)
+pub offset_turns : FrontOfRow → (starts : Bool) (v o k u : Token) (ss : List Token) (ts : List NewToken)
+    → v.kind ≡ token.Variable → IsMark 91 o → is_key_token k.kind ≡ true → IsMark 93 u → TextTurns starts ss ts
+    → TextTurns false (v ∷ o ∷ k ∷ u ∷ ss) (hash_comment v ∷ hash_comment o ∷ hash_comment k ∷ hash_comment u ∷ ts)
 offset_turns front starts v o k u ss ts is mo key mu turns mark label fresh over depth tiles more m steps same =
     let left = map lexeme ss ++ more in
-    let n : Named mark label fresh over depth v tiles (lexeme o ∷ lexeme k ∷ lexeme u ∷ left) = named front mark label fresh over depth v tiles (lexeme o ∷ lexeme k ∷ lexeme u ∷ left) is refl steps same in
+    let n : Named mark label fresh over depth v tiles (lexeme o ∷ lexeme k ∷ lexeme u ∷ left) =
+    named front mark label fresh over depth v tiles (lexeme o ∷ lexeme k ∷ lexeme u ∷ left) is refl steps same in
     let q : Next o n.next.rest (lexeme k ∷ lexeme u ∷ left) = behind_named front mark label fresh over depth v o tiles (lexeme k ∷ lexeme u ∷ left) refl n in
     let inside = opened front mark label over depth fresh v o tiles (lexeme k ∷ lexeme u ∷ left) mo n q in
     let d : Keyed mark label over depth k u q.rest left = keyed front mark label over depth k u q.rest left key mu (more_behind ss more m) inside q.tokens in
@@ -192,7 +208,9 @@ offset_turns front starts v o k u ss ts is mo key mu turns mark label fresh over
       row = row.with_offset n.next.b n.next.a (tile d.key.kind d.key.b d.key.a ∷ []) (row.bare d.key.kind d.key.b d.key.a d.no_mark) r.row;
       starts_is = refl;
       spells =
-          next_spells v tiles (lexeme o ∷ lexeme k ∷ lexeme u ∷ left) v1 (tile Op 91 [] ∷ inner) (new_lexeme (hash_comment o) ∷ new_lexeme (hash_comment k) ∷ new_lexeme (hash_comment u) ∷ map new_lexeme ts)
+          next_spells v tiles (lexeme o ∷ lexeme k ∷ lexeme u ∷ left) v1 (tile Op 91 [] ∷ inner)
+          (new_lexeme (hash_comment o) ∷ new_lexeme (hash_comment k) ∷ new_lexeme (hash_comment u)
+          ∷ map new_lexeme ts)
           (next_spells o n.next.rest (lexeme k ∷ lexeme u ∷ left) o1 inner (new_lexeme (hash_comment k) ∷ new_lexeme (hash_comment u) ∷ map new_lexeme ts)
           (next_spells k q.rest (lexeme u ∷ left) d.key last (new_lexeme (hash_comment u) ∷ map new_lexeme ts)
           (next_spells u d.key.rest left u1 r.ys (map new_lexeme ts) r.spells)));
@@ -200,7 +218,10 @@ offset_turns front starts v o k u ss ts is mo key mu turns mark label fresh over
     }
 
 -- the same with `-`
-pub minus_turns : FrontOfRow → (starts : Bool) (v o s k u : Token) (ss : List Token) (ts : List NewToken) → v.kind ≡ token.Variable → IsMark 91 o → IsMark 45 s → is_key_token k.kind ≡ true → IsMark 93 u → TextTurns starts ss ts → TextTurns false (v ∷ o ∷ s ∷ k ∷ u ∷ ss) (hash_comment v ∷ hash_comment o ∷ hash_comment s ∷ hash_comment k ∷ hash_comment u ∷ ts)
+pub minus_turns : FrontOfRow → (starts : Bool) (v o s k u : Token) (ss : List Token) (ts : List NewToken)
+    → v.kind ≡ token.Variable → IsMark 91 o → IsMark 45 s → is_key_token k.kind ≡ true → IsMark 93 u
+    → TextTurns starts ss ts → TextTurns false (v ∷ o ∷ s ∷ k ∷ u ∷ ss)
+    (hash_comment v ∷ hash_comment o ∷ hash_comment s ∷ hash_comment k ∷ hash_comment u ∷ ts)
 minus_turns front starts v o s k u ss ts is mo ms key mu turns mark label fresh over depth tiles more m steps same =
     let left = map lexeme ss ++ more in
     let all = lexeme s ∷ lexeme k ∷ lexeme u ∷ left in
@@ -212,7 +233,8 @@ minus_turns front starts v o s k u ss ts is mo ms key mu turns mark label fresh 
     let minus : tile w.kind w.b w.a ≡ tile Op 45 [] = mark_tile s 45 ms w.kind w.b w.a w.is w.text in
     let at : Steps V74 off (tile Op 45 [] ∷ w.rest) =
     subst (λ (x : Tile). Steps V74 off (x ∷ w.rest)) minus (subst (λ (l : List Tile). Steps V74 off l) w.whole inside) in
-    let d : Keyed mark label over depth k u w.rest left = keyed front mark label over depth k u w.rest left key mu (more_behind ss more m) (first off Op 45 [] w.rest at).more w.tokens in
+    let d : Keyed mark label over depth k u w.rest left = keyed front mark label over depth k u w.rest left key mu
+    (more_behind ss more m) (first off Op 45 [] w.rest at).more w.tokens in
     let r : TextTurn ts starts d.shut.rest more = turns mark label false over depth d.shut.rest more m d.behind d.shut.tokens in
     let v1 : Next v tiles (lexeme o ∷ all) = as_kind Variable v tiles (lexeme o ∷ all) n.next n.kind in
     let o1 : Next o n.next.rest all = as_tile Op 91 [] o n.next.rest all q (mark_tile o 91 mo q.kind q.b q.a q.is q.text) in
@@ -246,19 +268,29 @@ minus_turns front starts v o s k u ss ts is mo ms key mu turns mark label fresh 
 
 -- ---- with a property
 
-in_property : (mark : Mark) (label : List ℕ) (fresh : Bool) (over : List Mode) (depth : ℕ) (rest : List Tile) (t : Bool) → Steps V74 (turned_by (cond t (enter property (quoted mark label false)) (stay (quoted mark label false))) (stack_of (quoted mark label fresh) over depth)) (tile Op 45 (62 ∷ []) ∷ rest) → Steps V74 (stack_of property (quoted mark label false ∷ over) depth) (tile Op 45 (62 ∷ []) ∷ rest)
+in_property : (mark : Mark) (label : List ℕ) (fresh : Bool) (over : List Mode) (depth : ℕ) (rest : List Tile)
+    (t : Bool) → Steps V74 (turned_by (cond t (enter property (quoted mark label false))
+    (stay (quoted mark label false))) (stack_of (quoted mark label fresh) over depth)) (tile Op 45 (62 ∷ []) ∷ rest)
+    → Steps V74 (stack_of property (quoted mark label false ∷ over) depth) (tile Op 45 (62 ∷ []) ∷ rest)
 in_property mark label fresh over depth rest true h = h
-in_property mark label fresh over depth rest false h = absurd (no_op mark label false 45 (62 ∷ []) (joined rest) (first (stack_of (quoted mark label false) over depth) Op 45 (62 ∷ []) rest h).longest)
+in_property mark label fresh over depth rest false h = absurd
+    (no_op mark label false 45 (62 ∷ []) (joined rest)
+    (first (stack_of (quoted mark label false) over depth) Op 45 (62 ∷ []) rest h).longest)
 
-arrow_tile : (o : Token) → o.kind ≡ token.Op → o.text ≡ 45 ∷ 62 ∷ [] → (kind : Kind) (b : ℕ) (a : List ℕ) → token_of kind (b ∷ a) ≡ Some o.kind → b ∷ a ≡ o.text → tile kind b a ≡ tile Op 45 (62 ∷ [])
+arrow_tile : (o : Token) → o.kind ≡ token.Op → o.text ≡ 45 ∷ 62 ∷ [] → (kind : Kind) (b : ℕ) (a : List ℕ)
+    → token_of kind (b ∷ a) ≡ Some o.kind → b ∷ a ≡ o.text → tile kind b a ≡ tile Op 45 (62 ∷ [])
 arrow_tile o is same kind b a k h =
     ap (λ (x : Kind). tile x b a) (op_tile kind (b ∷ a) o.kind is k) ∙ tile_same Op b a 45 (62 ∷ []) (h ∙ same)
 
-pub property_turns : FrontOfRow → (starts : Bool) (v o u : Token) (ss : List Token) (ts : List NewToken) → v.kind ≡ token.Variable → o.kind ≡ token.Op → o.text ≡ 45 ∷ 62 ∷ [] → u.kind ≡ token.Label → TextTurns starts ss ts → TextTurns false (v ∷ o ∷ u ∷ ss) (hash_comment v ∷ hash_comment o ∷ hash_comment u ∷ ts)
+pub property_turns : FrontOfRow → (starts : Bool) (v o u : Token) (ss : List Token) (ts : List NewToken)
+    → v.kind ≡ token.Variable → o.kind ≡ token.Op → o.text ≡ 45 ∷ 62 ∷ [] → u.kind ≡ token.Label
+    → TextTurns starts ss ts → TextTurns false (v ∷ o ∷ u ∷ ss)
+    (hash_comment v ∷ hash_comment o ∷ hash_comment u ∷ ts)
 property_turns front starts v o u ss ts is op arrow word turns mark label fresh over depth tiles more m steps same =
     let left = map lexeme ss ++ more in
     let prop = stack_of property (quoted mark label false ∷ over) depth in
-    let n : Named mark label fresh over depth v tiles (lexeme o ∷ lexeme u ∷ left) = named front mark label fresh over depth v tiles (lexeme o ∷ lexeme u ∷ left) is refl steps same in
+    let n : Named mark label fresh over depth v tiles (lexeme o ∷ lexeme u ∷ left) =
+    named front mark label fresh over depth v tiles (lexeme o ∷ lexeme u ∷ left) is refl steps same in
     let q : Next o n.next.rest (lexeme u ∷ left) = behind_named front mark label fresh over depth v o tiles (lexeme u ∷ left) refl n in
     let mark_is : tile q.kind q.b q.a ≡ tile Op 45 (62 ∷ []) = arrow_tile o op arrow q.kind q.b q.a q.is q.text in
     let whole = from_named front mark label fresh over depth v o tiles (lexeme u ∷ left) Op 45 (62 ∷ []) n q mark_is in
@@ -286,7 +318,8 @@ property_turns front starts v o u ss ts is op arrow word turns mark label fresh 
       row = row.with_property n.next.b n.next.a w.b w.a r.row;
       starts_is = refl;
       spells =
-          next_spells v tiles (lexeme o ∷ lexeme u ∷ left) v1 (tile Op 45 (62 ∷ []) ∷ tile Label w.b w.a ∷ r.ys) (new_lexeme (hash_comment o) ∷ new_lexeme (hash_comment u) ∷ map new_lexeme ts)
+          next_spells v tiles (lexeme o ∷ lexeme u ∷ left) v1 (tile Op 45 (62 ∷ []) ∷ tile Label w.b w.a ∷ r.ys)
+          (new_lexeme (hash_comment o) ∷ new_lexeme (hash_comment u) ∷ map new_lexeme ts)
           (next_spells o n.next.rest (lexeme u ∷ left) o1 (tile Label w.b w.a ∷ r.ys) (new_lexeme (hash_comment u) ∷ map new_lexeme ts)
           (next_spells u q.rest left u1 r.ys (map new_lexeme ts) r.spells));
       clean = r.clean;

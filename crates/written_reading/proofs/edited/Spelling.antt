@@ -27,7 +27,9 @@ trivia_spelled (tile kind b a ∷ ts) h lead rest =
     ∙ trivia_spelled ts p.1 (lead ++ b ∷ a) rest
     ∙ ap (λ (l : List ℕ). spelled l rest) (append_assoc lead (b ∷ a) (joined ts))
 
-pub token_spelled : (kind : Kind) (b : ℕ) (a : List ℕ) (k : TokenKind) → token_of kind (b ∷ a) ≡ Some k → (lead : List ℕ) (rest : List Tile) → spelled lead (tile kind b a ∷ rest) ≡ record { kind = k; lead = lead; text = b ∷ a } ∷ spelled [] rest
+pub token_spelled : (kind : Kind) (b : ℕ) (a : List ℕ) (k : TokenKind) → token_of kind (b ∷ a) ≡ Some k
+    → (lead : List ℕ) (rest : List Tile) → spelled lead (tile kind b a ∷ rest) ≡ record
+    { kind = k; lead = lead; text = b ∷ a } ∷ spelled [] rest
 token_spelled kind b a k h lead rest =
     ap (λ (o : Option TokenKind). lexeme_with o lead (b ∷ a) (λ (l : List ℕ). spelled l rest)) h
 
@@ -43,7 +45,9 @@ spells_join us vs ls ms p q rest =
     ∙ sym (append_assoc ls ms (spelled [] rest))
 
 -- trivia, a token, and what stands behind it
-pub led_spells : (ts : List Tile) → all_trivia ts ≡ true → (kind : Kind) (b : ℕ) (a : List ℕ) (l : Lexeme) → joined ts ≡ l.lead → token_of kind (b ∷ a) ≡ Some l.kind → b ∷ a ≡ l.text → (us : List Tile) (ls : List Lexeme) → Spells us ls → Spells (ts ++ tile kind b a ∷ us) (l ∷ ls)
+pub led_spells : (ts : List Tile) → all_trivia ts ≡ true → (kind : Kind) (b : ℕ) (a : List ℕ) (l : Lexeme)
+    → joined ts ≡ l.lead → token_of kind (b ∷ a) ≡ Some l.kind → b ∷ a ≡ l.text → (us : List Tile) (ls : List Lexeme)
+    → Spells us ls → Spells (ts ++ tile kind b a ∷ us) (l ∷ ls)
 led_spells ts h kind b a l lead is text us ls p rest =
     ap (spelled []) (append_assoc ts (tile kind b a ∷ us) rest)
     ∙ trivia_spelled ts h [] (tile kind b a ∷ (us ++ rest))
@@ -52,8 +56,10 @@ led_spells ts h kind b a l lead is text us ls p rest =
     ∙ ap (λ (x : List ℕ). record { kind = l.kind; lead = l.lead; text = x } ∷ spelled [] (us ++ rest)) text
     ∙ ap (λ (x : List Lexeme). l ∷ x) (p rest)
 
-pub step_longest : {v : Version} {stack : Stack} {kind : Kind} {b : ℕ} {a : List ℕ} {ts : List Tile} → Steps v stack (tile kind b a ∷ ts) → IsLongest v stack.top (b ∷ a ++ joined ts) kind (suc (length a))
+pub step_longest : {v : Version} {stack : Stack} {kind : Kind} {b : ℕ} {a : List ℕ} {ts : List Tile}
+    → Steps v stack (tile kind b a ∷ ts) → IsLongest v stack.top (b ∷ a ++ joined ts) kind (suc (length a))
 step_longest (step kind b a ts h more) = h
 
-pub step_behind : {v : Version} {stack : Stack} {kind : Kind} {b : ℕ} {a : List ℕ} {ts : List Tile} → Steps v stack (tile kind b a ∷ ts) → Steps v (after v stack kind (suc (length a)) (b ∷ a ++ joined ts)) ts
+pub step_behind : {v : Version} {stack : Stack} {kind : Kind} {b : ℕ} {a : List ℕ} {ts : List Tile}
+    → Steps v stack (tile kind b a ∷ ts) → Steps v (after v stack kind (suc (length a)) (b ∷ a ++ joined ts)) ts
 step_behind (step kind b a ts h more) = more

@@ -14,7 +14,25 @@ use Rattle.syntax_rules.specs.HashComment.{hash_comment}
 use Rattle.syntax_rules.specs.InContext.{draft_in}
 use Rattle.written_tokens.specs.tokens.Written.{draft_tokens}
 use Rattle.written_tokens.specs.names.Fronts.{FrontOfRow}
-use Rattle.rewritten_shapes.specs.paired.Paired.{IsKey, label, number, negative, variable, IsSimple, alone, with_offset, with_property, Interpolated, text_end, piece, simple, curly as curly_part, named, named_offset, expression}
+use Rattle.rewritten_shapes.specs.paired.Paired.{
+  IsKey,
+  label,
+  number,
+  negative,
+  variable,
+  IsSimple,
+  alone,
+  with_offset,
+  with_property,
+  Interpolated,
+  text_end,
+  piece,
+  simple,
+  curly as curly_part,
+  named,
+  named_offset,
+  expression,
+}
 use Rattle.rewritten_shapes.specs.paired.Tokens.{IsMark}
 use Rattle.written_reading.proofs.edited.TileFacts.{leaves_html, html_behind, html_append}
 use Rattle.written_reading.proofs.edited.Drafts.{is_free, part_draft}
@@ -47,7 +65,9 @@ text_of : (u : Token) (x : ℕ) → IsMark x u → is_text (codes "[") (hash_com
 text_of u x mark = ap (λ (l : List ℕ). bytes_eq (l ++ []) (codes "[")) mark.text
 
 -- `${name}`
-pub named_part : (t v u : Token) (d : Draft) → t.kind ≡ token.DollarBrace → v.kind ≡ token.VarName → IsMark 125 u → draft_tokens (parts (new_leaf (hash_comment t) (new_leaf (hash_comment v) (new_leaf (hash_comment u) d)))) ≡ curly (hash_comment t) ∷ dollar_name (hash_comment v) ∷ hash_comment u ∷ draft_tokens (parts d)
+pub named_part : (t v u : Token) (d : Draft) → t.kind ≡ token.DollarBrace → v.kind ≡ token.VarName → IsMark 125 u
+    → draft_tokens (parts (new_leaf (hash_comment t) (new_leaf (hash_comment v) (new_leaf (hash_comment u) d)))) ≡
+    curly (hash_comment t) ∷ dollar_name (hash_comment v) ∷ hash_comment u ∷ draft_tokens (parts d)
 named_part t v u d is name mark =
     let p : is_dollar_brace t.kind ≡ true = ap is_dollar_brace is in
     let q : is_dollar_brace v.kind ≡ false = ap is_dollar_brace name in
@@ -58,7 +78,13 @@ named_part t v u d is name mark =
     rw (p, q, r, s, w, x) refl
 
 -- `${name[..]}`
-pub offset_part : (t v o s u : Token) (k : NodeKind) (e d : Draft) → t.kind ≡ token.DollarBrace → v.kind ≡ token.VarName → IsMark 91 o → IsMark 93 s → IsMark 125 u → draft_tokens (parts (new_leaf (hash_comment t) (new_leaf (hash_comment v) (new_leaf (hash_comment o) (new_node k e (new_leaf (hash_comment s) (new_leaf (hash_comment u) d))))))) ≡ curly (hash_comment t) ∷ dollar_name (hash_comment v) ∷ ((hash_comment o ∷ (draft_tokens e ++ hash_comment s ∷ [])) ++ hash_comment u ∷ draft_tokens (parts d))
+pub offset_part : (t v o s u : Token) (k : NodeKind) (e d : Draft) → t.kind ≡ token.DollarBrace
+    → v.kind ≡ token.VarName → IsMark 91 o → IsMark 93 s → IsMark 125 u
+    → draft_tokens (parts (new_leaf (hash_comment t)
+    (new_leaf (hash_comment v) (new_leaf (hash_comment o) (new_node k e
+    (new_leaf (hash_comment s) (new_leaf (hash_comment u) d))))))) ≡ curly (hash_comment t)
+    ∷ dollar_name (hash_comment v) ∷ ((hash_comment o ∷ (draft_tokens e ++ hash_comment s ∷ [])) ++ hash_comment u
+    ∷ draft_tokens (parts d))
 offset_part t v o s u k e d is name mo ms mu =
     let p : is_dollar_brace t.kind ≡ true = ap is_dollar_brace is in
     let q : is_dollar_brace v.kind ≡ false = ap is_dollar_brace name in
@@ -73,7 +99,11 @@ offset_part t v o s u k e d is name mo ms mu =
     rw (p, q, r, p1, q1, p2, q2, p3, q3, x) refl
 
 -- `${..}`
-pub row_part : (t u : Token) (k : NodeKind) (e d : Draft) → t.kind ≡ token.DollarBrace → IsMark 125 u → draft_tokens (parts (new_leaf (hash_comment t) (new_node k e (new_leaf (hash_comment u) d)))) ≡ curly (hash_comment t) ∷ put_also token.Op (codes "$") ∷ put_also token.Op (codes "{") ∷ ((draft_tokens e ++ retexted token.Op (codes "}") (hash_comment u) ∷ []) ++ put_also token.Op (codes "}") ∷ draft_tokens (parts d))
+pub row_part : (t u : Token) (k : NodeKind) (e d : Draft) → t.kind ≡ token.DollarBrace → IsMark 125 u
+    → draft_tokens (parts (new_leaf (hash_comment t) (new_node k e (new_leaf (hash_comment u) d)))) ≡ curly
+    (hash_comment t) ∷ put_also token.Op (codes "$") ∷ put_also token.Op (codes "{")
+    ∷ ((draft_tokens e ++ retexted token.Op (codes "}") (hash_comment u) ∷ []) ++ put_also token.Op (codes "}")
+    ∷ draft_tokens (parts d))
 row_part t u k e d is mu =
     let p : is_dollar_brace t.kind ≡ true = ap is_dollar_brace is in
     let q : is_dollar_brace u.kind ≡ false = ap is_dollar_brace mu.kind in
@@ -82,7 +112,8 @@ row_part t u k e d is mu =
 
 -- ---- simple variables
 
-plain_variable : (around : Bool → Option Around) (i : Bool) (t : Token) → is_free (around i) ≡ true → draft_tokens (part_draft around i kind.Variable (leaf t none)) ≡ hash_comment t ∷ []
+plain_variable : (around : Bool → Option Around) (i : Bool) (t : Token) → is_free (around i) ≡ true
+    → draft_tokens (part_draft around i kind.Variable (leaf t none)) ≡ hash_comment t ∷ []
 plain_variable around i t free = ap draft_tokens (free_draft around i kind.Variable (leaf t none) free)
 
 abbrev all_spaced : List Token → List NewToken
@@ -94,7 +125,8 @@ key_tokens around free (number is mark) = refl
 key_tokens around free (negative minus is mark) = refl
 key_tokens around free (variable {t} {u} is mark) = ap (λ (l : List NewToken). l ++ hash_comment u ∷ []) (plain_variable around false t free)
 
-pub simple_tokens : (around : Bool → Option Around) (i : Bool) → is_free (around i) ≡ true → {j : NodeKind} {c : Forest} → IsSimple j c → draft_tokens (part_draft around i j c) ≡ all_spaced (leaves c)
+pub simple_tokens : (around : Bool → Option Around) (i : Bool) → is_free (around i) ≡ true
+    → {j : NodeKind} {c : Forest} → IsSimple j c → draft_tokens (part_draft around i j c) ≡ all_spaced (leaves c)
 simple_tokens around i free (alone {t} is) = plain_variable around i t free
 simple_tokens around i free (with_offset {t} {o} {f} is mark key) =
     let c = node kind.Variable (leaf t none) (leaf o f) in
@@ -124,7 +156,9 @@ text_begins (named_offset {j} {t} {n} {o} {s} {u} {c} {f} is name mo inner ms mu
 text_begins (expression {j} {t} {u} {c} {f} is inner mark more) = (t, leaves c ++ u ∷ leaves f, refl, ap is_unit_token is)
 
 -- a simple variable stays
-pub simple_turns : FrontOfRow → {j : NodeKind} {c : Forest} → IsSimple j c → (starts : Bool) (s : Token) (ss : List Token) (ts : List NewToken) → is_unit_token s.kind ≡ true → TextTurns starts (s ∷ ss) ts → TextTurns false (leaves c ++ s ∷ ss) (all_spaced (leaves c) ++ ts)
+pub simple_turns : FrontOfRow → {j : NodeKind} {c : Forest} → IsSimple j c
+    → (starts : Bool) (s : Token) (ss : List Token) (ts : List NewToken) → is_unit_token s.kind ≡ true
+    → TextTurns starts (s ∷ ss) ts → TextTurns false (leaves c ++ s ∷ ss) (all_spaced (leaves c) ++ ts)
 simple_turns front (alone {t} is) starts s ss ts unit turns = alone_turns front starts t s ss ts is unit turns
 simple_turns front (with_offset {t} {o} is mark (label {t = k} {u} word shut)) starts s ss ts unit turns =
     offset_turns front starts t o k u (s ∷ ss) ts is mark (ap is_key_token word) shut turns

@@ -52,7 +52,8 @@ abbrev tells : Token → Tile → Type 0
 tells t (tile kind b a) = (token_of kind (b ∷ a) ≡ Some t.kind) × (b ∷ a ≡ t.text)
 
 -- the first token by its tile
-abbrev pub as_tile : (x : Kind) (y : ℕ) (z : List ℕ) (t : Token) (tiles : List Tile) (more : List Lexeme) → (n : Next t tiles more) → tile n.kind n.b n.a ≡ tile x y z → Next t tiles more
+abbrev pub as_tile : (x : Kind) (y : ℕ) (z : List ℕ) (t : Token) (tiles : List Tile) (more : List Lexeme)
+    → (n : Next t tiles more) → tile n.kind n.b n.a ≡ tile x y z → Next t tiles more
 as_tile x y z t tiles more n same =
     let told = subst (tells t) same (n.is, n.text) in
     record {
@@ -112,7 +113,8 @@ piece_by true n = escaped n
 piece_by false n = n
 
 module _ (t : Token) (is : t.kind ≡ token.Piece) (tiles : List Tile) (more : List Lexeme) (n : Next t tiles more) (kind : n.kind ≡ Piece) where
-  kept_piece : (starts : Bool) (ts : List NewToken) (rest : List Lexeme) → (r : TextTurn ts starts n.rest rest) → (starts && ends_dollar false (n.b ∷ n.a)) ≡ false → TextTurn (hash_comment t ∷ ts) false tiles rest
+  kept_piece : (starts : Bool) (ts : List NewToken) (rest : List Lexeme) → (r : TextTurn ts starts n.rest rest)
+      → (starts && ends_dollar false (n.b ∷ n.a)) ≡ false → TextTurn (hash_comment t ∷ ts) false tiles rest
   kept_piece starts ts rest r h =
       let p : Next t tiles more = as_kind Piece t tiles more n kind in
       record {
@@ -127,7 +129,9 @@ module _ (t : Token) (is : t.kind ≡ token.Piece) (tiles : List Tile) (more : L
         clean = r.clean;
       }
 
-  escaped_piece : (ts : List NewToken) (rest : List Lexeme) → (r : TextTurn ts true n.rest rest) → ends_dollar false (n.b ∷ n.a) ≡ true → TextTurn (record (hash_comment t) { text = before_last (before (hash_comment t).text) } ∷ ts) false tiles rest
+  escaped_piece : (ts : List NewToken) (rest : List Lexeme) → (r : TextTurn ts true n.rest rest)
+      → ends_dollar false (n.b ∷ n.a) ≡ true
+      → TextTurn (record (hash_comment t) { text = before_last (before (hash_comment t).text) } ∷ ts) false tiles rest
   escaped_piece ts rest r h =
       let p : Next t tiles more = as_kind Piece t tiles more n kind in
       let (c, e, parts) = escaped_parts n.b n.a in
@@ -142,18 +146,23 @@ module _ (t : Token) (is : t.kind ≡ token.Piece) (tiles : List Tile) (more : L
         left = r.left;
         row = row.escaped_piece n.b c n.a e r.starts_is h parts r.row;
         starts_is = refl;
-        spells = led_spells [] refl Piece c e (new_lexeme (record (hash_comment t) { text = before_last (before (hash_comment t).text) })) lead (ap Some (sym is)) new r.ys (map new_lexeme ts) r.spells;
+        spells = led_spells [] refl Piece c e
+            (new_lexeme (record (hash_comment t) { text = before_last (before (hash_comment t).text) })) lead
+            (ap Some (sym is)) new r.ys (map new_lexeme ts) r.spells;
         clean = r.clean;
       }
 
-  piece_turn : (starts bare : Bool) (ts : List NewToken) (rest : List Lexeme) → ends_bare false (before (hash_comment t).text) ≡ bare → TextTurn ts starts n.rest rest → TextTurn (piece_by starts (hash_comment t) ∷ ts) false tiles rest
+  piece_turn : (starts bare : Bool) (ts : List NewToken) (rest : List Lexeme)
+      → ends_bare false (before (hash_comment t).text) ≡ bare → TextTurn ts starts n.rest rest
+      → TextTurn (piece_by starts (hash_comment t) ∷ ts) false tiles rest
   piece_turn false bare ts rest e r = kept_piece false ts rest r refl
   piece_turn true false ts rest e r =
       rw e (kept_piece true ts rest r (sym (dollar_same false (n.b ∷ n.a)) ∙ ap (ends_bare false) (n.text ∙ sym (append-nil t.text)) ∙ e))
   piece_turn true true ts rest e r =
       rw e (escaped_piece ts rest r (sym (dollar_same false (n.b ∷ n.a)) ∙ ap (ends_bare false) (n.text ∙ sym (append-nil t.text)) ∙ e))
 
-pub piece_turns : FrontOfRow → (starts : Bool) (t : Token) (ss : List Token) (ts : List NewToken) → t.kind ≡ token.Piece → TextTurns starts ss ts → TextTurns false (t ∷ ss) (piece_by starts (hash_comment t) ∷ ts)
+pub piece_turns : FrontOfRow → (starts : Bool) (t : Token) (ss : List Token) (ts : List NewToken)
+    → t.kind ≡ token.Piece → TextTurns starts ss ts → TextTurns false (t ∷ ss) (piece_by starts (hash_comment t) ∷ ts)
 piece_turns front starts t ss ts is turns mark label fresh over depth tiles more m steps same =
     let stack = stack_of (quoted mark label fresh) over depth in
     let n : Next t tiles (map lexeme ss ++ more) = next_of front stack (quoted_bare mark label fresh) t tiles (map lexeme ss ++ more) (more_behind ss more m) steps same in

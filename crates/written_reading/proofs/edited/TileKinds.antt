@@ -5,7 +5,38 @@ use Rattle.php_tree.specs.declared.version.Version.TheVariants.{V74}
 use Rattle.php_tree.specs.declared.token.TokenKind.{TokenKind}
 use Rattle.php_tree.specs.declared.token.TokenKind.TheVariants as token
 use Rattle.php_spellings.specs.declared.table.Kind.{Kind}
-use Rattle.php_spellings.specs.declared.table.Kind.TheVariants.{Space, Comment, Tag, OpenEcho, InlineHtml, Variable, Word, Label, Keyword, Name, Decimal, Octal, Hexadecimal, Binary, Digits, Float, Text, Quote, Backtick, HeredocStart, Cast, Op, AttributeOpen, Semi, Close, Piece, CurlyOpen, DollarBrace, VarName, QuotedEnd}
+use Rattle.php_spellings.specs.declared.table.Kind.TheVariants.{
+  Space,
+  Comment,
+  Tag,
+  OpenEcho,
+  InlineHtml,
+  Variable,
+  Word,
+  Label,
+  Keyword,
+  Name,
+  Decimal,
+  Octal,
+  Hexadecimal,
+  Binary,
+  Digits,
+  Float,
+  Text,
+  Quote,
+  Backtick,
+  HeredocStart,
+  Cast,
+  Op,
+  AttributeOpen,
+  Semi,
+  Close,
+  Piece,
+  CurlyOpen,
+  DollarBrace,
+  VarName,
+  QuotedEnd,
+}
 use Rattle.php_spellings.specs.Words.{is_keyword, greatest_int, value_from, whole_number, token_of}
 use Rattle.php_lexer.specs.Modes.{html, code, is_byte, IsLongest}
 use Rattle.php_relexing.proofs.Picked.{longest_meets}
@@ -63,7 +94,8 @@ is_variable_kind token.Variable = true
 is_variable_kind _ = false
 
 -- What is true of keywords and labels alike, and of both kinds of numbers, is told by the tile.
-pub told : (p : TokenKind → Bool) → p token.Keyword ≡ p token.Label → p token.Int ≡ p token.Float → (kind : Kind) (text : List ℕ) (k : TokenKind) → token_of kind text ≡ Some k → p k ≡ p (token_like kind)
+pub told : (p : TokenKind → Bool) → p token.Keyword ≡ p token.Label → p token.Int ≡ p token.Float
+    → (kind : Kind) (text : List ℕ) (k : TokenKind) → token_of kind text ≡ Some k → p k ≡ p (token_like kind)
 told p w n Space text k e = absurd cc
 told p w n Comment text k e = absurd cc
 told p w n Tag text k e = absurd cc
@@ -121,7 +153,8 @@ pub no_html : (kind : Kind) (t r : List ℕ) → is_inside kind ≡ true → IsL
 no_html kind t r p h = let e = longest_meets is_inside V74 html t r kind p h in cc
 
 -- a token that isn't at an edge of code stands in code
-pub in_code : (h : Bool) (kind : Kind) (b : ℕ) (a r : List ℕ) (k : TokenKind) → token_of kind (b ∷ a) ≡ Some k → is_edge k ≡ false → IsLongest V74 (mode_of h) (b ∷ a ++ r) kind (suc (length a)) → h ≡ false
+pub in_code : (h : Bool) (kind : Kind) (b : ℕ) (a r : List ℕ) (k : TokenKind) → token_of kind (b ∷ a) ≡ Some k
+    → is_edge k ≡ false → IsLongest V74 (mode_of h) (b ∷ a ++ r) kind (suc (length a)) → h ≡ false
 in_code false kind b a r k e p l = refl
 in_code true kind b a r k e p l =
     absurd (no_html kind (b ∷ a) r (inside_like kind (token_is_no_trivia kind (b ∷ a) k e) (sym (told is_edge refl refl kind (b ∷ a) k e) ∙ p)) l)
@@ -138,7 +171,9 @@ is_marked text = is_byte 40 text || (is_byte 41 text || (is_byte 123 text || is_
 abbrev is_one_of : ℕ → Bool
 is_one_of b = nat_eq b 40 || (nat_eq b 41 || (nat_eq b 123 || nat_eq b 125))
 
-no_long : (n x : ℕ) (a r : List ℕ) (b : ℕ) → nat_eq b n ≡ true → (IsLongest V74 code (n ∷ (x ∷ a) ++ r) Op (suc (suc (length a))) → ⊥) → IsLongest V74 code (b ∷ (x ∷ a) ++ r) Op (suc (suc (length a))) → ⊥
+no_long : (n x : ℕ) (a r : List ℕ) (b : ℕ) → nat_eq b n ≡ true
+    → (IsLongest V74 code (n ∷ (x ∷ a) ++ r) Op (suc (suc (length a))) → ⊥)
+    → IsLongest V74 code (b ∷ (x ∷ a) ++ r) Op (suc (suc (length a))) → ⊥
 no_long n x a r b h f l = f (subst (λ (y : ℕ). IsLongest V74 code (y ∷ (x ∷ a) ++ r) Op (suc (suc (length a)))) (eqb-true b n h) l)
 
 long_round : (x : ℕ) (a r : List ℕ) → IsLongest V74 code (40 ∷ (x ∷ a) ++ r) Op (suc (suc (length a))) → ⊥
@@ -153,7 +188,8 @@ long_brace x a r l = let e = longest_meets is_op_tile V74 code (123 ∷ x ∷ a)
 long_end : (x : ℕ) (a r : List ℕ) → IsLongest V74 code (125 ∷ (x ∷ a) ++ r) Op (suc (suc (length a))) → ⊥
 long_end x a r l = let e = longest_meets is_op_tile V74 code (125 ∷ x ∷ a) r Op refl l in cc
 
-by_byte : (b x : ℕ) (a r : List ℕ) (p q s t : Bool) → nat_eq b 40 ≡ p → nat_eq b 41 ≡ q → nat_eq b 123 ≡ s → nat_eq b 125 ≡ t → IsLongest V74 code (b ∷ (x ∷ a) ++ r) Op (suc (suc (length a))) → is_one_of b ≡ false
+by_byte : (b x : ℕ) (a r : List ℕ) (p q s t : Bool) → nat_eq b 40 ≡ p → nat_eq b 41 ≡ q → nat_eq b 123 ≡ s
+    → nat_eq b 125 ≡ t → IsLongest V74 code (b ∷ (x ∷ a) ++ r) Op (suc (suc (length a))) → is_one_of b ≡ false
 by_byte b x a r true q s t e f g h l = absurd (no_long 40 x a r b e (long_round x a r) l)
 by_byte b x a r false true s t e f g h l = absurd (no_long 41 x a r b f (long_shut x a r) l)
 by_byte b x a r false false true t e f g h l = absurd (no_long 123 x a r b g (long_brace x a r) l)

@@ -28,7 +28,9 @@ second_of false true r h = absurd cc
 second_of false false r h = refl
 
 -- a token that is no bracket leaves casts open
-kept_open : (h : Bool) (kind : Kind) (b : ℕ) (a r : List ℕ) → (is_op (token_like kind) ≡ true → is_marked (b ∷ a) ≡ false) → IsLongest V74 (mode_of h) (b ∷ a ++ r) kind (suc (length a)) → stays_open (tile kind b a ∷ []) ≡ true
+kept_open : (h : Bool) (kind : Kind) (b : ℕ) (a r : List ℕ) →
+    (is_op (token_like kind) ≡ true → is_marked (b ∷ a) ≡ false)
+    → IsLongest V74 (mode_of h) (b ∷ a ++ r) kind (suc (length a)) → stays_open (tile kind b a ∷ []) ≡ true
 kept_open true Op b a r m l = absurd (no_html Op (b ∷ a) r refl l)
 kept_open false Op b a r m l =
     ap not (second_of (nat_eq b 40) (nat_eq b 41) (nat_eq b 123 || nat_eq b 125) (no_mark b a r (m refl) l))
@@ -43,7 +45,9 @@ kept_open h kind b a r m l = open_by (stops_cast kind)
 unmarked : (t : Token) → is_code_token t ≡ true → is_op t.kind ≡ true → is_marked t.text ≡ false
 unmarked t p o = by_op (is_op t.kind) o (and_parts (is_code_kind t.kind) (not (is_mark 40 t || (is_mark 41 t || (is_mark 123 t || is_mark 125 t)))) p).1
   where
-    by_op : (x : Bool) → x ≡ true → not ((x && is_byte 40 t.text) || ((x && is_byte 41 t.text) || ((x && is_byte 123 t.text) || (x && is_byte 125 t.text)))) ≡ true → is_marked t.text ≡ false
+    by_op : (x : Bool) → x ≡ true → not ((x && is_byte 40 t.text)
+        || ((x && is_byte 41 t.text) || ((x && is_byte 123 t.text) || (x && is_byte 125 t.text)))) ≡ true
+        → is_marked t.text ≡ false
     by_op true h q = not-true (is_marked t.text) q
     by_op false h q = absurd cc
 
@@ -53,7 +57,9 @@ token_turns means h t p below depth tiles more m steps same =
     let behind = steps_inner means h below depth tiles (lexeme t) more f steps in
     let long : IsLongest V74 (mode_of (inner_mode h f.trivia)) (f.b ∷ f.a ++ joined f.rest) f.kind (suc (length f.a)) = step_longest behind in
     let coded : is_code_kind (token_like f.kind) ≡ true =
-    sym (told is_code_kind refl refl f.kind (f.b ∷ f.a) t.kind f.is) ∙ (and_parts (is_code_kind t.kind) (not (is_mark 40 t || (is_mark 41 t || (is_mark 123 t || is_mark 125 t)))) p).0 in
+    sym (told is_code_kind refl refl f.kind (f.b ∷ f.a) t.kind f.is)
+    ∙ (and_parts (is_code_kind t.kind) (not (is_mark 40 t || (is_mark 41 t || (is_mark 123 t || is_mark 125 t))))
+    p).0 in
     let op : is_op t.kind ≡ is_op (token_like f.kind) = told is_op refl refl f.kind (f.b ∷ f.a) t.kind f.is in
     let marks : is_op (token_like f.kind) ≡ true → is_marked (f.b ∷ f.a) ≡ false = λ x. ap is_marked f.text ∙ unmarked t p (op ∙ x) in
     filled_one means h (is_op t.kind) below depth t (hash_comment t) tiles more steps f f.kind f.b f.a refl f.is

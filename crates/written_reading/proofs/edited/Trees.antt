@@ -16,7 +16,28 @@ use Rattle.syntax_rules.specs.DollarBrace as braced
 use Rattle.syntax_rules.specs.HashComment.{hash_comment}
 use Rattle.syntax_rules.specs.InContext.{changed_node, draft_in}
 use Rattle.written_tokens.specs.tokens.Written.{draft_tokens}
-use Rattle.rewritten_shapes.specs.paired.Paired.{is_common, IsStanding, IsSimple, Paired, no_part, token, rounds, braces, part, brace_offset, cast, text, Interpolated, text_end, piece, simple, curly, named, named_offset, expression}
+use Rattle.rewritten_shapes.specs.paired.Paired.{
+  is_common,
+  IsStanding,
+  IsSimple,
+  Paired,
+  no_part,
+  token,
+  rounds,
+  braces,
+  part,
+  brace_offset,
+  cast,
+  text,
+  Interpolated,
+  text_end,
+  piece,
+  simple,
+  curly,
+  named,
+  named_offset,
+  expression,
+}
 use Rattle.rewritten_shapes.specs.paired.Tokens.{is_op, is_mark, is_code_kind, is_code_token, opens_text, has_stop, IsMark}
 use Rattle.written_reading.specs.edited.PlainTexts.{begins_plainly, is_curly, has_plain_code, PlainTexts}
 use Rattle.written_reading.proofs.edited.TileFacts.{leaves_html, html_behind}
@@ -59,7 +80,9 @@ paired_other (braces {t} {u} {f} {g} {h} mt pg mu ph e) = first_other t.kind tok
 paired_other (part {j} {c} {f} common standing pc pf) = other_append (leaves c) (leaves f) (paired_other pc) (paired_other pf)
 paired_other (brace_offset {i = m} {j} {t} {u} {b} {c} {f} pb mt pc mu pf) =
     other_append (leaves (node m b (leaf t (node j c (leaf u none))))) (leaves f)
-    (other_append (leaves b) (t ∷ (leaves c ++ u ∷ [])) (subst (λ (l : List Token). begins_other l ≡ true) (append-nil (leaves b)) (paired_other pb)) (first_other t.kind token_kind.Op mt.kind refl))
+    (other_append (leaves b) (t ∷ (leaves c ++ u ∷ []))
+    (subst (λ (l : List Token). begins_other l ≡ true) (append-nil (leaves b)) (paired_other pb))
+    (first_other t.kind token_kind.Op mt.kind refl))
     (paired_other pf)
 paired_other (cast {j} {t} {b} {f} is pb pf) = first_other t.kind token_kind.Cast is refl
 paired_other (text {t} {c} {f} opens inner pf) = opens_other t.kind opens
@@ -87,10 +110,13 @@ Good f =
 
 module _ (laws : Laws) where
   -- a node of the code in a quoted text, alone
-  inner_node : (around : Bool → Option Around) (k : NodeKind) (c : Forest) → Good (node k c none) → PlainTexts (node k c none) → Turns false false (leaves c) (draft_tokens (part_draft around false k c))
+  inner_node : (around : Bool → Option Around) (k : NodeKind) (c : Forest) → Good (node k c none)
+      → PlainTexts (node k c none) → Turns false false (leaves c) (draft_tokens (part_draft around false k c))
   inner_node around k c good plain = node_alone laws around false false k c (good around false false plain)
 
-  text_node : (around : Bool → Option Around) (i h : Bool) (t : Token) (c : Forest) → opens_text t.kind ≡ true → Interpolated c → GoodText c → has_plain_code (leaf t c) ≡ true → PlainTexts c → Turns h false (leaves (leaf t c)) (draft_tokens (part_draft around i kind.Quoted (leaf t c)))
+  text_node : (around : Bool → Option Around) (i h : Bool) (t : Token) (c : Forest) → opens_text t.kind ≡ true
+      → Interpolated c → GoodText c → has_plain_code (leaf t c) ≡ true → PlainTexts c
+      → Turns h false (leaves (leaf t c)) (draft_tokens (part_draft around i kind.Quoted (leaf t c)))
   text_node around i h t c opens inner good code plain =
       let all = leaf t c in
       let low = within kind.Quoted all in
@@ -110,7 +136,10 @@ module _ (laws : Laws) where
   piece_case : (t : Token) (f : Forest) → t.kind ≡ token_kind.Piece → GoodText f → GoodText (leaf t f)
   piece_case t f is good around free code plain =
       let d = draft_in around false f in
-      text_as (t ∷ leaves f) false (is_dollar_brace t.kind) (piece_by (begins_dollar_brace d) (hash_comment t) ∷ draft_tokens (parts d)) (draft_tokens (parts (new_leaf (hash_comment t) d))) (sym (ap is_dollar_brace is)) (sym (piece_part (hash_comment t) d is))
+      text_as (t ∷ leaves f) false (is_dollar_brace t.kind)
+      (piece_by (begins_dollar_brace d) (hash_comment t) ∷ draft_tokens (parts d))
+      (draft_tokens (parts (new_leaf (hash_comment t) d))) (sym (ap is_dollar_brace is))
+      (sym (piece_part (hash_comment t) d is))
       (piece_turns laws.means.front (begins_dollar_brace d) t (leaves f) (draft_tokens (parts d)) is
       (good around free (and_parts (not (is_curly t.kind) || begins_plainly f) (has_plain_code f) code).1 plain))
 
@@ -130,7 +159,8 @@ module _ (laws : Laws) where
   not_none : (ss : List Token) → are_some (ss ++ []) ≡ true → ss ≡ [] → ⊥
   not_none ss h e = let w : are_some ([] ++ []) ≡ true = subst (λ (l : List Token). are_some (l ++ []) ≡ true) e h in cc
 
-  curly_case : (t u : Token) (j : NodeKind) (c f : Forest) → t.kind ≡ token_kind.CurlyOpen → IsMark 125 u → Paired (node j c none) → Good (node j c none) → GoodText f → GoodText (leaf t (node j c (leaf u f)))
+  curly_case : (t u : Token) (j : NodeKind) (c f : Forest) → t.kind ≡ token_kind.CurlyOpen → IsMark 125 u
+      → Paired (node j c none) → Good (node j c none) → GoodText f → GoodText (leaf t (node j c (leaf u f)))
   curly_case t u j c f is mu paired inner good around free code plain =
       let d = draft_in around false f in
       let ts = draft_tokens (parts d) in
@@ -141,7 +171,9 @@ module _ (laws : Laws) where
       let dollar : Dollar (old_front (leaves c)) → Dollar (new_front ns) =
       λ x. subst (λ (l : List NewToken). Dollar (new_front l)) (append-nil ns)
       (front_kept paired around false free first (subst (λ (l : List Token). Dollar (old_front l)) (sym (append-nil (leaves c))) x)) in
-      text_as (t ∷ (leaves c ++ u ∷ leaves f)) false (is_dollar_brace t.kind) (hash_comment t ∷ (ns ++ hash_comment u ∷ ts)) (draft_tokens (parts (draft_in around false (leaf t (node j c (leaf u f))))))
+      text_as (t ∷ (leaves c ++ u ∷ leaves f)) false (is_dollar_brace t.kind)
+      (hash_comment t ∷ (ns ++ hash_comment u ∷ ts))
+      (draft_tokens (parts (draft_in around false (leaf t (node j c (leaf u f))))))
       (sym (ap is_dollar_brace is))
       (sym (ap draft_tokens (kept_part (hash_comment t) (draft_in around false (node j c (leaf u f))) (ap is_dollar_brace is) (ap is_piece is))
       ∙ ap (λ (x : Draft). hash_comment t ∷ (ns ++ draft_tokens x)) (kept_part (hash_comment u) d (ap is_dollar_brace mu.kind) (ap is_piece mu.kind))))
@@ -158,7 +190,9 @@ module _ (laws : Laws) where
       let one = and_parts (not (is_curly t.kind) || begins_plainly (leaf v (leaf u f))) (has_plain_code (leaf v (leaf u f))) code in
       let two = and_parts (not (is_curly v.kind) || begins_plainly (leaf u f)) (has_plain_code (leaf u f)) one.1 in
       let three = and_parts (not (is_curly u.kind) || begins_plainly f) (has_plain_code f) two.1 in
-      text_as (t ∷ v ∷ u ∷ leaves f) true (is_dollar_brace t.kind) (braced.curly (hash_comment t) ∷ braced.dollar_name (hash_comment v) ∷ hash_comment u ∷ ts) (draft_tokens (parts (draft_in around false (leaf t (leaf v (leaf u f))))))
+      text_as (t ∷ v ∷ u ∷ leaves f) true (is_dollar_brace t.kind)
+      (braced.curly (hash_comment t) ∷ braced.dollar_name (hash_comment v) ∷ hash_comment u ∷ ts)
+      (draft_tokens (parts (draft_in around false (leaf t (leaf v (leaf u f))))))
       (sym (ap is_dollar_brace is)) (sym (named_part t v u d is name mu))
       (named_turns laws.means laws.join false (begins_dollar_brace d) t v u [] [] (leaves f) ts is name mu no_turns (good around free three.1 plain))
 
@@ -170,14 +204,18 @@ module _ (laws : Laws) where
       rw (p, q, r) (ap not h)
 
   -- `[`, code and `]`
-  square_parts : (o s : Token) (ss : List Token) (ts : List NewToken) → IsMark 91 o → IsMark 93 s → Turns false false ss ts → Turns false (is_op o.kind || (false || is_op s.kind)) (o ∷ (ss ++ s ∷ [])) (hash_comment o ∷ (ts ++ hash_comment s ∷ []))
+  square_parts : (o s : Token) (ss : List Token) (ts : List NewToken) → IsMark 91 o → IsMark 93 s
+      → Turns false false ss ts → Turns false (is_op o.kind || (false || is_op s.kind)) (o ∷ (ss ++ s ∷ []))
+      (hash_comment o ∷ (ts ++ hash_comment s ∷ []))
   square_parts o s ss ts mo ms turns =
       token_joins laws false o (ss ++ s ∷ []) (false || is_op s.kind) (ts ++ hash_comment s ∷ []) (mark_code o 91 mo refl)
       (turns_join laws.join (leaves_html o.kind) false (is_op s.kind) ss (s ∷ []) ts (hash_comment s ∷ [])
       (subst (λ (x : Bool). Turns x false ss ts) (sym (ap leaves_html mo.kind)) turns)
       (token_turns laws.means (html_behind (leaves_html o.kind) ss) s (mark_code s 93 ms refl)))
 
-  offset_case : (t v o s u : Token) (j : NodeKind) (c f : Forest) → t.kind ≡ token_kind.DollarBrace → v.kind ≡ token_kind.VarName → IsMark 91 o → IsMark 93 s → IsMark 125 u → Good (node j c none) → GoodText f → GoodText (leaf t (leaf v (leaf o (node j c (leaf s (leaf u f))))))
+  offset_case : (t v o s u : Token) (j : NodeKind) (c f : Forest) → t.kind ≡ token_kind.DollarBrace
+      → v.kind ≡ token_kind.VarName → IsMark 91 o → IsMark 93 s → IsMark 125 u → Good (node j c none) → GoodText f
+      → GoodText (leaf t (leaf v (leaf o (node j c (leaf s (leaf u f))))))
   offset_case t v o s u j c f is name mo ms mu inner good around free code plain =
       let d = draft_in around false f in
       let ts = draft_tokens (parts d) in
@@ -191,11 +229,16 @@ module _ (laws : Laws) where
       let row = hash_comment o ∷ (ns ++ hash_comment s ∷ []) in
       let turns = named_turns laws.means laws.join (is_op o.kind || (false || is_op s.kind)) (begins_dollar_brace d) t v u (o ∷ (leaves c ++ s ∷ [])) row (leaves f) ts is name mu
       (square_parts o s (leaves c) ns mo ms (inner_node around j c inner (plain.0, plain.1, tt))) (good around free five.1 plain.2) in
-      subst (λ (l : List Token). TextTurns (is_dollar_brace t.kind) (t ∷ v ∷ o ∷ l) (draft_tokens (parts (draft_in around false (leaf t (leaf v (leaf o x1))))))) (append_assoc (leaves c) (s ∷ []) (u ∷ leaves f))
-      (text_as (t ∷ v ∷ ((o ∷ (leaves c ++ s ∷ [])) ++ u ∷ leaves f)) true (is_dollar_brace t.kind) (braced.curly (hash_comment t) ∷ braced.dollar_name (hash_comment v) ∷ (row ++ hash_comment u ∷ ts)) (draft_tokens (parts (draft_in around false (leaf t (leaf v (leaf o x1))))))
+      subst (λ (l : List Token). TextTurns (is_dollar_brace t.kind) (t ∷ v ∷ o ∷ l)
+      (draft_tokens (parts (draft_in around false (leaf t (leaf v (leaf o x1)))))))
+      (append_assoc (leaves c) (s ∷ []) (u ∷ leaves f))
+      (text_as (t ∷ v ∷ ((o ∷ (leaves c ++ s ∷ [])) ++ u ∷ leaves f)) true (is_dollar_brace t.kind)
+      (braced.curly (hash_comment t) ∷ braced.dollar_name (hash_comment v) ∷ (row ++ hash_comment u ∷ ts))
+      (draft_tokens (parts (draft_in around false (leaf t (leaf v (leaf o x1))))))
       (sym (ap is_dollar_brace is)) (sym (offset_part t v o s u _ _ d is name mo ms mu)) turns)
 
-  expression_case : (t u : Token) (j : NodeKind) (c f : Forest) → t.kind ≡ token_kind.DollarBrace → IsMark 125 u → Paired (node j c none) → Good (node j c none) → GoodText f → GoodText (leaf t (node j c (leaf u f)))
+  expression_case : (t u : Token) (j : NodeKind) (c f : Forest) → t.kind ≡ token_kind.DollarBrace → IsMark 125 u
+      → Paired (node j c none) → Good (node j c none) → GoodText f → GoodText (leaf t (node j c (leaf u f)))
   expression_case t u j c f is mu paired inner good around free code plain =
       let d = draft_in around false f in
       let ts = draft_tokens (parts d) in
@@ -205,7 +248,8 @@ module _ (laws : Laws) where
       let close = retexted token_kind.Op (codes "}") (hash_comment u) in
       let front = braced.curly (hash_comment t) ∷ put_also token_kind.Op (codes "$") ∷ put_also token_kind.Op (codes "{") ∷ [] in
       let last = put_also token_kind.Op (codes "}") ∷ ts in
-      text_as (t ∷ (leaves c ++ u ∷ leaves f)) true (is_dollar_brace t.kind) (front ++ (ns ++ close ∷ last)) (draft_tokens (parts (draft_in around false (leaf t (node j c (leaf u f))))))
+      text_as (t ∷ (leaves c ++ u ∷ leaves f)) true (is_dollar_brace t.kind) (front ++ (ns ++ close ∷ last))
+      (draft_tokens (parts (draft_in around false (leaf t (node j c (leaf u f))))))
       (sym (ap is_dollar_brace is))
       (sym (row_part t u _ _ d is mu ∙ ap (λ (l : List NewToken). front ++ l) (append_assoc ns (close ∷ []) last)))
       (row_turns laws.means laws.join false (begins_dollar_brace d) t u (leaves c) ns (leaves f) ts is
@@ -236,7 +280,8 @@ module _ (laws : Laws) where
       (inner (within j c) true h plain.1)))
       (outer around false (html_behind h (leaves c)) plain.2)
 
-  offset_node : (m j : NodeKind) (t u : Token) (b c f : Forest) → IsMark 123 t → IsMark 125 u → Good (node m b none) → Good (node j c none) → Good f → Good (node kind.BraceOffset (node m b (leaf t (node j c (leaf u none)))) f)
+  offset_node : (m j : NodeKind) (t u : Token) (b c f : Forest) → IsMark 123 t → IsMark 125 u → Good (node m b none)
+      → Good (node j c none) → Good f → Good (node kind.BraceOffset (node m b (leaf t (node j c (leaf u none)))) f)
   offset_node m j t u b c f mt mu base index outer around i h plain =
       let all = node m b (leaf t (node j c (leaf u none))) in
       let own = plain.1 in

@@ -90,7 +90,10 @@ more_behind [] more h = h
 more_behind (u ∷ us) more h = refl
 
 -- the steps behind a row
-pub steps_left : {h stop : Bool} {s : Token} {ss : List Token} {ts : List NewToken} {tiles : List Tile} {more : List Lexeme} → (f : Filled h stop s ss ts tiles more) → (below : List Mode) (depth : ℕ) → Steps V74 (stack_of (mode_of h) below depth) tiles → Steps V74 (stack_of (mode_of (html_behind h (s ∷ ss))) below depth) f.rest
+pub steps_left : {h stop : Bool} {s : Token} {ss : List Token} {ts : List NewToken} {tiles : List Tile}
+    {more : List Lexeme} → (f : Filled h stop s ss ts tiles more) → (below : List Mode) (depth : ℕ)
+    → Steps V74 (stack_of (mode_of h) below depth) tiles → Steps V74
+    (stack_of (mode_of (html_behind h (s ∷ ss))) below depth) f.rest
 steps_left {h} f below depth steps =
     f.row.source below depth f.rest
     (f.lead.source below depth ((tile f.kind f.b f.a ∷ f.body) ++ f.rest)
@@ -116,7 +119,8 @@ either false false c d p q h = absurd cc
 
 module _ (join : BecomesJoin) where
   -- rows that become others, one behind another
-  pub becomes_both : (m n p : Mode) (ts us ts' us' : List Tile) → Becomes false (any_stops ts) m n ts us → Becomes false (any_stops ts') n p ts' us' → Becomes false (any_stops (ts ++ ts')) m p (ts ++ ts') (us ++ us')
+  pub becomes_both : (m n p : Mode) (ts us ts' us' : List Tile) → Becomes false (any_stops ts) m n ts us
+      → Becomes false (any_stops ts') n p ts' us' → Becomes false (any_stops (ts ++ ts')) m p (ts ++ ts') (us ++ us')
   becomes_both m n p ts us ts' us' f g =
       subst (λ (x : Bool). Becomes false x m p (ts ++ ts') (us ++ us')) (sym (stops_append ts ts'))
       (join false (any_stops ts) false (any_stops ts') m n p ts us ts' us' f g)
@@ -131,10 +135,15 @@ module _ (join : BecomesJoin) where
       let two = tile g.kind g.b g.a ∷ g.body in
       let new = tile f.k f.c f.e ∷ f.us in
       let newer = tile g.k g.c g.e ∷ g.us in
-      let behind : Becomes false (any_stops (g.trivia ++ two)) (mode_of (html_behind h (s ∷ ss))) (mode_of (html_behind (html_behind h (s ∷ ss)) (t ∷ tt))) (g.trivia ++ two) (g.spaced ++ newer) =
+      let behind : Becomes false (any_stops (g.trivia ++ two)) (mode_of (html_behind h (s ∷ ss)))
+      (mode_of (html_behind (html_behind h (s ∷ ss)) (t ∷ tt))) (g.trivia ++ two) (g.spaced ++ newer) =
       becomes_both (mode_of (html_behind h (s ∷ ss))) (mode_of g.inner) (mode_of (html_behind (html_behind h (s ∷ ss)) (t ∷ tt))) g.trivia g.spaced two newer g.lead g.row in
-      let all : Becomes false (any_stops (one ++ (g.trivia ++ two))) (mode_of f.inner) (mode_of (html_behind (html_behind h (s ∷ ss)) (t ∷ tt))) (one ++ (g.trivia ++ two)) (new ++ (g.spaced ++ newer)) =
-      becomes_both (mode_of f.inner) (mode_of (html_behind h (s ∷ ss))) (mode_of (html_behind (html_behind h (s ∷ ss)) (t ∷ tt))) one new (g.trivia ++ two) (g.spaced ++ newer) f.row behind in
+      let all : Becomes false (any_stops (one ++ (g.trivia ++ two))) (mode_of f.inner)
+      (mode_of (html_behind (html_behind h (s ∷ ss)) (t ∷ tt))) (one ++ (g.trivia ++ two))
+      (new ++ (g.spaced ++ newer)) =
+      becomes_both (mode_of f.inner) (mode_of (html_behind h (s ∷ ss)))
+      (mode_of (html_behind (html_behind h (s ∷ ss)) (t ∷ tt))) one new (g.trivia ++ two) (g.spaced ++ newer)
+      f.row behind in
       record {
         inner = f.inner;
         trivia = f.trivia;
@@ -211,7 +220,8 @@ module _ (join : BecomesJoin) where
   row_join h s1 s2 (s ∷ ss1) (t ∷ ss2) ts1 ts2 below depth tiles more m steps same r next =
       filled_join h s1 s2 s t ss1 ss2 ts1 ts2 tiles more r (next below depth r.rest more m (steps_left r below depth steps) r.left)
 
-  pub turns_join : (h s1 s2 : Bool) (ss1 ss2 : List Token) (ts1 ts2 : List NewToken) → Turns h s1 ss1 ts1 → Turns (html_behind h ss1) s2 ss2 ts2 → Turns h (s1 || s2) (ss1 ++ ss2) (ts1 ++ ts2)
+  pub turns_join : (h s1 s2 : Bool) (ss1 ss2 : List Token) (ts1 ts2 : List NewToken) → Turns h s1 ss1 ts1
+      → Turns (html_behind h ss1) s2 ss2 ts2 → Turns h (s1 || s2) (ss1 ++ ss2) (ts1 ++ ts2)
   turns_join h s1 s2 ss1 ss2 ts1 ts2 p q below depth tiles more m steps same =
       let there : spelled [] tiles ≡ map lexeme ss1 ++ (map lexeme ss2 ++ more) = same ∙ parted_spelled ss1 ss2 more in
       row_join h s1 s2 ss1 ss2 ts1 ts2 below depth tiles more m steps there

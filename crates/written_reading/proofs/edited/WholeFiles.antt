@@ -50,7 +50,8 @@ record Ending (h : Bool) (e : Token) (rest : List Tile) : Type 0 where
   become : Becomes false (any_stops rest) (mode_of h) (mode_of inner) rest ys
   same : spelled [] ys ≡ new_lexeme (hash_comment e) ∷ []
 
-end_lexeme : (e : Token) (lead : List ℕ) → e.kind ≡ End → e.text ≡ [] → lead ≡ after (spaced outside e.lead) → record { kind = End; lead = lead; text = [] } ≡ new_lexeme (hash_comment e)
+end_lexeme : (e : Token) (lead : List ℕ) → e.kind ≡ End → e.text ≡ [] → lead ≡ after (spaced outside e.lead)
+    → record { kind = End; lead = lead; text = [] } ≡ new_lexeme (hash_comment e)
 end_lexeme e lead is text same =
     ap (λ (x : List ℕ). record { kind = End; lead = x; text = [] }) same
     ∙ ap (λ (x : TokenKind). record { kind = x; lead = after (spaced outside e.lead); text = [] }) (sym is)
@@ -90,7 +91,8 @@ module _ (laws : Laws) (ends : EndOfRow) (e : Token) where
         same = last.same ∙ ap (λ (l : List NewToken). map new_lexeme l ++ new_lexeme (hash_comment e) ∷ []) (sym none);
       }
 
-  ended_some : (stop : Bool) (s : Token) (ss : List Token) (ts : List NewToken) (tiles : List Tile) → Steps V74 start tiles → Filled true stop s ss ts tiles (lexeme e ∷ []) → EndedRow ts e
+  ended_some : (stop : Bool) (s : Token) (ss : List Token) (ts : List NewToken) (tiles : List Tile)
+      → Steps V74 start tiles → Filled true stop s ss ts tiles (lexeme e ∷ []) → EndedRow ts e
   ended_some stop s ss ts tiles steps f =
       let one = tile f.kind f.b f.a ∷ f.body in
       let new = tile f.k f.c f.e ∷ f.us in
@@ -112,7 +114,8 @@ module _ (laws : Laws) (ends : EndOfRow) (e : Token) where
             ∙ ap (λ (l : List NewToken). map new_lexeme l ++ new_lexeme (hash_comment e) ∷ []) (sym f.tokens);
       }
 
-  ended_by : (stop : Bool) (ss : List Token) (ts : List NewToken) (tiles : List Tile) → Steps V74 start tiles → spelled [] tiles ≡ map lexeme ss ++ lexeme e ∷ [] → Row true stop ss ts tiles (lexeme e ∷ []) → EndedRow ts e
+  ended_by : (stop : Bool) (ss : List Token) (ts : List NewToken) (tiles : List Tile) → Steps V74 start tiles
+      → spelled [] tiles ≡ map lexeme ss ++ lexeme e ∷ [] → Row true stop ss ts tiles (lexeme e ∷ []) → EndedRow ts e
   ended_by stop [] ts tiles steps same r = ended_none ts tiles steps same r.1
   ended_by stop (s ∷ ss) ts tiles steps same r = ended_some stop s ss ts tiles steps r
 

@@ -52,7 +52,9 @@ uncast_by : (kind : Kind) (b : ℕ) (x : Bool) → nat_eq b 41 ≡ false → sto
 uncast_by kind b x h s = ap (λ (y : Bool). cond y (not (nat_eq b 41)) x) s ∙ ap not h
 
 -- The first tile of code that can't stand in a cast is no `)`.
-pub uncast_of : (below : List Mode) (depth : ℕ) (ts rest : List Tile) → Steps V74 (stack_of code below depth) (ts ++ rest) → any_stops ts ≡ true → stays_open ts ≡ true → is_uncast ts ≡ true
+pub uncast_of : (below : List Mode) (depth : ℕ) (ts rest : List Tile)
+    → Steps V74 (stack_of code below depth) (ts ++ rest) → any_stops ts ≡ true → stays_open ts ≡ true
+    → is_uncast ts ≡ true
 uncast_of below depth [] rest steps s o = absurd cc
 uncast_of below depth (tile Space b a ∷ ts) rest steps s o = uncast_of below depth ts rest (step_behind steps) s o
 uncast_of below depth (tile Word b a ∷ ts) rest steps s o = uncast_of below depth ts rest (step_behind steps) s o
@@ -75,7 +77,10 @@ begins_by kind b a ts k e p =
 -- ---- parentheses
 
 module _ (rounds : RoundsComeIn) (h : Bool) (t : Token) (ss : List Token) (edge : is_edge t.kind ≡ false) (coded : html_behind h (t ∷ ss) ≡ false) where
-  wrapped_row : (d : Draft) (below : List Mode) (depth : ℕ) (tiles : List Tile) (more : List Lexeme) → Steps V74 (stack_of (mode_of h) below depth) tiles → Filled h true t ss (draft_tokens d) tiles more → Filled h true t ss (put_in (first_lead d) (codes "(") ∷ (draft_tokens (without_lead d) ++ put_in [] (codes ")") ∷ [])) tiles more
+  wrapped_row : (d : Draft) (below : List Mode) (depth : ℕ) (tiles : List Tile) (more : List Lexeme)
+      → Steps V74 (stack_of (mode_of h) below depth) tiles → Filled h true t ss (draft_tokens d) tiles more
+      → Filled h true t ss (put_in (first_lead d) (codes "(")
+      ∷ (draft_tokens (without_lead d) ++ put_in [] (codes ")") ∷ [])) tiles more
   wrapped_row d below depth tiles more steps f =
       let one = tile f.kind f.b f.a ∷ f.body in
       let new = tile f.k f.c f.e ∷ f.us in
@@ -120,8 +125,13 @@ module _ (rounds : RoundsComeIn) (h : Bool) (t : Token) (ss : List Token) (edge 
         kind_is = refl;
         text_is = refl;
         spells = subst (λ (l : List NewToken). Spells (new ++ tile Op 41 [] ∷ []) (map new_lexeme (l ++ put_in [] (codes ")") ∷ []))) (sym others)
-            (subst (Spells (new ++ tile Op 41 [] ∷ [])) (sym (ap (λ (l : List Lexeme). new_lexeme (record { kind = f.first.kind; lead = []; text = f.first.text }) ∷ l) (news_append f.others (put_in [] (codes ")") ∷ []))))
-            (led_spells [] refl f.k f.c f.e (new_lexeme (record { kind = f.first.kind; lead = []; text = f.first.text })) refl f.kind_is f.text_is (f.us ++ tile Op 41 [] ∷ []) (map new_lexeme f.others ++ map new_lexeme (put_in [] (codes ")") ∷ []))
+            (subst (Spells (new ++ tile Op 41 [] ∷ []))
+            (sym (ap (λ (l : List Lexeme). new_lexeme
+            (record { kind = f.first.kind; lead = []; text = f.first.text }) ∷ l)
+            (news_append f.others (put_in [] (codes ")") ∷ []))))
+            (led_spells [] refl f.k f.c f.e (new_lexeme (record
+            { kind = f.first.kind; lead = []; text = f.first.text })) refl f.kind_is f.text_is
+            (f.us ++ tile Op 41 [] ∷ []) (map new_lexeme f.others ++ map new_lexeme (put_in [] (codes ")") ∷ []))
             (spells_join f.us (tile Op 41 [] ∷ []) (map new_lexeme f.others) (map new_lexeme (put_in [] (codes ")") ∷ [])) f.spells (λ rest. refl))));
         clean_lead = f.clean_lead;
         clean = clean_append new (tile Op 41 [] ∷ []) f.clean refl;
@@ -131,6 +141,8 @@ module _ (rounds : RoundsComeIn) (h : Bool) (t : Token) (ss : List Token) (edge 
       }
 
   -- a node in parentheses
-  pub wrapped_turns : (d : Draft) → Turns h true (t ∷ ss) (draft_tokens d) → Turns h true (t ∷ ss) (put_in (first_lead d) (codes "(") ∷ (draft_tokens (without_lead d) ++ put_in [] (codes ")") ∷ []))
+  pub wrapped_turns : (d : Draft) → Turns h true (t ∷ ss) (draft_tokens d)
+      → Turns h true (t ∷ ss) (put_in (first_lead d) (codes "(")
+      ∷ (draft_tokens (without_lead d) ++ put_in [] (codes ")") ∷ []))
   wrapped_turns d turns below depth tiles more m steps same =
       wrapped_row d below depth tiles more steps (turns below depth tiles more m steps same)

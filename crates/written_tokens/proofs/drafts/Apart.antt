@@ -15,7 +15,27 @@ use Rattle.written_tokens.specs.tokens.Parted.{bare, parted}
 use Rattle.written_tokens.specs.tokens.Spaced.{spaces_put}
 use Rattle.written_tokens.specs.tokens.Whole.{is_backslash, is_keyword_kind, is_label_kind, is_namespace, is_op_kind}
 use Rattle.written_tokens.specs.tokens.Written.{new_lexeme}
-use Rattle.rewritten_shapes.specs.paired.Names.{Part, State, bad, blank, calm, edged, failed, key, keyed, label, mark, other, part_by, root, rooted, rooted_key, space, step, worded}
+use Rattle.rewritten_shapes.specs.paired.Names.{
+  Part,
+  State,
+  bad,
+  blank,
+  calm,
+  edged,
+  failed,
+  key,
+  keyed,
+  label,
+  mark,
+  other,
+  part_by,
+  root,
+  rooted,
+  rooted_key,
+  space,
+  step,
+  worded,
+}
 use Rattle.rewritten_shapes.proofs.paired.Asked.{both_right, both_true, by_test, no_clash}
 use Rattle.php_parser.specs.Ends.{is_end}
 use Rattle.syntax_rules.specs.Around.{at_top}
@@ -129,7 +149,9 @@ not_backslash : (t : NewToken) → Kept t → is_root (new_part t) ≡ false →
 not_backslash t h e = sym h.same.backslash ∙ not_root t.kind (before t.text) e
 
 -- a label or a bracket, by its part
-next_by : (sort : TokenKind) (text new : List ℕ) → goes_on (part_by sort text) ≡ true → (names.is_op sort ≡ true → begins is_letter new ≡ begins is_letter text) → (not (begins is_letter new) || is_label_kind sort) ≡ true
+next_by : (sort : TokenKind) (text new : List ℕ) → goes_on (part_by sort text) ≡ true
+    → (names.is_op sort ≡ true → begins is_letter new ≡ begins is_letter text)
+    → (not (begins is_letter new) || is_label_kind sort) ≡ true
 next_by kind.Label text new e h = or_true (not (begins is_letter new))
   where
     or_true : (b : Bool) → (b || true) ≡ true
@@ -161,14 +183,18 @@ root_of t h e = go (is_root (new_part t)) refl
     go false d = absurd (no_clash (not_backslash t h d) e)
 
 -- neighbours, whatever stands before the second
-labelled_pair : (t u : NewToken) (lead : List ℕ) (s : State) (ts : List NewToken) → Kept t → Kept u → Ends (step s (new_part t)) (u ∷ ts) → is_labelled (new_lexeme t) (record { kind = u.kind; lead = lead; text = after u.text }) ≡ true
+labelled_pair : (t u : NewToken) (lead : List ℕ) (s : State) (ts : List NewToken) → Kept t → Kept u
+    → Ends (step s (new_part t)) (u ∷ ts) → is_labelled (new_lexeme t)
+    (record { kind = u.kind; lead = lead; text = after u.text }) ≡ true
 labelled_pair t u lead s ts h k e =
     labelled_by (is_backslash t.kind (after t.text)) (is_empty lead) (begins is_letter (after u.text)) (is_label_kind u.kind)
     (λ b. next_by u.kind (before u.text) (after u.text) (rooted_next (step s (new_part t)) u ts (root_step s (new_part t) (root_of t h b)) e) k.sign)
 
 -- ---- keywords
 
-not_key : (sort : TokenKind) (text : List ℕ) (b : Bool) → is_key (part_by sort text) ≡ false → (names.is_keyword sort && bytes_eq (str_to_ascii_lowercase text) (codes "namespace")) ≡ (if is_keyword_kind sort then b else false) → (is_keyword_kind sort && not b) ≡ false
+not_key : (sort : TokenKind) (text : List ℕ) (b : Bool) → is_key (part_by sort text) ≡ false
+    → (names.is_keyword sort && bytes_eq (str_to_ascii_lowercase text) (codes "namespace")) ≡
+    (if is_keyword_kind sort then b else false) → (is_keyword_kind sort && not b) ≡ false
 not_key kind.Keyword text b e d = go (is_namespace_word text) b d e
   where
     go : (n b : Bool) → n ≡ b → is_key (if n then space else key) ≡ false → not b ≡ false
@@ -195,12 +221,14 @@ parted_lead true true false d e = refl
 parted_lead true false c d e = refl
 parted_lead false b c d e = refl
 
-parted_other : (t u : NewToken) (lead : List ℕ) → Kept t → is_key (new_part t) ≡ false → is_parted (new_lexeme t) (record { kind = u.kind; lead = lead; text = after u.text }) ≡ true
+parted_other : (t u : NewToken) (lead : List ℕ) → Kept t → is_key (new_part t) ≡ false
+    → is_parted (new_lexeme t) (record { kind = u.kind; lead = lead; text = after u.text }) ≡ true
 parted_other t u lead h e =
     parted_by (is_keyword_kind t.kind) (not (is_namespace (after t.text))) (is_backslash u.kind (after u.text)) (is_empty lead)
     (not_key t.kind (before t.text) (is_namespace (after t.text)) e h.same.word)
 
-parted_no_root : (t u : NewToken) (lead : List ℕ) → Kept u → is_root (new_part u) ≡ false → is_parted (new_lexeme t) (record { kind = u.kind; lead = lead; text = after u.text }) ≡ true
+parted_no_root : (t u : NewToken) (lead : List ℕ) → Kept u → is_root (new_part u) ≡ false
+    → is_parted (new_lexeme t) (record { kind = u.kind; lead = lead; text = after u.text }) ≡ true
 parted_no_root t u lead k e =
     parted_or (is_keyword_kind t.kind) (not (is_namespace (after t.text))) (is_backslash u.kind (after u.text)) (is_empty lead) (not_backslash u k e)
 
@@ -234,7 +262,9 @@ root_true _ text e = absurd cc
 
 root_text : (t : NewToken) → is_root (new_part t) ≡ true → names.begins_root (before t.text) ≡ true
 root_text t e =
-    ap names.begins_root ((bytes_eq-Decides (before t.text) (codes "\\")).0 (both_right (names.is_op t.kind) (bytes_eq (before t.text) (codes "\\")) (root_true t.kind (before t.text) e)))
+    ap names.begins_root ((bytes_eq-Decides (before t.text) (codes "\\")).0
+    (both_right (names.is_op t.kind) (bytes_eq (before t.text) (codes "\\"))
+    (root_true t.kind (before t.text) e)))
 
 label_kind : (sort : TokenKind) (text : List ℕ) → part_by sort text ≡ label → names.is_label sort ≡ true
 label_kind kind.Label text e = refl
@@ -264,15 +294,20 @@ by_name false l r w e d = cc
 
 label_joins : (u v : NewToken) (ws : List NewToken) → names.is_backslash u ≡ true → new_part v ≡ label → joins u (before_all v ws) ≡ true
 label_joins u v [] r e =
-    by_label (names.is_backslash u) (names.is_label v.kind) (names.is_name v.kind) (names.begins_root (before v.text)) (names.is_label u.kind || names.is_namespace u) (names.is_name v.kind) r (label_kind v.kind (before v.text) e)
+    by_label (names.is_backslash u) (names.is_label v.kind) (names.is_name v.kind) (names.begins_root (before v.text))
+    (names.is_label u.kind || names.is_namespace u) (names.is_name v.kind) r (label_kind v.kind (before v.text) e)
 label_joins u v (w ∷ ws) r e = go (names.is_one v w)
   where
     go : (b : Bool) → joins u (if b then names.one_name v w ∷ ws else v ∷ w ∷ ws) ≡ true
     go true =
         by_name (names.is_backslash u) (names.is_label kind.Name) (names.begins_root (before (names.one_name v w).text)) (names.is_label u.kind || names.is_namespace u) r
-        (ap names.begins_root (one_text v w) ∙ plain_front (before v.text) (before (names.deleted (before w.lead)) ++ before w.text) (label_text v.kind (before v.text) (ap is_label_part e)).0)
+        (ap names.begins_root (one_text v w) ∙ plain_front (before v.text)
+        (before (names.deleted (before w.lead)) ++ before w.text)
+        (label_text v.kind (before v.text) (ap is_label_part e)).0)
     go false =
-        by_label (names.is_backslash u) (names.is_label v.kind) (names.is_name v.kind) (names.begins_root (before v.text)) (names.is_label u.kind || names.is_namespace u) (names.is_name v.kind) r (label_kind v.kind (before v.text) e)
+        by_label (names.is_backslash u) (names.is_label v.kind) (names.is_name v.kind)
+        (names.begins_root (before v.text)) (names.is_label u.kind || names.is_namespace u) (names.is_name v.kind)
+        r (label_kind v.kind (before v.text) e)
 
 -- behind `\` behind a keyword stands a label
 root_joins : (u : NewToken) (ts : List NewToken) → names.is_backslash u ≡ true → Ends rooted_key ts → joins u (all_whole ts) ≡ true
@@ -314,11 +349,13 @@ put_is false j n r c p q e = cc
 put_is true false n r c p q e = cc
 put_is true true n false c p q e = cc
 
-spaced_lead : (b : Bool) (u : NewToken) (ts : List NewToken) → Kept u → b ≡ true → is_root (new_part u) ≡ true → Ends rooted_key ts → is_empty (after (given (put b u (joins u (all_whole ts))) u).lead) ≡ false
+spaced_lead : (b : Bool) (u : NewToken) (ts : List NewToken) → Kept u → b ≡ true → is_root (new_part u) ≡ true
+    → Ends rooted_key ts → is_empty (after (given (put b u (joins u (all_whole ts))) u).lead) ≡ false
 spaced_lead b u ts k p r e =
     let root_there = root_true u.kind (before u.text) r in
     ap (λ (c : Bool). is_empty (after (given c u).lead))
-    (put_is b (joins u (all_whole ts)) (names.is_name u.kind) (names.begins_root (before u.text)) (names.is_nothing (before u.lead)) p (root_joins u ts root_there e) (root_text u r))
+    (put_is b (joins u (all_whole ts)) (names.is_name u.kind) (names.begins_root (before u.text))
+    (names.is_nothing (before u.lead)) p (root_joins u ts root_there e) (root_text u r))
     ∙ lead_by u (names.is_nothing (before u.lead)) k root_there refl
 
 key_kind : (sort : TokenKind) (text : List ℕ) → is_key (part_by sort text) ≡ true → names.is_keyword sort ≡ true
@@ -362,7 +399,8 @@ loose_key key e = refl
 loose_key _ e = absurd cc
 
 -- neighbours where the second keeps its trivia
-parted_kept : (b : Bool) (t u : NewToken) (s : State) (ts : List NewToken) → Kept t → Kept u → (names.is_keyword t.kind ≡ true → is_empty (before t.text) ≡ false) → Ends (step s (new_part t)) (u ∷ ts)
+parted_kept : (b : Bool) (t u : NewToken) (s : State) (ts : List NewToken) → Kept t → Kept u
+    → (names.is_keyword t.kind ≡ true → is_empty (before t.text) ≡ false) → Ends (step s (new_part t)) (u ∷ ts)
     → is_parted (new_lexeme t) (new_lexeme (given (put (names.keyword_behind b t) u (joins u (all_whole ts))) u)) ≡ true
 parted_kept b t u s ts h k w e = go (is_key (new_part t)) (is_root (new_part u)) refl refl
   where
@@ -373,7 +411,14 @@ parted_kept b t u s ts h k w e = go (is_key (new_part t)) (is_root (new_part u))
     same true = refl
     same false = refl
 
-    told : is_parted (new_lexeme t) (record { kind = u.kind; lead = after (given (put (names.keyword_behind b t) u (joins u (all_whole ts))) u).lead; text = after u.text }) ≡ true → is_parted (new_lexeme t) (new_lexeme (given (put (names.keyword_behind b t) u (joins u (all_whole ts))) u)) ≡ true
+    told : is_parted (new_lexeme t) (record {
+      kind = u.kind;
+      lead =
+          after (given (put (names.keyword_behind b t) u (joins u (all_whole ts))) u).lead;
+      text = after u.text;
+    }) ≡
+        true → is_parted (new_lexeme t) (new_lexeme (given (put (names.keyword_behind b t) u (joins u (all_whole ts)))
+        u)) ≡ true
     told x = ap (is_parted (new_lexeme t)) (same (put (names.keyword_behind b t) u (joins u (all_whole ts)))) ∙ x
 
     ends : is_key (new_part t) ≡ true → is_root (new_part u) ≡ true → Ends rooted_key ts
@@ -383,7 +428,9 @@ parted_kept b t u s ts h k w e = go (is_key (new_part t)) (is_root (new_part u))
         by_sum (inl d) = ap (λ (z : State). run_list z ts) (sym d) ∙ e
         by_sum (inr d) = absurd (failed_not ts (step (step s (new_part t)) (new_part u)) d e)
 
-    go : (p r : Bool) → is_key (new_part t) ≡ p → is_root (new_part u) ≡ r → is_parted (new_lexeme t) (new_lexeme (given (put (names.keyword_behind b t) u (joins u (all_whole ts))) u)) ≡ true
+    go : (p r : Bool) → is_key (new_part t) ≡ p → is_root (new_part u) ≡ r
+        → is_parted (new_lexeme t) (new_lexeme (given (put (names.keyword_behind b t) u (joins u (all_whole ts))) u))
+        ≡ true
     go false r d g = told (parted_other t u _ h d)
     go true false d g = told (parted_no_root t u _ k g)
     go true true d g =
@@ -429,7 +476,9 @@ given_lexeme : (c : Bool) (u : NewToken) → new_lexeme (given c u) ≡ record {
 given_lexeme true u = refl
 given_lexeme false u = refl
 
-bare_lexeme : (c : Bool) (u : NewToken) → new_lexeme (record (given c u) { lead = names.deleted (before (given c u).lead) }) ≡ record { kind = u.kind; lead = after (names.deleted (before (given c u).lead)); text = after u.text }
+bare_lexeme : (c : Bool) (u : NewToken)
+    → new_lexeme (record (given c u) { lead = names.deleted (before (given c u).lead) }) ≡ record
+    { kind = u.kind; lead = after (names.deleted (before (given c u).lead)); text = after u.text }
 bare_lexeme true u = refl
 bare_lexeme false u = refl
 
@@ -442,13 +491,18 @@ no_key : (c : Bool) (t : NewToken) (ws : List NewToken) → joins (given c t) ws
 no_key c t ws j = by_test (is_key (new_part t)) (λ e. loose_join (given c t) ws (ap is_loose (given_loose c t) ∙ loose_key (new_part t) e) j)
 
 -- two tokens in front of others
-second_apart : (b : Bool) (t u : NewToken) (ts : List NewToken) (s : State) (x : Lexeme) → Kept t → Kept u → (names.is_keyword t.kind ≡ true → is_empty (before t.text) ≡ false) → Ends (step s (new_part t)) (u ∷ ts)
+second_apart : (b : Bool) (t u : NewToken) (ts : List NewToken) (s : State) (x : Lexeme) → Kept t → Kept u
+    → (names.is_keyword t.kind ≡ true → is_empty (before t.text) ≡ false) → Ends (step s (new_part t)) (u ∷ ts)
     → names_apart (map new_lexeme (parted (spaces_put (names.keyword_behind b t) (u ∷ ts))) ++ x ∷ []) ≡ true
     → (j : Bool) → joins (given (put b t (joins t (all_whole (u ∷ ts)))) t) (all_whole (spaces_put (names.keyword_behind b t) (u ∷ ts))) ≡ j
-    → names_apart (new_lexeme t ∷ (map new_lexeme (if j then bare (parted (spaces_put (names.keyword_behind b t) (u ∷ ts))) else parted (spaces_put (names.keyword_behind b t) (u ∷ ts))) ++ x ∷ [])) ≡ true
+    → names_apart (new_lexeme t ∷ (map new_lexeme (if j then bare
+    (parted (spaces_put (names.keyword_behind b t) (u ∷ ts))) else parted
+    (spaces_put (names.keyword_behind b t) (u ∷ ts))) ++ x ∷ [])) ≡ true
 second_apart b t u ts s x h k w e ih true g =
     let d = put (names.keyword_behind b t) u (joins u (all_whole ts)) in
-    let first = record (given (put (names.keyword_behind b t) u (joins u (all_whole ts))) u) { lead = names.deleted (before (given (put (names.keyword_behind b t) u (joins u (all_whole ts))) u).lead) } in
+    let first = record (given (put (names.keyword_behind b t) u (joins u (all_whole ts))) u)
+    { lead = names.deleted (before (given (put (names.keyword_behind b t) u (joins u (all_whole ts))) u).lead) }
+    in
     both_true (is_labelled (new_lexeme t) (new_lexeme first) && is_parted (new_lexeme t) (new_lexeme first)) _
     (both_true (is_labelled (new_lexeme t) (new_lexeme first)) (is_parted (new_lexeme t) (new_lexeme first))
     (ap (is_labelled (new_lexeme t)) (bare_lexeme (put (names.keyword_behind b t) u (joins u (all_whole ts))) u) ∙ labelled_pair t u _ s ts h k e)
@@ -471,7 +525,8 @@ calm_below : (s : State) → is_below s calm ≡ true → s ≡ calm
 calm_below calm e = refl
 calm_below _ e = absurd cc
 
-row_apart : (ts : List NewToken) (b : Bool) (s : State) (x : Lexeme) → x.kind ≡ kind.End → ListKept ts → KeywordsHaveText ts → Ends s ts → names_apart (map new_lexeme (parted (spaces_put b ts)) ++ x ∷ []) ≡ true
+row_apart : (ts : List NewToken) (b : Bool) (s : State) (x : Lexeme) → x.kind ≡ kind.End → ListKept ts
+    → KeywordsHaveText ts → Ends s ts → names_apart (map new_lexeme (parted (spaces_put b ts)) ++ x ∷ []) ≡ true
 row_apart [] b s x f h w e = refl
 row_apart (t ∷ []) b s x f h w e = given_first (put b t false) t (x ∷ []) (last_apart t x s f h.0 e)
 row_apart (t ∷ u ∷ ts) b s x f h w e =
@@ -489,4 +544,6 @@ names_are_apart f s p w t =
     ∙ calm_below (run_list calm (draft_tokens (written at_top true f.statements)))
     (below_trans (run_list calm (draft_tokens (written at_top true f.statements))) (run_draft calm (written at_top true f.statements)) calm
     (list_below (written at_top true f.statements) calm calm refl)
-    (ap (is_below (run_draft calm (written at_top true f.statements))) (sym (calm_is (run calm f.statements) (runs_fit s.shaped (fine_labels f.statements p) w at_calm calm refl))) ∙ paired.runs calm calm refl)))
+    (ap (is_below (run_draft calm (written at_top true f.statements)))
+    (sym (calm_is (run calm f.statements) (runs_fit s.shaped (fine_labels f.statements p) w at_calm calm refl)))
+    ∙ paired.runs calm calm refl)))

@@ -128,11 +128,23 @@ last_text [] h = h
 last_text (b ∷ []) h = refl
 last_text (b ∷ c ∷ bs) h = refl
 
-pub kept_escaped : (x : Token) (b : Bool) → Kept (if b then record (hash_comment (of_kind kind.Piece x)) { text = before_last (before (hash_comment (of_kind kind.Piece x)).text) } else hash_comment (of_kind kind.Piece x))
-kept_escaped x true = record { same = record { backslash = refl; word = refl; front = λ h. absurd cc }; text = last_text (x.text ++ []); sign = λ h. absurd cc; lead = λ h e. absurd cc }
+pub kept_escaped : (x : Token) (b : Bool)
+    → Kept (if b then record (hash_comment (of_kind kind.Piece x))
+    { text = before_last (before (hash_comment (of_kind kind.Piece x)).text) } else hash_comment
+    (of_kind kind.Piece x))
+kept_escaped x true = record {
+  same = record { backslash = refl; word = refl; front = λ h. absurd cc };
+  text =
+      last_text (x.text ++ []);
+  sign = λ h. absurd cc;
+  lead = λ h e. absurd cc;
+}
 kept_escaped x false = kept_hash (of_kind kind.Piece x)
 
-pub escaped_part : (x : Token) (b : Bool) → new_part (if b then record (hash_comment (of_kind kind.Piece x)) { text = before_last (before (hash_comment (of_kind kind.Piece x)).text) } else hash_comment (of_kind kind.Piece x)) ≡ other
+pub escaped_part : (x : Token) (b : Bool)
+    → new_part (if b then record (hash_comment (of_kind kind.Piece x))
+    { text = before_last (before (hash_comment (of_kind kind.Piece x)).text) } else hash_comment
+    (of_kind kind.Piece x)) ≡ other
 escaped_part x true = refl
 escaped_part x false = refl
 
@@ -269,7 +281,8 @@ kept_lead no_more h = tt
 kept_lead (new_leaf t d) h = (kept_bare t h.0, h.1)
 kept_lead (new_node k c d) h = by_lead (holds_none c) (h.0, kept_lead d h.1) (kept_lead c h.0, h.1)
   where
-    by_lead : (b : Bool) → AllKept c × AllKept (without_lead d) → AllKept (without_lead c) × AllKept d → AllKept (cond b (new_node k c (without_lead d)) (new_node k (without_lead c) d))
+    by_lead : (b : Bool) → AllKept c × AllKept (without_lead d) → AllKept (without_lead c) × AllKept d
+        → AllKept (cond b (new_node k c (without_lead d)) (new_node k (without_lead c) d))
     by_lead true p q = p
     by_lead false p q = q
 
@@ -278,7 +291,10 @@ run_lead no_more u = refl
 run_lead (new_leaf t d) u = refl
 run_lead (new_node k c d) u = by_lead (holds_none c) (run_lead d (edge (run_draft (edge u) c))) (ap (λ (z : State). run_draft (edge z) d) (run_lead c (edge u)))
   where
-    by_lead : (b : Bool) → run_draft (edge (run_draft (edge u) c)) (without_lead d) ≡ run_draft u (new_node k c d) → run_draft (edge (run_draft (edge u) (without_lead c))) d ≡ run_draft u (new_node k c d) → run_draft u (cond b (new_node k c (without_lead d)) (new_node k (without_lead c) d)) ≡ run_draft u (new_node k c d)
+    by_lead : (b : Bool) → run_draft (edge (run_draft (edge u) c)) (without_lead d) ≡ run_draft u (new_node k c d)
+        → run_draft (edge (run_draft (edge u) (without_lead c))) d ≡ run_draft u (new_node k c d)
+        → run_draft u (cond b (new_node k c (without_lead d)) (new_node k (without_lead c) d)) ≡ run_draft u
+        (new_node k c d)
     by_lead true p q = p
     by_lead false p q = q
 
@@ -300,7 +316,9 @@ parens_drawn c t n = record {
   kept = (kept_open _, (kept_lead t.1 n.kept, (kept_shut, tt)));
   runs = λ u s h.
       let first = n.runs (step (edge u) mark) (edge s) (open_below u s h) in
-      let inside = ap (λ (z : State). is_below (edge z) (edge (run (edge s) c))) (run_lead t.1 (edge (step (edge u) mark))) ∙ ap (is_below (edge (run_draft (edge (step (edge u) mark)) t.1))) (sym (in_edge s c)) ∙ first in
+      let inside = ap (λ (z : State). is_below (edge z) (edge (run (edge s) c)))
+      (run_lead t.1 (edge (step (edge u) mark)))
+      ∙ ap (is_below (edge (run_draft (edge (step (edge u) mark)) t.1))) (sym (in_edge s c)) ∙ first in
       shut_below (run_draft (edge (step (edge u) mark)) (without_lead t.1)) (run (edge s) c) inside;
 }
 

@@ -1,7 +1,28 @@
 -- States of names in order: which lets more come.
 use Rattle.std.proofs.Common.{◌≡◌, Bool, true, false, not, ◌||◌, refl, ap, ◌∙◌}
 use Rattle.php_tree.specs.Tree.{Forest, none, leaf, node}
-use Rattle.rewritten_shapes.specs.paired.Names.{Part, State, bad, blank, calm, edge, edged, failed, key, keyed, label, mark, other, root, rooted, rooted_key, run, space, step, worded}
+use Rattle.rewritten_shapes.specs.paired.Names.{
+  Part,
+  State,
+  bad,
+  blank,
+  calm,
+  edge,
+  edged,
+  failed,
+  key,
+  keyed,
+  label,
+  mark,
+  other,
+  root,
+  rooted,
+  rooted_key,
+  run,
+  space,
+  step,
+  worded,
+}
 use Rattle.rewritten_shapes.proofs.paired.States.{all_are, all_states, implied}
 
 -- whether whatever may come in the second state may come in the first
@@ -33,7 +54,8 @@ below_same u = all_are (λ u. is_below u u) refl u
 
 pub below_trans : (u s v : State) → is_below u s ≡ true → is_below s v ≡ true → is_below u v ≡ true
 below_trans u s v e h =
-    implied (is_below s v) (is_below u v) (all_are (λ v. not (is_below s v) || is_below u v) (by_below (λ u s. all_states (λ v. not (is_below s v) || is_below u v)) refl u s e) v) h
+    implied (is_below s v) (is_below u v) (all_are (λ v. not (is_below s v) || is_below u v)
+    (by_below (λ u s. all_states (λ v. not (is_below s v) || is_below u v)) refl u s e) v) h
 
 pub edge_above : (s : State) → is_below s (edge s) ≡ true
 edge_above s = all_are (λ s. is_below s (edge s)) refl s

@@ -54,7 +54,9 @@ last_safe t x e = ap (λ (z : TokenKind). not (is_variable_kind t.kind && is_pie
     go true = refl
     go false = refl
 
-second_safe : (b : Bool) (t u : NewToken) (ts : List NewToken) (x : Lexeme) (j : Bool) → may_come (is_variable_kind t.kind) u ≡ true → texts_apart (map new_lexeme (parted (spaces_put b (u ∷ ts))) ++ x ∷ []) ≡ true
+second_safe : (b : Bool) (t u : NewToken) (ts : List NewToken) (x : Lexeme) (j : Bool)
+    → may_come (is_variable_kind t.kind) u ≡ true → texts_apart
+    (map new_lexeme (parted (spaces_put b (u ∷ ts))) ++ x ∷ []) ≡ true
     → texts_apart (new_lexeme t ∷ (map new_lexeme (if j then bare (parted (spaces_put b (u ∷ ts))) else parted (spaces_put b (u ∷ ts))) ++ x ∷ [])) ≡ true
 second_safe b t u ts x true h ih =
     let first = given (put b u (joins u (all_whole ts))) u in

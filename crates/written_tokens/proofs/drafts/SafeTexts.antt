@@ -86,7 +86,10 @@ lead_last no_more v = refl
 lead_last (new_leaf t d) v = refl
 lead_last (new_node k c d) v = by_lead (holds_none c) (lead_last d (last_variable v c)) (ap (λ (z : Bool). last_variable z d) (lead_last c v))
   where
-    by_lead : (b : Bool) → last_variable (last_variable v c) (without_lead d) ≡ last_variable v (new_node k c d) → last_variable (last_variable v (without_lead c)) d ≡ last_variable v (new_node k c d) → last_variable v (cond b (new_node k c (without_lead d)) (new_node k (without_lead c) d)) ≡ last_variable v (new_node k c d)
+    by_lead : (b : Bool) → last_variable (last_variable v c) (without_lead d) ≡ last_variable v (new_node k c d)
+        → last_variable (last_variable v (without_lead c)) d ≡ last_variable v (new_node k c d)
+        → last_variable v (cond b (new_node k c (without_lead d)) (new_node k (without_lead c) d)) ≡ last_variable v
+        (new_node k c d)
     by_lead true p q = p
     by_lead false p q = q
 
@@ -97,7 +100,9 @@ lead_safe (new_node k c d) v =
     by_lead (holds_none c) (ap (λ (z : Bool). safe v c && z) (lead_safe d (last_variable v c)))
     (ap (λ (z : Bool). z && safe (last_variable v (without_lead c)) d) (lead_safe c v) ∙ ap (λ (z : Bool). safe v c && safe z d) (lead_last c v))
   where
-    by_lead : (b : Bool) → (safe v c && safe (last_variable v c) (without_lead d)) ≡ safe v (new_node k c d) → (safe v (without_lead c) && safe (last_variable v (without_lead c)) d) ≡ safe v (new_node k c d) → safe v (cond b (new_node k c (without_lead d)) (new_node k (without_lead c) d)) ≡ safe v (new_node k c d)
+    by_lead : (b : Bool) → (safe v c && safe (last_variable v c) (without_lead d)) ≡ safe v (new_node k c d)
+        → (safe v (without_lead c) && safe (last_variable v (without_lead c)) d) ≡ safe v (new_node k c d)
+        → safe v (cond b (new_node k c (without_lead d)) (new_node k (without_lead c) d)) ≡ safe v (new_node k c d)
     by_lead true p q = p
     by_lead false p q = q
 
@@ -106,7 +111,8 @@ wraps_safe [] t p = p
 wraps_safe (InParens ∷ ws) t p =
     let inside = in_wrappings ws t in
     safe_leaf (put_in (first_lead inside.1) (codes "(")) (new_node inside.0 (without_lead inside.1) (new_leaf (put_in [] (codes ")")) no_more)) refl
-    (safe_node inside.0 (without_lead inside.1) (new_leaf (put_in [] (codes ")")) no_more) (λ v. lead_safe inside.1 v ∙ wraps_safe ws t p v) (safe_leaf (put_in [] (codes ")")) no_more refl safe_none))
+    (safe_node inside.0 (without_lead inside.1) (new_leaf (put_in [] (codes ")")) no_more)
+    (λ v. lead_safe inside.1 v ∙ wraps_safe ws t p v) (safe_leaf (put_in [] (codes ")")) no_more refl safe_none))
 
 wraps_last : (ws : List Wrapping) (t : NewTree) → ((v : Bool) → last_variable v t.1 ≡ false) → (v : Bool) → last_variable v (in_wrappings ws t).1 ≡ false
 wraps_last [] t p v = p v
@@ -122,7 +128,9 @@ leaf_step v t d e h = both_true (may_come v t) (safe (is_variable_kind t.kind) d
 node_step : (v : Bool) (j : NodeKind) (c d : Draft) → safe v c ≡ true → safe (last_variable v c) d ≡ true → safe v (new_node j c d) ≡ true
 node_step v j c d p q = both_true (safe v c) (safe (last_variable v c) d) p q
 
-node_safe : (j : NodeKind) (c f : Forest) (a : Bool → Option Around) (b : Bool) → AllSafe (changed (j, c) (j, written (within j c) true c)).1 → AllSafe (written a false f) → AllSafe (written a b (node j c f))
+node_safe : (j : NodeKind) (c f : Forest) (a : Bool → Option Around) (b : Bool)
+    → AllSafe (changed (j, c) (j, written (within j c) true c)).1 → AllSafe (written a false f)
+    → AllSafe (written a b (node j c f))
 node_safe j c f a b p q =
     safe_node (new_here a b j c).0 (new_here a b j c).1 (written a false f) (wraps_safe (wrapping (a b) (j, c)) (changed (j, c) (j, written (within j c) true c)) p) q
 
@@ -137,7 +145,9 @@ safe_front (leaf x f) g h = safe_front f g h
 safe_front (node j c f) g h =
     let own = not (is_quoted_node j && has_nullsafe c) in
     let rest = both_right (not (is_quoted_node j && has_nullsafe c)) (written_file.is_safe c && written_file.is_safe (f +++ g)) h in
-    both_true (not (is_quoted_node j && has_nullsafe c)) (written_file.is_safe c && written_file.is_safe f) (both_left (not (is_quoted_node j && has_nullsafe c)) (written_file.is_safe c && written_file.is_safe (f +++ g)) h)
+    both_true (not (is_quoted_node j && has_nullsafe c)) (written_file.is_safe c && written_file.is_safe f)
+    (both_left (not (is_quoted_node j && has_nullsafe c))
+    (written_file.is_safe c && written_file.is_safe (f +++ g)) h)
     (both_true (written_file.is_safe c) (written_file.is_safe f) (both_left (written_file.is_safe c) (written_file.is_safe (f +++ g)) rest)
     (safe_front f g (both_right (written_file.is_safe c) (written_file.is_safe (f +++ g)) rest)))
 
@@ -145,17 +155,22 @@ safe_rest : (f g : Forest) → IsSafe (f +++ g) → IsSafe g
 safe_rest none g h = h
 safe_rest (leaf x f) g h = safe_rest f g h
 safe_rest (node j c f) g h =
-    safe_rest f g (both_right (written_file.is_safe c) (written_file.is_safe (f +++ g)) (both_right (not (is_quoted_node j && has_nullsafe c)) (written_file.is_safe c && written_file.is_safe (f +++ g)) h))
+    safe_rest f g (both_right (written_file.is_safe c) (written_file.is_safe (f +++ g))
+    (both_right (not (is_quoted_node j && has_nullsafe c))
+    (written_file.is_safe c && written_file.is_safe (f +++ g)) h))
 
 inner_safe : (j : NodeKind) (c f : Forest) → IsSafe (node j c f) → IsSafe c
-inner_safe j c f h = both_left (written_file.is_safe c) (written_file.is_safe f) (both_right (not (is_quoted_node j && has_nullsafe c)) (written_file.is_safe c && written_file.is_safe f) h)
+inner_safe j c f h = both_left (written_file.is_safe c) (written_file.is_safe f)
+    (both_right (not (is_quoted_node j && has_nullsafe c)) (written_file.is_safe c && written_file.is_safe f) h)
 
 next_safe : (j : NodeKind) (c f : Forest) → IsSafe (node j c f) → IsSafe f
-next_safe j c f h = both_right (written_file.is_safe c) (written_file.is_safe f) (both_right (not (is_quoted_node j && has_nullsafe c)) (written_file.is_safe c && written_file.is_safe f) h)
+next_safe j c f h = both_right (written_file.is_safe c) (written_file.is_safe f)
+    (both_right (not (is_quoted_node j && has_nullsafe c)) (written_file.is_safe c && written_file.is_safe f) h)
 
 alone_safe : (j : NodeKind) (c f : Forest) → IsSafe (node j c f) → IsSafe (node j c none)
 alone_safe j c f h =
-    both_true (not (is_quoted_node j && has_nullsafe c)) (written_file.is_safe c && true) (both_left (not (is_quoted_node j && has_nullsafe c)) (written_file.is_safe c && written_file.is_safe f) h)
+    both_true (not (is_quoted_node j && has_nullsafe c)) (written_file.is_safe c && true)
+    (both_left (not (is_quoted_node j && has_nullsafe c)) (written_file.is_safe c && written_file.is_safe f) h)
     (both_true (written_file.is_safe c) true (inner_safe j c f h) refl)
 
 -- ---- pieces
@@ -172,7 +187,9 @@ question_last (a ∷ b ∷ c ∷ []) e = ap (λ (z : Bool). nat_eq a 63 && (z &&
 question_last (a ∷ b ∷ c ∷ d ∷ []) e = ap (λ (z : Bool). nat_eq a 63 && z) (and_false (nat_eq b 45 && nat_eq c 62)) ∙ and_false (nat_eq a 63)
 question_last (a ∷ b ∷ c ∷ d ∷ f ∷ bs) e = e
 
-escaped_question : (x : Token) (b : Bool) → begins_question x.text ≡ false → begins_question (after (if b then record (hash_comment x) { text = before_last (before (hash_comment x).text) } else hash_comment x).text) ≡ false
+escaped_question : (x : Token) (b : Bool) → begins_question x.text ≡ false
+    → begins_question (after (if b then record (hash_comment x) { text = before_last (before (hash_comment x).text) }
+    else hash_comment x).text) ≡ false
 escaped_question x true e = question_last (x.text ++ []) (ap begins_question (append-nil x.text) ∙ e)
 escaped_question x false e = ap begins_question (append-nil x.text) ∙ e
 
@@ -228,7 +245,9 @@ named_safe x n u f o a b v q =
     (node_step false k.Variable name (new_leaf (hash_comment (of_text 125 u)) d) refl
     (leaf_step true (hash_comment (of_text 125 u)) d refl (o a false false no_variable)))
 
-offset_safe : (x n w s u : Token) (j : NodeKind) (c f : Forest) → NodeSafe j c → TextSafe f → TextSafe (leaf (of_kind kind.DollarBrace x) (leaf (of_kind kind.VarName n) (leaf (of_text 91 w) (node j c (leaf (of_text 93 s) (leaf (of_text 125 u) f))))))
+offset_safe : (x n w s u : Token) (j : NodeKind) (c f : Forest) → NodeSafe j c → TextSafe f
+    → TextSafe (leaf (of_kind kind.DollarBrace x)
+    (leaf (of_kind kind.VarName n) (leaf (of_text 91 w) (node j c (leaf (of_text 93 s) (leaf (of_text 125 u) f))))))
 offset_safe x n w s u j c f m o a b v q =
     let t = new_here a false j c in
     let d = parts (written a false f) in
@@ -264,11 +283,18 @@ mark_safe : (b : ℕ) (t : Token) → IsMark b t → is_piece t.kind ≡ false
 mark_safe b t m = ap is_piece m.kind
 
 key_safe : {f : Forest} → IsKey f → (a : Bool → Option Around) → AllSafe (written a false f)
-key_safe (pairs.label {t} {u} e m) a = safe_leaf (hash_comment t) (new_leaf (hash_comment u) no_more) (not_kind kind.Label t e refl) (safe_leaf (hash_comment u) no_more (mark_safe 93 u m) safe_none)
-key_safe (pairs.number {t} {u} e m) a = safe_leaf (hash_comment t) (new_leaf (hash_comment u) no_more) (not_kind kind.Int t e refl) (safe_leaf (hash_comment u) no_more (mark_safe 93 u m) safe_none)
-key_safe (pairs.negative {s} {t} {u} n e m) a = safe_leaf (hash_comment s) (new_leaf (hash_comment t) (new_leaf (hash_comment u) no_more)) (mark_safe 45 s n) (safe_leaf (hash_comment t) (new_leaf (hash_comment u) no_more) (not_kind kind.Int t e refl) (safe_leaf (hash_comment u) no_more (mark_safe 93 u m) safe_none))
+key_safe (pairs.label {t} {u} e m) a = safe_leaf (hash_comment t) (new_leaf (hash_comment u) no_more)
+    (not_kind kind.Label t e refl) (safe_leaf (hash_comment u) no_more (mark_safe 93 u m) safe_none)
+key_safe (pairs.number {t} {u} e m) a = safe_leaf (hash_comment t) (new_leaf (hash_comment u) no_more)
+    (not_kind kind.Int t e refl) (safe_leaf (hash_comment u) no_more (mark_safe 93 u m) safe_none)
+key_safe (pairs.negative {s} {t} {u} n e m) a = safe_leaf (hash_comment s)
+    (new_leaf (hash_comment t) (new_leaf (hash_comment u) no_more)) (mark_safe 45 s n)
+    (safe_leaf (hash_comment t) (new_leaf (hash_comment u) no_more) (not_kind kind.Int t e refl)
+    (safe_leaf (hash_comment u) no_more (mark_safe 93 u m) safe_none))
 key_safe (pairs.variable {t} {u} e m) a =
-    node_safe k.Variable (leaf t none) (leaf u none) a false (safe_leaf (hash_comment t) no_more (not_kind kind.Variable t e refl) safe_none) (safe_leaf (hash_comment u) no_more (mark_safe 93 u m) safe_none)
+    node_safe k.Variable (leaf t none) (leaf u none) a false
+    (safe_leaf (hash_comment t) no_more (not_kind kind.Variable t e refl) safe_none)
+    (safe_leaf (hash_comment u) no_more (mark_safe 93 u m) safe_none)
 
 key_last : {f : Forest} → IsKey f → (a : Bool → Option Around) (v : Bool) → last_variable v (written a false f) ≡ false
 key_last (pairs.label {t} {u} e m) a v = ap is_variable_kind m.kind
@@ -295,11 +321,16 @@ neither true b e = absurd cc
 neither false b e = (refl, e)
 
 -- what stands behind a simple variable
-simple_next : {j : NodeKind} {c : Forest} (f : Forest) → IsSimple j c → has_nullsafe (node j c f) ≡ false → (a : Bool → Option Around) (b v : Bool) → last_variable v (in_wrappings (wrapping (a b) (j, c)) (changed (j, c) (j, written (within j c) true c))).1 ≡ true → piece_questions f ≡ false
+simple_next : {j : NodeKind} {c : Forest} (f : Forest) → IsSimple j c → has_nullsafe (node j c f) ≡ false
+    → (a : Bool → Option Around) (b v : Bool) → last_variable v
+    (in_wrappings (wrapping (a b) (j, c)) (changed (j, c) (j, written (within j c) true c))).1 ≡ true
+    → piece_questions f ≡ false
 simple_next f (pairs.alone {t} e) h a b v l = (neither (piece_questions f) (has_nullsafe f) h).0
 simple_next f (pairs.with_offset {t} {o} {f = g} e m q) h a b v l =
     let c = node k.Variable (leaf t none) (leaf o g) in
-    absurd (no_clash (wraps_last (wrapping (a b) (k.Offset, c)) (changed (k.Offset, c) (k.Offset, written (within k.Offset c) true c)) (λ z. key_last q (within k.Offset c) (is_variable_kind o.kind)) v) l)
+    absurd (no_clash (wraps_last (wrapping (a b) (k.Offset, c))
+    (changed (k.Offset, c) (k.Offset, written (within k.Offset c) true c))
+    (λ z. key_last q (within k.Offset c) (is_variable_kind o.kind)) v) l)
 simple_next f (pairs.with_property {t} {o} {u} e m w q) h a b v l =
     let c = node k.Variable (leaf t none) (leaf o (leaf u none)) in
     absurd (no_clash (wraps_last (wrapping (a b) (k.Prop, c)) (changed (k.Prop, c) (k.Prop, written (within k.Prop c) true c)) (λ z. ap is_variable_kind q) v) l)
@@ -309,7 +340,13 @@ rest_null {j} f e h = (neither (is_variable_node j && piece_questions f) (has_nu
 
 -- ---- nodes that are changed
 
-offset_changed : (i j : NodeKind) (t u : Token) (b c : Forest) → NodeSafe i b → NodeSafe j c → AllSafe (changed (k.BraceOffset, node i b (leaf (of_text 123 t) (node j c (leaf (of_text 125 u) none)))) (k.BraceOffset, written (within k.BraceOffset (node i b (leaf (of_text 123 t) (node j c (leaf (of_text 125 u) none))))) true (node i b (leaf (of_text 123 t) (node j c (leaf (of_text 125 u) none)))))).1
+offset_changed : (i j : NodeKind) (t u : Token) (b c : Forest) → NodeSafe i b → NodeSafe j c
+    → AllSafe (changed (k.BraceOffset, node i b (leaf (of_text 123 t) (node j c (leaf (of_text 125 u) none)))) (
+      k.BraceOffset,
+      written (within k.BraceOffset
+          (node i b (leaf (of_text 123 t) (node j c (leaf (of_text 125 u) none))))) true
+          (node i b (leaf (of_text 123 t) (node j c (leaf (of_text 125 u) none)))),
+    )).1
 offset_changed i j t u b c n m =
     let whole = node i b (leaf (of_text 123 t) (node j c (leaf (of_text 125 u) none))) in
     let x = new_here (within k.BraceOffset whole) true i b in
@@ -319,16 +356,39 @@ offset_changed i j t u b c n m =
     (safe_leaf (retexted kind.Op (codes "[") (hash_comment (of_text 123 t))) (new_node y.0 y.1 last) refl
     (safe_node y.0 y.1 last (m (within k.BraceOffset whole) false) (safe_leaf (retexted kind.Op (codes "]") (hash_comment (of_text 125 u))) no_more refl safe_none)))
 
-cast_safe : (x : Token) (j : NodeKind) (b : Forest) → NodeSafe j b → AllSafe (changed (k.Cast, leaf (of_kind kind.Cast x) (node j b none)) (k.Cast, written (within k.Cast (leaf (of_kind kind.Cast x) (node j b none))) true (leaf (of_kind kind.Cast x) (node j b none)))).1
+cast_safe : (x : Token) (j : NodeKind) (b : Forest) → NodeSafe j b
+    → AllSafe (changed (k.Cast, leaf (of_kind kind.Cast x) (node j b none)) (
+      k.Cast,
+      written (within k.Cast (leaf (of_kind kind.Cast x) (node j b none))) true
+          (leaf (of_kind kind.Cast x) (node j b none)),
+    )).1
 cast_safe x j b n = real (is_real_cast (k.Cast, leaf (of_kind kind.Cast x) (node j b none))) (is_edited (k.Cast, leaf (of_kind kind.Cast x) (node j b none)))
   where
     t : NewTree
     t = new_here (within k.Cast (leaf (of_kind kind.Cast x) (node j b none))) false j b
 
-    real : (r e : Bool) → AllSafe (if r then real_cast (k.Cast, new_leaf (hash_comment (of_kind kind.Cast x)) (new_node (new_here (within k.Cast (leaf (of_kind kind.Cast x) (node j b none))) false j b).0 (new_here (within k.Cast (leaf (of_kind kind.Cast x) (node j b none))) false j b).1 no_more)) else (if e then unset_cast (k.Cast, new_leaf (hash_comment (of_kind kind.Cast x)) (new_node (new_here (within k.Cast (leaf (of_kind kind.Cast x) (node j b none))) false j b).0 (new_here (within k.Cast (leaf (of_kind kind.Cast x) (node j b none))) false j b).1 no_more)) else (k.Cast, new_leaf (hash_comment (of_kind kind.Cast x)) (new_node (new_here (within k.Cast (leaf (of_kind kind.Cast x) (node j b none))) false j b).0 (new_here (within k.Cast (leaf (of_kind kind.Cast x) (node j b none))) false j b).1 no_more)))).1
+    real : (r e : Bool) → AllSafe (if r then real_cast (
+      k.Cast,
+      new_leaf (hash_comment (of_kind kind.Cast x))
+          (new_node (new_here (within k.Cast (leaf (of_kind kind.Cast x) (node j b none))) false j b).0
+          (new_here (within k.Cast (leaf (of_kind kind.Cast x) (node j b none))) false j b).1 no_more),
+    ) else
+        (if e then unset_cast (
+          k.Cast,
+          new_leaf (hash_comment (of_kind kind.Cast x))
+              (new_node (new_here (within k.Cast (leaf (of_kind kind.Cast x) (node j b none))) false j b).0
+              (new_here (within k.Cast (leaf (of_kind kind.Cast x) (node j b none))) false j b).1 no_more),
+        ) else (
+          k.Cast,
+          new_leaf (hash_comment (of_kind kind.Cast x))
+              (new_node (new_here (within k.Cast (leaf (of_kind kind.Cast x) (node j b none))) false j b).0
+              (new_here (within k.Cast (leaf (of_kind kind.Cast x) (node j b none))) false j b).1 no_more),
+        ))).1
     real true e =
         let y = new_here (within k.Cast (leaf (of_kind kind.Cast x) (node j b none))) false j b in
-        safe_leaf (retexted kind.Cast (codes "(float)") (hash_comment (of_kind kind.Cast x))) (new_node y.0 y.1 no_more) refl (safe_node y.0 y.1 no_more (n (within k.Cast (leaf (of_kind kind.Cast x) (node j b none))) false) safe_none)
+        safe_leaf (retexted kind.Cast (codes "(float)") (hash_comment (of_kind kind.Cast x)))
+        (new_node y.0 y.1 no_more) refl (safe_node y.0 y.1 no_more
+        (n (within k.Cast (leaf (of_kind kind.Cast x) (node j b none))) false) safe_none)
     real false true =
         let y = new_here (within k.Cast (leaf (of_kind kind.Cast x) (node j b none))) false j b in
         let null = new_leaf (put_also kind.Label (codes "null")) no_more in
@@ -337,14 +397,24 @@ cast_safe x j b n = real (is_real_cast (k.Cast, leaf (of_kind kind.Cast x) (node
         (safe_node k.Constant null last (safe_leaf (put_also kind.Label (codes "null")) no_more refl safe_none) (safe_leaf (put_also kind.Op (codes ")")) no_more refl safe_none))
     real false false =
         let y = new_here (within k.Cast (leaf (of_kind kind.Cast x) (node j b none))) false j b in
-        safe_leaf (hash_comment (of_kind kind.Cast x)) (new_node y.0 y.1 no_more) refl (safe_node y.0 y.1 no_more (n (within k.Cast (leaf (of_kind kind.Cast x) (node j b none))) false) safe_none)
+        safe_leaf (hash_comment (of_kind kind.Cast x)) (new_node y.0 y.1 no_more) refl
+        (safe_node y.0 y.1 no_more (n (within k.Cast (leaf (of_kind kind.Cast x) (node j b none))) false)
+        safe_none)
 
 -- ---- trees
 
-text_kind : (x : Token) (sort : TokenKind) (c : Forest) → opens_text sort ≡ true → TextSafe c → AllSafe (changed (k.Quoted, leaf (of_kind sort x) c) (k.Quoted, written (within k.Quoted (leaf (of_kind sort x) c)) true (leaf (of_kind sort x) c))).1
-text_kind x kind.Quote c e o v = leaf_step v (hash_comment (of_kind kind.Quote x)) (parts (written (within k.Quoted (leaf (of_kind kind.Quote x) c)) false c)) refl (o (within k.Quoted (leaf (of_kind kind.Quote x) c)) false false no_variable)
-text_kind x kind.HeredocStart c e o v = leaf_step v (hash_comment (of_kind kind.HeredocStart x)) (parts (written (within k.Quoted (leaf (of_kind kind.HeredocStart x) c)) false c)) refl (o (within k.Quoted (leaf (of_kind kind.HeredocStart x) c)) false false no_variable)
-text_kind x kind.Backtick c e o v = leaf_step v (hash_comment (of_kind kind.Backtick x)) (parts (written (within k.Quoted (leaf (of_kind kind.Backtick x) c)) false c)) refl (o (within k.Quoted (leaf (of_kind kind.Backtick x) c)) false false no_variable)
+text_kind : (x : Token) (sort : TokenKind) (c : Forest) → opens_text sort ≡ true → TextSafe c
+    → AllSafe (changed (k.Quoted, leaf (of_kind sort x) c)
+    (k.Quoted, written (within k.Quoted (leaf (of_kind sort x) c)) true (leaf (of_kind sort x) c))).1
+text_kind x kind.Quote c e o v = leaf_step v (hash_comment (of_kind kind.Quote x))
+    (parts (written (within k.Quoted (leaf (of_kind kind.Quote x) c)) false c)) refl
+    (o (within k.Quoted (leaf (of_kind kind.Quote x) c)) false false no_variable)
+text_kind x kind.HeredocStart c e o v = leaf_step v (hash_comment (of_kind kind.HeredocStart x))
+    (parts (written (within k.Quoted (leaf (of_kind kind.HeredocStart x) c)) false c)) refl
+    (o (within k.Quoted (leaf (of_kind kind.HeredocStart x) c)) false false no_variable)
+text_kind x kind.Backtick c e o v = leaf_step v (hash_comment (of_kind kind.Backtick x))
+    (parts (written (within k.Quoted (leaf (of_kind kind.Backtick x) c)) false c)) refl
+    (o (within k.Quoted (leaf (of_kind kind.Backtick x) c)) false false no_variable)
 text_kind x _ c e o v = absurd cc
 
 code_kind : (sort : TokenKind) → is_code_kind sort ≡ true → is_piece sort ≡ false
@@ -354,7 +424,10 @@ code_kind _ e = refl
 code_safe : (x : Token) → is_code_token x ≡ true → is_piece x.kind ≡ false
 code_safe x e = code_kind x.kind (both_left (is_code_kind x.kind) _ e)
 
-pair_safe : (t u : Token) (b e : ℕ) (f g h : Forest) (a : Bool → Option Around) → IsMark b t → IsMark e u → ((a : Bool → Option Around) (z : Bool) → AllSafe (written a z g)) → ((a : Bool → Option Around) (z : Bool) → AllSafe (written a z h)) → f ≡ g +++ leaf u h → AllSafe (new_leaf (hash_comment t) (written a false f))
+pair_safe : (t u : Token) (b e : ℕ) (f g h : Forest) (a : Bool → Option Around) → IsMark b t → IsMark e u
+    → ((a : Bool → Option Around) (z : Bool) → AllSafe (written a z g))
+    → ((a : Bool → Option Around) (z : Bool) → AllSafe (written a z h)) → f ≡ g +++ leaf u h
+    → AllSafe (new_leaf (hash_comment t) (written a false f))
 pair_safe t u b e f g h a m n p q d =
     safe_leaf (hash_comment t) (written a false f) (mark_safe b t m)
     (subst (λ (z : Forest). AllSafe (written a false z)) (sym d)
@@ -371,10 +444,13 @@ text_null c f t h = go (has_nullsafe c) (both_left (not (has_nullsafe c)) (writt
     go true e = absurd cc
     go false e = refl
 
-leaf_null : (j : NodeKind) (c : Forest) (u : Token) (f : Forest) → has_nullsafe (node j c (leaf u f)) ≡ false → IsMark 125 u → (is_variable_node j && false || has_nullsafe f) ≡ false
+leaf_null : (j : NodeKind) (c : Forest) (u : Token) (f : Forest) → has_nullsafe (node j c (leaf u f)) ≡ false
+    → IsMark 125 u → (is_variable_node j && false || has_nullsafe f) ≡ false
 leaf_null j c u f n m = ap (λ (z : TokenKind). is_variable_node j && (is_piece z && begins_question u.text) || has_nullsafe f) (sym m.kind) ∙ n
 
-mark_null : (j : NodeKind) (c : Forest) (s u : Token) (f : Forest) → has_nullsafe (node j c (leaf s (leaf u f))) ≡ false → IsMark 93 s → (is_variable_node j && false || has_nullsafe f) ≡ false
+mark_null : (j : NodeKind) (c : Forest) (s u : Token) (f : Forest)
+    → has_nullsafe (node j c (leaf s (leaf u f))) ≡ false → IsMark 93 s
+    → (is_variable_node j && false || has_nullsafe f) ≡ false
 mark_null j c s u f n m = ap (λ (z : TokenKind). is_variable_node j && (is_piece z && begins_question s.text) || has_nullsafe f) (sym m.kind) ∙ n
 
 mutual
@@ -388,24 +464,31 @@ mutual
       let whole = subst IsSafe e w in
       pair_safe t u 123 125 f g h a m n (safe_drawn p (safe_front g (leaf u h) whole)) (safe_drawn q (safe_rest g (leaf u h) whole)) e
   safe_drawn (pairs.part {j} {c} {f} e z p q) w a b =
-      node_safe j c f a b (subst (λ (t : NewTree). AllSafe t.1) (sym (common_changed j c (j, written (within j c) true c) e)) (safe_drawn p (inner_safe j c f w) (within j c) true)) (safe_drawn q (next_safe j c f w) a false)
+      node_safe j c f a b (subst (λ (t : NewTree). AllSafe t.1)
+      (sym (common_changed j c (j, written (within j c) true c) e))
+      (safe_drawn p (inner_safe j c f w) (within j c) true)) (safe_drawn q (next_safe j c f w) a false)
   safe_drawn (pairs.brace_offset {i} {j} {t} {u} {b = d} {c} {f} p m q n o) w a b =
       let inside = inner_safe k.BraceOffset (node i d (leaf t (node j c (leaf u none)))) f w in
       let first = whole_node i d (safe_drawn p (alone_safe i d (leaf t (node j c (leaf u none))) inside)) in
       let second = whole_node j c (safe_drawn q (alone_safe j c (leaf u none) (next_safe i d (leaf t (node j c (leaf u none))) inside))) in
       subst (λ (x : Token). AllSafe (written a b (node k.BraceOffset (node i d (leaf x (node j c (leaf u none)))) f))) (sym (text_is 123 t m))
       (subst (λ (x : Token). AllSafe (written a b (node k.BraceOffset (node i d (leaf (of_text 123 t) (node j c (leaf x none)))) f))) (sym (text_is 125 u n))
-      (node_safe k.BraceOffset (node i d (leaf (of_text 123 t) (node j c (leaf (of_text 125 u) none)))) f a b (offset_changed i j t u d c first second) (safe_drawn o (next_safe k.BraceOffset (node i d (leaf t (node j c (leaf u none)))) f w) a false)))
+      (node_safe k.BraceOffset (node i d (leaf (of_text 123 t) (node j c (leaf (of_text 125 u) none)))) f a b
+      (offset_changed i j t u d c first second)
+      (safe_drawn o (next_safe k.BraceOffset (node i d (leaf t (node j c (leaf u none)))) f w) a false)))
   safe_drawn (pairs.cast {j} {t} {b = d} {f} e p q) w a b =
       let inside = whole_node j d (safe_drawn p (inner_safe k.Cast (leaf t (node j d none)) f w)) in
       subst (λ (x : Token). AllSafe (written a b (node k.Cast (leaf x (node j d none)) f))) (sym (kind_is kind.Cast t e))
       (node_safe k.Cast (leaf (of_kind kind.Cast t) (node j d none)) f a b (cast_safe t j d inside) (safe_drawn q (next_safe k.Cast (leaf t (node j d none)) f w) a false))
   safe_drawn (pairs.text {t} {c} {f} e o q) w a b =
-      node_safe k.Quoted (leaf t c) f a b (text_kind t t.kind c e (safe_texted o (inner_safe k.Quoted (leaf t c) f w) (text_null c f t w))) (safe_drawn q (next_safe k.Quoted (leaf t c) f w) a false)
+      node_safe k.Quoted (leaf t c) f a b (text_kind t t.kind c e
+      (safe_texted o (inner_safe k.Quoted (leaf t c) f w) (text_null c f t w)))
+      (safe_drawn q (next_safe k.Quoted (leaf t c) f w) a false)
 
   safe_texted : {f : Forest} → Interpolated f → IsSafe f → has_nullsafe f ≡ false → TextSafe f
   safe_texted (pairs.text_end {t} e) w n a b v q =
-      subst (λ (x : Token). safe v (parts (written a b (leaf x none))) ≡ true) (sym (kind_is kind.QuotedEnd t e)) (leaf_step v (hash_comment (of_kind kind.QuotedEnd t)) no_more refl refl)
+      subst (λ (x : Token). safe v (parts (written a b (leaf x none))) ≡ true) (sym (kind_is kind.QuotedEnd t e))
+      (leaf_step v (hash_comment (of_kind kind.QuotedEnd t)) no_more refl refl)
   safe_texted (pairs.piece {t} {f} e o) w n a b v q =
       subst (λ (x : Token). safe v (parts (written a b (leaf x f))) ≡ true) (sym (kind_is kind.Piece t e))
       (piece_safe t f (safe_texted o w n) a b v (λ h. ap (λ (x : Token). piece_questions (leaf x f)) (sym (kind_is kind.Piece t e)) ∙ q h))
@@ -428,10 +511,16 @@ mutual
       let inside = whole_node j c (safe_drawn p (alone_safe j c (leaf s (leaf u f)) w)) in
       let rest = safe_texted o (next_safe j c (leaf s (leaf u f)) w) (neither (is_variable_node j && false) (has_nullsafe f) (mark_null j c s u f n i)).1 in
       subst (λ (x : Token). safe v (parts (written a b (leaf x (leaf y (leaf z (node j c (leaf s (leaf u f)))))))) ≡ true) (sym (kind_is kind.DollarBrace t e))
-      (subst (λ (x : Token). safe v (parts (written a b (leaf (of_kind kind.DollarBrace t) (leaf x (leaf z (node j c (leaf s (leaf u f)))))))) ≡ true) (sym (kind_is kind.VarName y d))
-      (subst (λ (x : Token). safe v (parts (written a b (leaf (of_kind kind.DollarBrace t) (leaf (of_kind kind.VarName y) (leaf x (node j c (leaf s (leaf u f)))))))) ≡ true) (sym (text_is 91 z m))
-      (subst (λ (x : Token). safe v (parts (written a b (leaf (of_kind kind.DollarBrace t) (leaf (of_kind kind.VarName y) (leaf (of_text 91 z) (node j c (leaf x (leaf u f)))))))) ≡ true) (sym (text_is 93 s i))
-      (subst (λ (x : Token). safe v (parts (written a b (leaf (of_kind kind.DollarBrace t) (leaf (of_kind kind.VarName y) (leaf (of_text 91 z) (node j c (leaf (of_text 93 s) (leaf x f)))))))) ≡ true) (sym (text_is 125 u r))
+      (subst (λ (x : Token). safe v (parts (written a b (leaf (of_kind kind.DollarBrace t)
+      (leaf x (leaf z (node j c (leaf s (leaf u f)))))))) ≡ true) (sym (kind_is kind.VarName y d))
+      (subst (λ (x : Token). safe v (parts (written a b (leaf (of_kind kind.DollarBrace t)
+      (leaf (of_kind kind.VarName y) (leaf x (node j c (leaf s (leaf u f)))))))) ≡ true) (sym (text_is 91 z m))
+      (subst (λ (x : Token). safe v (parts (written a b (leaf (of_kind kind.DollarBrace t)
+      (leaf (of_kind kind.VarName y) (leaf (of_text 91 z) (node j c (leaf x (leaf u f)))))))) ≡ true)
+      (sym (text_is 93 s i))
+      (subst (λ (x : Token). safe v (parts (written a b (leaf (of_kind kind.DollarBrace t)
+      (leaf (of_kind kind.VarName y) (leaf (of_text 91 z) (node j c (leaf (of_text 93 s) (leaf x f)))))))) ≡ true)
+      (sym (text_is 125 u r))
       (offset_safe t y z s u j c f inside rest a b v (λ h. refl))))))
   safe_texted (pairs.expression {j} {t} {u} {c} {f} e p m o) w n a b v q =
       let inside = whole_node j c (safe_drawn p (alone_safe j c (leaf u f) w)) in

@@ -55,7 +55,17 @@ given_lead (p ∷ ps) = some_back (new_bytes p) (after (ps ++ changed [] (codes 
     some_back (x ∷ xs) ys e = refl
 
 pub kept_given : (b : Bool) (t : NewToken) → Kept t → Kept (given b t)
-kept_given true t h = record { same = record { backslash = h.same.backslash; word = h.same.word; front = h.same.front }; text = h.text; sign = h.sign; lead = λ b e. given_lead t.lead }
+kept_given true t h = record {
+  same = record {
+    backslash = h.same.backslash;
+    word = h.same.word;
+    front =
+        h.same.front;
+  };
+  text = h.text;
+  sign = h.sign;
+  lead = λ b e. given_lead t.lead;
+}
 kept_given false t h = h
 
 one_given : (b c : Bool) (t u : NewToken) → is_one (given b t) (given c u) ≡ is_one t u

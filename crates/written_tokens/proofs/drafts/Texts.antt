@@ -32,13 +32,46 @@ use Rattle.rewritten_shapes.specs.paired.Names.{Part, State, blank, edge, mark, 
 use Rattle.rewritten_shapes.specs.paired.Paired as pairs
 use Rattle.rewritten_shapes.specs.paired.Paired.{Paired, Interpolated, IsSimple, IsKey, is_common}
 use Rattle.rewritten_shapes.specs.paired.Tokens.{opens_text}
-use Rattle.written_tokens.proofs.drafts.Drawn.{Drawn, NodeDrawn, drawn_join, drawn_leaf, drawn_node, drawn_none, drawn_token, escaped_part, inner, kept_also, kept_brace, kept_close, kept_closing, kept_curly, kept_dollar, kept_escaped, kept_float, kept_hash, kept_name, kept_null, kept_opening, kept_square, kept_squared, kind_is, of_kind, of_text, null_below, plain_node, text_is, wraps_drawn}
+use Rattle.written_tokens.proofs.drafts.Drawn.{
+  Drawn,
+  NodeDrawn,
+  drawn_join,
+  drawn_leaf,
+  drawn_node,
+  drawn_none,
+  drawn_token,
+  escaped_part,
+  inner,
+  kept_also,
+  kept_brace,
+  kept_close,
+  kept_closing,
+  kept_curly,
+  kept_dollar,
+  kept_escaped,
+  kept_float,
+  kept_hash,
+  kept_name,
+  kept_null,
+  kept_opening,
+  kept_square,
+  kept_squared,
+  kind_is,
+  of_kind,
+  of_text,
+  null_below,
+  plain_node,
+  text_is,
+  wraps_drawn,
+}
 use Rattle.written_tokens.proofs.drafts.Order.{by_below, is_below}
 
 -- ---- nodes
 
 -- a node where it stands
-node_of : (j : NodeKind) (c f : Forest) (a : Bool → Option Around) (b : Bool) → NodeDrawn c (changed (j, c) (j, written (within j c) true c)).1 → Drawn f (written a false f) → Drawn (node j c f) (written a b (node j c f))
+node_of : (j : NodeKind) (c f : Forest) (a : Bool → Option Around) (b : Bool)
+    → NodeDrawn c (changed (j, c) (j, written (within j c) true c)).1 → Drawn f (written a false f)
+    → Drawn (node j c f) (written a b (node j c f))
 node_of j c f a b n o =
     drawn_node j _ c f _ (written a false f) (wraps_drawn (wrapping (a b) (j, c)) c (changed (j, c) (j, written (within j c) true c)) n) o
 
@@ -95,7 +128,8 @@ key_drawn (pairs.negative {s} {t} {u} n e m) a = drawn_token s (leaf t (leaf u n
 key_drawn (pairs.variable {t} {u} e m) a =
     node_of k.Variable (leaf t none) (leaf u none) a false (plain_node (leaf t none) _ (drawn_token t none _ drawn_none)) (drawn_token u none _ drawn_none)
 
-variable_drawn : (t : Token) (f : Forest) (a : Bool → Option Around) (b : Bool) → Drawn f (written a false f) → Drawn (node k.Variable (leaf t none) f) (written a b (node k.Variable (leaf t none) f))
+variable_drawn : (t : Token) (f : Forest) (a : Bool → Option Around) (b : Bool) → Drawn f (written a false f)
+    → Drawn (node k.Variable (leaf t none) f) (written a b (node k.Variable (leaf t none) f))
 variable_drawn t f a b o = node_of k.Variable (leaf t none) f a b (plain_node (leaf t none) _ (drawn_token t none _ drawn_none)) o
 
 simple_node : {j : NodeKind} {c : Forest} → IsSimple j c → NodeDrawn c (changed (j, c) (j, written (within j c) true c)).1
@@ -118,7 +152,9 @@ piece_texted x f o a b = go (begins_dollar_brace (written a false f))
     y : Token
     y = of_kind kind.Piece x
 
-    go : (behind : Bool) → Drawn (leaf (of_kind kind.Piece x) f) (new_leaf (if behind then escaped (hash_comment (of_kind kind.Piece x)) else hash_comment (of_kind kind.Piece x)) (parts (written a false f)))
+    go : (behind : Bool) → Drawn (leaf (of_kind kind.Piece x) f)
+        (new_leaf (if behind then escaped (hash_comment (of_kind kind.Piece x)) else hash_comment
+        (of_kind kind.Piece x)) (parts (written a false f)))
     go true =
         drawn_leaf (of_kind kind.Piece x) (escaped (hash_comment (of_kind kind.Piece x))) f (parts (written a false f))
         (kept_escaped x (ends_bare false (before (hash_comment (of_kind kind.Piece x)).text)))
@@ -153,12 +189,23 @@ bracket_below u s h = by_below (λ u s. is_below (step (edge (step (edge (edge (
 close_below : (v r : State) → is_below v r ≡ true → is_below (step (edge (step v mark)) mark) (step (step r mark) mark) ≡ true
 close_below v r h = by_below (λ v r. is_below (step (edge (step v mark)) mark) (step (step r mark) mark)) refl v r h
 
-offset_texted : (x n w s u : Token) (j : NodeKind) (c f : Forest) → OneNode j c → Texted f → Texted (leaf (of_kind kind.DollarBrace x) (leaf (of_kind kind.VarName n) (leaf (of_text 91 w) (node j c (leaf (of_text 93 s) (leaf (of_text 125 u) f))))))
+offset_texted : (x n w s u : Token) (j : NodeKind) (c f : Forest) → OneNode j c → Texted f
+    → Texted (leaf (of_kind kind.DollarBrace x)
+    (leaf (of_kind kind.VarName n) (leaf (of_text 91 w) (node j c (leaf (of_text 93 s) (leaf (of_text 125 u) f))))))
 offset_texted x n w s u j c f one o a b =
     let rest = o a false in
     let part = inner j _ c _ (one a false) in
     record {
-      kept = (kept_curly (hash_comment (of_kind kind.DollarBrace x)), (((kept_name (hash_comment (of_kind kind.VarName n)), tt), (kept_hash (of_text 91 w), (part.kept, (kept_hash (of_text 93 s), tt)))), (kept_hash (of_text 125 u), rest.kept)));
+      kept = (
+        kept_curly (hash_comment (of_kind kind.DollarBrace x)),
+        (
+          (
+            (kept_name (hash_comment (of_kind kind.VarName n)), tt),
+            (kept_hash (of_text 91 w), (part.kept, (kept_hash (of_text 93 s), tt))),
+          ),
+          (kept_hash (of_text 125 u), rest.kept),
+        ),
+      );
       runs = λ v z h.
           let first = bracket_below v z h in
           let second = part.runs (step (edge (step (edge (edge (step v other))) other)) mark) (step (step (step z other) other) mark) first in
@@ -186,7 +233,9 @@ expression_texted x u j c f one o a b =
 -- ---- casts
 
 -- the parentheses with `null` in the place of a cast
-nulled : (x : Token) (c : Forest) (d : Draft) → IsMarkText (before (opening d).text) → NodeDrawn c (new_leaf (opening d) (new_node k.Constant (new_leaf (put_also kind.Label (codes "null")) no_more) (new_leaf (put_also kind.Op (codes ")")) no_more)))
+nulled : (x : Token) (c : Forest) (d : Draft) → IsMarkText (before (opening d).text)
+    → NodeDrawn c (new_leaf (opening d) (new_node k.Constant (new_leaf (put_also kind.Label (codes "null")) no_more)
+    (new_leaf (put_also kind.Op (codes ")")) no_more)))
 nulled x c d e = record {
   kept = (kept_opening d e.0 e.1, ((kept_null, tt), (kept_also, tt)));
   runs = λ u s h.
@@ -194,12 +243,19 @@ nulled x c d e = record {
       ∙ null_below u s c h;
 }
 
-float_drawn : (x : Token) (j : NodeKind) (b : Forest) → OneNode j b → (a : Bool → Option Around) → NodeDrawn (leaf (of_kind kind.Cast x) (node j b none)) (new_leaf (retexted kind.Cast (codes "(float)") (hash_comment (of_kind kind.Cast x))) (written a false (node j b none)))
+float_drawn : (x : Token) (j : NodeKind) (b : Forest) → OneNode j b → (a : Bool → Option Around)
+    → NodeDrawn (leaf (of_kind kind.Cast x) (node j b none))
+    (new_leaf (retexted kind.Cast (codes "(float)") (hash_comment (of_kind kind.Cast x)))
+    (written a false (node j b none)))
 float_drawn x j b n a =
     plain_node (leaf (of_kind kind.Cast x) (node j b none)) _
-    (drawn_leaf (of_kind kind.Cast x) (retexted kind.Cast (codes "(float)") (hash_comment (of_kind kind.Cast x))) (node j b none) (written a false (node j b none)) (kept_float (hash_comment (of_kind kind.Cast x))) refl (n a false))
+    (drawn_leaf (of_kind kind.Cast x) (retexted kind.Cast (codes "(float)") (hash_comment (of_kind kind.Cast x)))
+    (node j b none) (written a false (node j b none)) (kept_float (hash_comment (of_kind kind.Cast x))) refl
+    (n a false))
 
-unset_text : (x : Token) (j : NodeKind) (b : Forest) (d : Draft) → is_edited (k.Cast, leaf (of_kind kind.Cast x) (node j b none)) ≡ true → IsMarkText (before (opening (new_leaf (hash_comment (of_kind kind.Cast x)) d)).text)
+unset_text : (x : Token) (j : NodeKind) (b : Forest) (d : Draft)
+    → is_edited (k.Cast, leaf (of_kind kind.Cast x) (node j b none)) ≡ true
+    → IsMarkText (before (opening (new_leaf (hash_comment (of_kind kind.Cast x)) d)).text)
 unset_text x j b d e =
     subst IsMarkText (sym (append_assoc x.text (before (pieces d)) []))
     (go x.text (both_left (bytes_eq (bare x.text) (codes "(unset)")) (of_variable (leaf (of_kind kind.Cast x) (node j b none))) e))
@@ -208,7 +264,13 @@ unset_text x j b d e =
     go [] h = absurd cc
     go (y ∷ l) h = first_byte y l (before (pieces d) ++ []) h
 
-cast_changed : (x : Token) (j : NodeKind) (b : Forest) → OneNode j b → NodeDrawn (leaf (of_kind kind.Cast x) (node j b none)) (changed (k.Cast, leaf (of_kind kind.Cast x) (node j b none)) (k.Cast, written (within k.Cast (leaf (of_kind kind.Cast x) (node j b none))) true (leaf (of_kind kind.Cast x) (node j b none)))).1
+cast_changed : (x : Token) (j : NodeKind) (b : Forest) → OneNode j b
+    → NodeDrawn (leaf (of_kind kind.Cast x) (node j b none))
+    (changed (k.Cast, leaf (of_kind kind.Cast x) (node j b none)) (
+      k.Cast,
+      written (within k.Cast (leaf (of_kind kind.Cast x) (node j b none))) true
+          (leaf (of_kind kind.Cast x) (node j b none)),
+    )).1
 cast_changed x j b n = real (is_real_cast (k.Cast, leaf (of_kind kind.Cast x) (node j b none)))
   where
     around : Bool → Option Around
@@ -217,7 +279,17 @@ cast_changed x j b n = real (is_real_cast (k.Cast, leaf (of_kind kind.Cast x) (n
     old : NewTree
     old = (k.Cast, new_leaf (hash_comment (of_kind kind.Cast x)) (written (within k.Cast (leaf (of_kind kind.Cast x) (node j b none))) false (node j b none)))
 
-    unset : (e : Bool) → is_edited (k.Cast, leaf (of_kind kind.Cast x) (node j b none)) ≡ e → NodeDrawn (leaf (of_kind kind.Cast x) (node j b none)) (if e then unset_cast (k.Cast, new_leaf (hash_comment (of_kind kind.Cast x)) (written (within k.Cast (leaf (of_kind kind.Cast x) (node j b none))) false (node j b none))) else (k.Cast, new_leaf (hash_comment (of_kind kind.Cast x)) (written (within k.Cast (leaf (of_kind kind.Cast x) (node j b none))) false (node j b none)))).1
+    unset : (e : Bool) → is_edited (k.Cast, leaf (of_kind kind.Cast x) (node j b none)) ≡ e
+        → NodeDrawn (leaf (of_kind kind.Cast x) (node j b none))
+        (if e then unset_cast (
+          k.Cast,
+          new_leaf (hash_comment (of_kind kind.Cast x))
+              (written (within k.Cast (leaf (of_kind kind.Cast x) (node j b none))) false (node j b none)),
+        ) else (
+          k.Cast,
+          new_leaf (hash_comment (of_kind kind.Cast x))
+              (written (within k.Cast (leaf (of_kind kind.Cast x) (node j b none))) false (node j b none)),
+        )).1
     unset true e =
         let d = written (within k.Cast (leaf (of_kind kind.Cast x) (node j b none))) false (node j b none) in
         nulled x (leaf (of_kind kind.Cast x) (node j b none)) (new_leaf (hash_comment (of_kind kind.Cast x)) d) (unset_text x j b d e)
@@ -225,13 +297,34 @@ cast_changed x j b n = real (is_real_cast (k.Cast, leaf (of_kind kind.Cast x) (n
         plain_node (leaf (of_kind kind.Cast x) (node j b none)) _
         (drawn_token (of_kind kind.Cast x) (node j b none) _ (n (within k.Cast (leaf (of_kind kind.Cast x) (node j b none))) false))
 
-    real : (r : Bool) → NodeDrawn (leaf (of_kind kind.Cast x) (node j b none)) (if r then real_cast (k.Cast, new_leaf (hash_comment (of_kind kind.Cast x)) (written (within k.Cast (leaf (of_kind kind.Cast x) (node j b none))) false (node j b none))) else (if is_edited (k.Cast, leaf (of_kind kind.Cast x) (node j b none)) then unset_cast (k.Cast, new_leaf (hash_comment (of_kind kind.Cast x)) (written (within k.Cast (leaf (of_kind kind.Cast x) (node j b none))) false (node j b none))) else (k.Cast, new_leaf (hash_comment (of_kind kind.Cast x)) (written (within k.Cast (leaf (of_kind kind.Cast x) (node j b none))) false (node j b none))))).1
+    real : (r : Bool) → NodeDrawn (leaf (of_kind kind.Cast x) (node j b none))
+        (if r then real_cast (
+          k.Cast,
+          new_leaf (hash_comment (of_kind kind.Cast x))
+              (written (within k.Cast (leaf (of_kind kind.Cast x) (node j b none))) false (node j b none)),
+        ) else
+        (if is_edited (k.Cast, leaf (of_kind kind.Cast x) (node j b none)) then unset_cast (
+          k.Cast,
+          new_leaf (hash_comment (of_kind kind.Cast x))
+              (written (within k.Cast (leaf (of_kind kind.Cast x) (node j b none))) false (node j b none)),
+        ) else (
+          k.Cast,
+          new_leaf (hash_comment (of_kind kind.Cast x))
+              (written (within k.Cast (leaf (of_kind kind.Cast x) (node j b none))) false (node j b none)),
+        ))).1
     real true = float_drawn x j b n (within k.Cast (leaf (of_kind kind.Cast x) (node j b none)))
     real false = unset (is_edited (k.Cast, leaf (of_kind kind.Cast x) (node j b none))) refl
 
 -- ---- offsets in braces, and quoted texts
 
-offset_changed : (i j : NodeKind) (t u : Token) (b c : Forest) → OneNode i b → OneNode j c → NodeDrawn (node i b (leaf (of_text 123 t) (node j c (leaf (of_text 125 u) none)))) (changed (k.BraceOffset, node i b (leaf (of_text 123 t) (node j c (leaf (of_text 125 u) none)))) (k.BraceOffset, written (within k.BraceOffset (node i b (leaf (of_text 123 t) (node j c (leaf (of_text 125 u) none))))) true (node i b (leaf (of_text 123 t) (node j c (leaf (of_text 125 u) none)))))).1
+offset_changed : (i j : NodeKind) (t u : Token) (b c : Forest) → OneNode i b → OneNode j c
+    → NodeDrawn (node i b (leaf (of_text 123 t) (node j c (leaf (of_text 125 u) none))))
+    (changed (k.BraceOffset, node i b (leaf (of_text 123 t) (node j c (leaf (of_text 125 u) none)))) (
+      k.BraceOffset,
+      written (within k.BraceOffset
+          (node i b (leaf (of_text 123 t) (node j c (leaf (of_text 125 u) none))))) true
+          (node i b (leaf (of_text 123 t) (node j c (leaf (of_text 125 u) none)))),
+    )).1
 offset_changed i j t u b c n m =
     let whole = node i b (leaf (of_text 123 t) (node j c (leaf (of_text 125 u) none))) in
     plain_node whole _
@@ -240,15 +333,23 @@ offset_changed i j t u b c n m =
     (drawn_node j _ c (leaf (of_text 125 u) none) _ _ (inner j _ c _ (m (within k.BraceOffset whole) false))
     (drawn_leaf (of_text 125 u) (retexted kind.Op (codes "]") (hash_comment (of_text 125 u))) none no_more (kept_squared u) refl drawn_none))))
 
-quoted_changed : (x : Token) (sort : TokenKind) (c : Forest) → opens_text sort ≡ true → Texted c → NodeDrawn (leaf (of_kind sort x) c) (changed (k.Quoted, leaf (of_kind sort x) c) (k.Quoted, written (within k.Quoted (leaf (of_kind sort x) c)) true (leaf (of_kind sort x) c))).1
-quoted_changed x kind.Quote c e o = plain_node (leaf (of_kind kind.Quote x) c) _ (drawn_token (of_kind kind.Quote x) c _ (o (within k.Quoted (leaf (of_kind kind.Quote x) c)) false))
-quoted_changed x kind.HeredocStart c e o = plain_node (leaf (of_kind kind.HeredocStart x) c) _ (drawn_token (of_kind kind.HeredocStart x) c _ (o (within k.Quoted (leaf (of_kind kind.HeredocStart x) c)) false))
-quoted_changed x kind.Backtick c e o = plain_node (leaf (of_kind kind.Backtick x) c) _ (drawn_token (of_kind kind.Backtick x) c _ (o (within k.Quoted (leaf (of_kind kind.Backtick x) c)) false))
+quoted_changed : (x : Token) (sort : TokenKind) (c : Forest) → opens_text sort ≡ true → Texted c
+    → NodeDrawn (leaf (of_kind sort x) c) (changed (k.Quoted, leaf (of_kind sort x) c)
+    (k.Quoted, written (within k.Quoted (leaf (of_kind sort x) c)) true (leaf (of_kind sort x) c))).1
+quoted_changed x kind.Quote c e o = plain_node (leaf (of_kind kind.Quote x) c) _
+    (drawn_token (of_kind kind.Quote x) c _ (o (within k.Quoted (leaf (of_kind kind.Quote x) c)) false))
+quoted_changed x kind.HeredocStart c e o = plain_node (leaf (of_kind kind.HeredocStart x) c) _
+    (drawn_token (of_kind kind.HeredocStart x) c _ (o (within k.Quoted (leaf (of_kind kind.HeredocStart x) c)) false))
+quoted_changed x kind.Backtick c e o = plain_node (leaf (of_kind kind.Backtick x) c) _
+    (drawn_token (of_kind kind.Backtick x) c _ (o (within k.Quoted (leaf (of_kind kind.Backtick x) c)) false))
 quoted_changed x _ c e o = absurd cc
 
 -- ---- trees
 
-pair_drawn : (t u : Token) (f g h : Forest) (a : Bool → Option Around) (b : Bool) → ((a : Bool → Option Around) (b : Bool) → Drawn g (written a b g)) → ((a : Bool → Option Around) (b : Bool) → Drawn h (written a b h)) → f ≡ g +++ leaf u h → Drawn (leaf t f) (written a b (leaf t f))
+pair_drawn : (t u : Token) (f g h : Forest) (a : Bool → Option Around) (b : Bool)
+    → ((a : Bool → Option Around) (b : Bool) → Drawn g (written a b g))
+    → ((a : Bool → Option Around) (b : Bool) → Drawn h (written a b h)) → f ≡ g +++ leaf u h
+    → Drawn (leaf t f) (written a b (leaf t f))
 pair_drawn t u f g h a b p q e =
     drawn_token t f (written a false f)
     (subst (λ (z : Forest). Drawn z (written a false z)) (sym e)
@@ -262,10 +363,15 @@ mutual
   drawn (pairs.rounds {t} {u} {f} {g} {h} m p n q e) a b = pair_drawn t u f g h a b (drawn p) (drawn q) e
   drawn (pairs.braces {t} {u} {f} {g} {h} m p n q e) a b = pair_drawn t u f g h a b (drawn p) (drawn q) e
   drawn (pairs.part {j} {c} {f} e w p q) a b =
-      node_of j c f a b (subst (λ (t : NewTree). NodeDrawn c t.1) (sym (common_changed j c (j, written (within j c) true c) e)) (plain_node c (written (within j c) true c) (drawn p (within j c) true))) (drawn q a false)
+      node_of j c f a b (subst (λ (t : NewTree). NodeDrawn c t.1)
+      (sym (common_changed j c (j, written (within j c) true c) e))
+      (plain_node c (written (within j c) true c) (drawn p (within j c) true))) (drawn q a false)
   drawn (pairs.brace_offset {i} {j} {t} {u} {b = d} {c} {f} p m q n o) a b =
-      subst (λ (x : Token). Drawn (node k.BraceOffset (node i d (leaf x (node j c (leaf u none)))) f) (written a b (node k.BraceOffset (node i d (leaf x (node j c (leaf u none)))) f))) (sym (text_is 123 t m))
-      (subst (λ (x : Token). Drawn (node k.BraceOffset (node i d (leaf (of_text 123 t) (node j c (leaf x none)))) f) (written a b (node k.BraceOffset (node i d (leaf (of_text 123 t) (node j c (leaf x none)))) f))) (sym (text_is 125 u n))
+      subst (λ (x : Token). Drawn (node k.BraceOffset (node i d (leaf x (node j c (leaf u none)))) f)
+      (written a b (node k.BraceOffset (node i d (leaf x (node j c (leaf u none)))) f))) (sym (text_is 123 t m))
+      (subst (λ (x : Token). Drawn (node k.BraceOffset (node i d (leaf (of_text 123 t) (node j c (leaf x none)))) f)
+      (written a b (node k.BraceOffset (node i d (leaf (of_text 123 t) (node j c (leaf x none)))) f)))
+      (sym (text_is 125 u n))
       (node_of k.BraceOffset (node i d (leaf (of_text 123 t) (node j c (leaf (of_text 125 u) none)))) f a b (offset_changed i j t u d c (drawn p) (drawn q)) (drawn o a false)))
   drawn (pairs.cast {j} {t} {b = d} {f} e p q) a b =
       subst (λ (x : Token). Drawn (node k.Cast (leaf x (node j d none)) f) (written a b (node k.Cast (leaf x (node j d none)) f))) (sym (kind_is kind.Cast t e))
@@ -274,30 +380,53 @@ mutual
 
   texted : {f : Forest} → Interpolated f → (a : Bool → Option Around) (b : Bool) → Drawn f (parts (written a b f))
   texted (pairs.text_end {t} e) a b =
-      subst (λ (x : Token). Drawn (leaf x none) (parts (written a b (leaf x none)))) (sym (kind_is kind.QuotedEnd t e)) (drawn_token (of_kind kind.QuotedEnd t) none no_more drawn_none)
+      subst (λ (x : Token). Drawn (leaf x none) (parts (written a b (leaf x none))))
+      (sym (kind_is kind.QuotedEnd t e)) (drawn_token (of_kind kind.QuotedEnd t) none no_more drawn_none)
   texted (pairs.piece {t} {f} e o) a b =
       subst (λ (x : Token). Drawn (leaf x f) (parts (written a b (leaf x f)))) (sym (kind_is kind.Piece t e)) (piece_texted t f (texted o) a b)
   texted (pairs.simple {j} {c} {f} e o) a b =
       drawn_node j _ c f _ (parts (written a false f)) (wraps_drawn (wrapping (a b) (j, c)) c (changed (j, c) (j, written (within j c) true c)) (simple_node e)) (texted o a false)
   texted (pairs.curly {j} {t} {u} {c} {f} e p m o) a b =
       subst (λ (x : Token). Drawn (leaf x (node j c (leaf u f))) (parts (written a b (leaf x (node j c (leaf u f)))))) (sym (kind_is kind.CurlyOpen t e))
-      (subst (λ (x : Token). Drawn (leaf (of_kind kind.CurlyOpen t) (node j c (leaf x f))) (parts (written a b (leaf (of_kind kind.CurlyOpen t) (node j c (leaf x f)))))) (sym (text_is 125 u m))
+      (subst (λ (x : Token). Drawn (leaf (of_kind kind.CurlyOpen t) (node j c (leaf x f)))
+      (parts (written a b (leaf (of_kind kind.CurlyOpen t) (node j c (leaf x f)))))) (sym (text_is 125 u m))
       (curly_texted t u j c f (drawn p) (texted o) a b))
   texted (pairs.named {t} {n} {u} {f} e d m o) a b =
       subst (λ (x : Token). Drawn (leaf x (leaf n (leaf u f))) (parts (written a b (leaf x (leaf n (leaf u f)))))) (sym (kind_is kind.DollarBrace t e))
-      (subst (λ (x : Token). Drawn (leaf (of_kind kind.DollarBrace t) (leaf x (leaf u f))) (parts (written a b (leaf (of_kind kind.DollarBrace t) (leaf x (leaf u f)))))) (sym (kind_is kind.VarName n d))
-      (subst (λ (x : Token). Drawn (leaf (of_kind kind.DollarBrace t) (leaf (of_kind kind.VarName n) (leaf x f))) (parts (written a b (leaf (of_kind kind.DollarBrace t) (leaf (of_kind kind.VarName n) (leaf x f)))))) (sym (text_is 125 u m))
+      (subst (λ (x : Token). Drawn (leaf (of_kind kind.DollarBrace t) (leaf x (leaf u f)))
+      (parts (written a b (leaf (of_kind kind.DollarBrace t) (leaf x (leaf u f))))))
+      (sym (kind_is kind.VarName n d))
+      (subst (λ (x : Token). Drawn (leaf (of_kind kind.DollarBrace t) (leaf (of_kind kind.VarName n) (leaf x f)))
+      (parts (written a b (leaf (of_kind kind.DollarBrace t) (leaf (of_kind kind.VarName n) (leaf x f))))))
+      (sym (text_is 125 u m))
       (named_texted t n u f (texted o) a b)))
   texted (pairs.named_offset {j} {t} {n} {o = w} {s} {u} {c} {f} e d m p q r o) a b =
-      subst (λ (x : Token). Drawn (leaf x (leaf n (leaf w (node j c (leaf s (leaf u f)))))) (parts (written a b (leaf x (leaf n (leaf w (node j c (leaf s (leaf u f))))))))) (sym (kind_is kind.DollarBrace t e))
-      (subst (λ (x : Token). Drawn (leaf (of_kind kind.DollarBrace t) (leaf x (leaf w (node j c (leaf s (leaf u f)))))) (parts (written a b (leaf (of_kind kind.DollarBrace t) (leaf x (leaf w (node j c (leaf s (leaf u f))))))))) (sym (kind_is kind.VarName n d))
-      (subst (λ (x : Token). Drawn (leaf (of_kind kind.DollarBrace t) (leaf (of_kind kind.VarName n) (leaf x (node j c (leaf s (leaf u f)))))) (parts (written a b (leaf (of_kind kind.DollarBrace t) (leaf (of_kind kind.VarName n) (leaf x (node j c (leaf s (leaf u f))))))))) (sym (text_is 91 w m))
-      (subst (λ (x : Token). Drawn (leaf (of_kind kind.DollarBrace t) (leaf (of_kind kind.VarName n) (leaf (of_text 91 w) (node j c (leaf x (leaf u f)))))) (parts (written a b (leaf (of_kind kind.DollarBrace t) (leaf (of_kind kind.VarName n) (leaf (of_text 91 w) (node j c (leaf x (leaf u f))))))))) (sym (text_is 93 s q))
-      (subst (λ (x : Token). Drawn (leaf (of_kind kind.DollarBrace t) (leaf (of_kind kind.VarName n) (leaf (of_text 91 w) (node j c (leaf (of_text 93 s) (leaf x f)))))) (parts (written a b (leaf (of_kind kind.DollarBrace t) (leaf (of_kind kind.VarName n) (leaf (of_text 91 w) (node j c (leaf (of_text 93 s) (leaf x f))))))))) (sym (text_is 125 u r))
+      subst (λ (x : Token). Drawn (leaf x (leaf n (leaf w (node j c (leaf s (leaf u f))))))
+      (parts (written a b (leaf x (leaf n (leaf w (node j c (leaf s (leaf u f)))))))))
+      (sym (kind_is kind.DollarBrace t e))
+      (subst (λ (x : Token). Drawn (leaf (of_kind kind.DollarBrace t)
+      (leaf x (leaf w (node j c (leaf s (leaf u f))))))
+      (parts (written a b (leaf (of_kind kind.DollarBrace t) (leaf x (leaf w (node j c (leaf s (leaf u f)))))))))
+      (sym (kind_is kind.VarName n d))
+      (subst (λ (x : Token). Drawn (leaf (of_kind kind.DollarBrace t)
+      (leaf (of_kind kind.VarName n) (leaf x (node j c (leaf s (leaf u f))))))
+      (parts (written a b (leaf (of_kind kind.DollarBrace t)
+      (leaf (of_kind kind.VarName n) (leaf x (node j c (leaf s (leaf u f))))))))) (sym (text_is 91 w m))
+      (subst (λ (x : Token). Drawn (leaf (of_kind kind.DollarBrace t)
+      (leaf (of_kind kind.VarName n) (leaf (of_text 91 w) (node j c (leaf x (leaf u f))))))
+      (parts (written a b (leaf (of_kind kind.DollarBrace t)
+      (leaf (of_kind kind.VarName n) (leaf (of_text 91 w) (node j c (leaf x (leaf u f)))))))))
+      (sym (text_is 93 s q))
+      (subst (λ (x : Token). Drawn (leaf (of_kind kind.DollarBrace t)
+      (leaf (of_kind kind.VarName n) (leaf (of_text 91 w) (node j c (leaf (of_text 93 s) (leaf x f))))))
+      (parts (written a b (leaf (of_kind kind.DollarBrace t)
+      (leaf (of_kind kind.VarName n) (leaf (of_text 91 w) (node j c (leaf (of_text 93 s) (leaf x f)))))))))
+      (sym (text_is 125 u r))
       (offset_texted t n w s u j c f (drawn p) (texted o) a b)))))
   texted (pairs.expression {j} {t} {u} {c} {f} e p m o) a b =
       subst (λ (x : Token). Drawn (leaf x (node j c (leaf u f))) (parts (written a b (leaf x (node j c (leaf u f)))))) (sym (kind_is kind.DollarBrace t e))
-      (subst (λ (x : Token). Drawn (leaf (of_kind kind.DollarBrace t) (node j c (leaf x f))) (parts (written a b (leaf (of_kind kind.DollarBrace t) (node j c (leaf x f)))))) (sym (text_is 125 u m))
+      (subst (λ (x : Token). Drawn (leaf (of_kind kind.DollarBrace t) (node j c (leaf x f)))
+      (parts (written a b (leaf (of_kind kind.DollarBrace t) (node j c (leaf x f)))))) (sym (text_is 125 u m))
       (expression_texted t u j c f (drawn p) (texted o) a b))
 
 -- the draft of paired parts

@@ -13,7 +13,28 @@ use Rattle.syntax_rules.specs.SplitName.{begins_root, deleted, is_backslash, is_
 use Rattle.rewritten_shapes.specs.Laws.{is_namespace_word}
 use Rattle.written_tokens.specs.tokens.Drafted.{all_whole, before_all, begins_node, joins, last_joins, names_within}
 use Rattle.written_tokens.specs.tokens.Written.{draft_tokens}
-use Rattle.rewritten_shapes.specs.paired.Names.{Part, State, bad, blank, calm, edge, edged, failed, key, keyed, label, mark, other, part_by, root, rooted, rooted_key, space, step, worded}
+use Rattle.rewritten_shapes.specs.paired.Names.{
+  Part,
+  State,
+  bad,
+  blank,
+  calm,
+  edge,
+  edged,
+  failed,
+  key,
+  keyed,
+  label,
+  mark,
+  other,
+  part_by,
+  root,
+  rooted,
+  rooted_key,
+  space,
+  step,
+  worded,
+}
 use Rattle.rewritten_shapes.proofs.paired.Asked.{both_true, by_test, no_clash}
 use Rattle.rewritten_shapes.proofs.paired.States.{all_are}
 use Rattle.written_tokens.specs.drafts.Drafts.{new_part, run_draft}
@@ -76,7 +97,9 @@ is_loose mark = true
 is_loose other = true
 is_loose _ = false
 
-loose_by : (sort : TokenKind) (text : List ℕ) → is_loose (part_by sort text) ≡ true → ((is_op sort && bytes_eq text (codes "\\")) ≡ false) × ((is_label sort || (is_keyword sort && bytes_eq (str_to_ascii_lowercase text) (codes "namespace"))) ≡ false)
+loose_by : (sort : TokenKind) (text : List ℕ) → is_loose (part_by sort text) ≡ true
+    → ((is_op sort && bytes_eq text (codes "\\")) ≡ false) ×
+    ((is_label sort || (is_keyword sort && bytes_eq (str_to_ascii_lowercase text) (codes "namespace"))) ≡ false)
 loose_by kind.Label [] e = absurd cc
 loose_by kind.Label (b ∷ bs) e = absurd (go (b == 92) e)
   where
@@ -104,7 +127,9 @@ both_false false false c d e p q = refl
 pub loose_one : (t u : NewToken) → is_loose (new_part t) ≡ true → is_one t u ≡ false
 loose_one t u h =
     let w = loose_by t.kind (before t.text) h in
-    both_false (is_backslash t) (is_label t.kind || is_namespace t) (is_label u.kind || (is_name u.kind && not (begins_root (before u.text)))) (is_name u.kind) (begins_root (before u.text)) w.0 w.1
+    both_false (is_backslash t) (is_label t.kind || is_namespace t)
+    (is_label u.kind || (is_name u.kind && not (begins_root (before u.text)))) (is_name u.kind)
+    (begins_root (before u.text)) w.0 w.1
 
 -- a label or `namespace`, or a label without a text: it is no `\`
 no_root_by : (sort : TokenKind) (text : List ℕ) → is_label sort ≡ true → (is_op sort && bytes_eq text (codes "\\")) ≡ false
@@ -230,7 +255,8 @@ named_by false c false n r w p e = absurd cc
 joined_root : (t : NewToken) (ws : List NewToken) → is_backslash t ≡ false → joins t ws ≡ true → rooted_front ws ≡ true
 joined_root t [] e h = absurd cc
 joined_root t (u ∷ us) e h =
-    named_by (is_backslash t) (is_label u.kind || (is_name u.kind && not (begins_root (before u.text)))) (is_label t.kind || is_namespace t) (is_name u.kind) (begins_root (before u.text)) true e h
+    named_by (is_backslash t) (is_label u.kind || (is_name u.kind && not (begins_root (before u.text))))
+    (is_label t.kind || is_namespace t) (is_name u.kind) (begins_root (before u.text)) true e h
 
 blank_root : (sort : TokenKind) (text : List ℕ) → part_by sort text ≡ blank → (is_op sort && bytes_eq text (codes "\\")) ≡ false
 blank_root kind.Op text e = absurd (go (bytes_eq text (codes "\\")) (begins is_letter text) e)
@@ -360,7 +386,8 @@ node_edge (new_node k c d) s e = ap (λ (z : State). run_draft (edge (run_draft 
 ok_list : (d : Draft) (s : State) → is_ok (run_draft s d) ≡ true → is_ok (run_list s (draft_tokens d)) ≡ true
 ok_list d s o = ok_below (run_list s (draft_tokens d)) (run_draft s d) (list_below d s s (below_same s)) o
 
-leaf_apart : (t : NewToken) (d : Draft) (s : State) (b : Bool) → begins_node d ≡ b → is_ok (run_draft (step s (new_part t)) d) ≡ true → not (b && joins t (all_whole (draft_tokens d))) ≡ true
+leaf_apart : (t : NewToken) (d : Draft) (s : State) (b : Bool) → begins_node d ≡ b
+    → is_ok (run_draft (step s (new_part t)) d) ≡ true → not (b && joins t (all_whole (draft_tokens d))) ≡ true
 leaf_apart t d s false e o = refl
 leaf_apart t d s true e o =
     ap not (apart_there t (draft_tokens d) s (ok_list d (edge (step s (new_part t))) (ap is_ok (node_edge d (step s (new_part t)) e) ∙ o)))

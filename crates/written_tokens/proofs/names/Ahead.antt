@@ -11,7 +11,8 @@ use Rattle.written_tokens.proofs.names.Shared.{is_cut, cuts, Share, ended, both,
 
 -- ---- words
 
-alone_by : (w r s : List ℕ) (t : Bool) → starts_word w r ≡ t → starts_word w s ≡ t → (t ≡ true → no_label (drop (length w) r) ≡ no_label (drop (length w) s)) → word_alone w r ≡ word_alone w s
+alone_by : (w r s : List ℕ) (t : Bool) → starts_word w r ≡ t → starts_word w s ≡ t
+    → (t ≡ true → no_label (drop (length w) r) ≡ no_label (drop (length w) s)) → word_alone w r ≡ word_alone w s
 alone_by w r s true p q h = rw (p, q) (h refl)
 alone_by w r s false p q h = rw (p, q) refl
 
@@ -53,7 +54,8 @@ words_cut (w ∷ ws) r out h =
 not_round : (b : ℕ) → is_cut b ≡ true → nat_eq b 41 ≡ false
 not_round b h = grind (arith, nat_tests)
 
-ends_cut_by : (b : ℕ) (bs : List ℕ) → (cuts bs ≡ true → ends_cast bs ≡ false) → cuts (b ∷ bs) ≡ true → (t : Bool) → is_blank_byte b ≡ t → cond t (ends_cast bs) (nat_eq b 41) ≡ false
+ends_cut_by : (b : ℕ) (bs : List ℕ) → (cuts bs ≡ true → ends_cast bs ≡ false) → cuts (b ∷ bs) ≡ true → (t : Bool)
+    → is_blank_byte b ≡ t → cond t (ends_cast bs) (nat_eq b 41) ≡ false
 ends_cut_by b bs ih h true e = ih (cuts_blank b bs e h)
 ends_cut_by b bs ih h false e = not_round b (first_cut b bs h)
 
@@ -65,7 +67,8 @@ goes_cut : (r : List ℕ) → cuts r ≡ true → goes_cast r ≡ false
 goes_cut [] h = absurd cc
 goes_cut (b ∷ bs) h = rw (cut_letter b (first_cut b bs h)) (ends_cut (b ∷ bs) h)
 
-cast_cut_by : (b : ℕ) (bs : List ℕ) → (cuts bs ≡ true → begins_cast bs ≡ false) → cuts (b ∷ bs) ≡ true → (t : Bool) → is_blank_byte b ≡ t → cond t (begins_cast bs) (begins_type (b ∷ bs) && goes_cast bs) ≡ false
+cast_cut_by : (b : ℕ) (bs : List ℕ) → (cuts bs ≡ true → begins_cast bs ≡ false) → cuts (b ∷ bs) ≡ true → (t : Bool)
+    → is_blank_byte b ≡ t → cond t (begins_cast bs) (begins_type (b ∷ bs) && goes_cast bs) ≡ false
 cast_cut_by b bs ih h true e = ih (cuts_blank b bs e h)
 cast_cut_by b bs ih h false e = ap (λ (t : Bool). t && goes_cast bs) (words_cut cast_words (b ∷ bs) refl h)
 
@@ -96,7 +99,9 @@ cast_same (cut {r} {s} h k) = cast_cut r h ∙ sym (cast_cut s k)
 
 -- ---- `from`
 
-comes_cut_by : (b : ℕ) (bs : List ℕ) → (cuts bs ≡ true → comes_from bs ≡ false) → cuts (b ∷ bs) ≡ true → (t : Bool) → is_space b ≡ t → cond t (cuts bs) (nat_eq b 92 || (nat_eq b 35 || nat_eq b 47)) ≡ true → cond t (comes_from bs) (word_alone (codes "from") (b ∷ bs)) ≡ false
+comes_cut_by : (b : ℕ) (bs : List ℕ) → (cuts bs ≡ true → comes_from bs ≡ false) → cuts (b ∷ bs) ≡ true → (t : Bool)
+    → is_space b ≡ t → cond t (cuts bs) (nat_eq b 92 || (nat_eq b 35 || nat_eq b 47)) ≡ true
+    → cond t (comes_from bs) (word_alone (codes "from") (b ∷ bs)) ≡ false
 comes_cut_by b bs ih h true e k = ih k
 comes_cut_by b bs ih h false e k = alone_cut (codes "from") (b ∷ bs) refl h
 

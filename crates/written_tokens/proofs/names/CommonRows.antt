@@ -3,7 +3,21 @@ use Rattle.std.proofs.Common.{◌≡◌, ℕ, suc, Bool, true, false, cond, not,
 use Rattle.std.proofs.lemmas.Bool.{and_parts, eqb-true}
 use Rattle.php_tree.specs.declared.version.Version.TheVariants.{V74}
 use Rattle.php_spellings.specs.declared.table.Kind.{Kind}
-use Rattle.php_spellings.specs.declared.table.Kind.TheVariants.{InlineHtml, Variable, Word, Label, Name, Quote, Backtick, HeredocStart, Op, Close, CurlyOpen, DollarBrace, QuotedEnd}
+use Rattle.php_spellings.specs.declared.table.Kind.TheVariants.{
+  InlineHtml,
+  Variable,
+  Word,
+  Label,
+  Name,
+  Quote,
+  Backtick,
+  HeredocStart,
+  Op,
+  Close,
+  CurlyOpen,
+  DollarBrace,
+  QuotedEnd,
+}
 use Rattle.php_spellings.specs.declared.table.Mark.{Mark}
 use Rattle.php_spellings.specs.declared.table.Mark.TheVariants.{Double, Back, Here}
 use Rattle.php_spellings.specs.Bytes.{begins_by}
@@ -60,7 +74,9 @@ code_sound _ text ms = refl
 
 quoted_sound : (mark : Mark) (label : List ℕ) (kind : Kind) (text rest : List ℕ) (ms : List Mode) → turn_sound (quoted_turn V74 mark label kind text rest) ms ≡ true
 quoted_sound mark label Variable text rest ms =
-    chosen (begins_by 91 rest) (enter offset (quoted mark label false)) (cond (begins_property V74 rest) (enter property (quoted mark label false)) (stay (quoted mark label false))) ms refl
+    chosen (begins_by 91 rest) (enter offset (quoted mark label false))
+    (cond (begins_property V74 rest) (enter property (quoted mark label false)) (stay (quoted mark label false)))
+    ms refl
     (chosen (begins_property V74 rest) (enter property (quoted mark label false)) (stay (quoted mark label false)) ms refl refl)
 quoted_sound mark label QuotedEnd text rest ms = refl
 quoted_sound mark label CurlyOpen text rest ms = refl
@@ -104,7 +120,9 @@ turned_sound (enter above under) m below depth p q =
 turned_sound leave m [] depth p q = refl
 turned_sound leave m (n ∷ below) depth p q = q
 
-pub behind_sound : (m : Mode) (below : List Mode) (depth : ℕ) (kind : Kind) (text rest : List ℕ) → sound (stack_of m below depth) ≡ true → sound (turned_by (turn_of V74 m kind text rest) (stack_of m below depth)) ≡ true
+pub behind_sound : (m : Mode) (below : List Mode) (depth : ℕ) (kind : Kind) (text rest : List ℕ)
+    → sound (stack_of m below depth) ≡ true
+    → sound (turned_by (turn_of V74 m kind text rest) (stack_of m below depth)) ≡ true
 behind_sound m below depth kind text rest h =
     let (top, others) = and_parts (not (is_simple m) || quoted_first below) (modes_sound below) h in
     turned_sound (turn_of V74 m kind text rest) m below depth (turn_is_sound m kind text rest below top) others
@@ -166,7 +184,9 @@ one_kind Op c j d h r = op refl r
 one_kind Word c j d h r = word refl r
 one_kind _ c j d h r = absurd cc
 
-front_by : (k : Kind) (c : ℕ) (e : List ℕ) (j : Kind) (d : ℕ) (x : List ℕ) (us : List Tile) (t : Bool) → are_one k c j d ≡ t → begins_rooted (cond t (tile Name c (e ++ d ∷ x) ∷ us) (tile k c e ∷ tile j d x ∷ us)) ≡ true → MayRoot k c
+front_by : (k : Kind) (c : ℕ) (e : List ℕ) (j : Kind) (d : ℕ) (x : List ℕ) (us : List Tile) (t : Bool)
+    → are_one k c j d ≡ t → begins_rooted (cond t (tile Name c (e ++ d ∷ x) ∷ us) (tile k c e ∷ tile j d x ∷ us)) ≡
+    true → MayRoot k c
 front_by k c e j d x us true p h = one_kind k c j d p h
 front_by k c e j d x us false p h = rooted_kind k c h
 
@@ -182,7 +202,9 @@ record Rooted (m : Mode) (k : Kind) (c : ℕ) (e : List ℕ) : Type 0 where
 
 op_rooted : (m : Mode) (k : Kind) (c : ℕ) (e r : List ℕ) → mode_ok m ≡ true → IsLongest V74 m (c ∷ e ++ r) k (suc (length e)) → k ≡ Op → c ≡ 92 → Rooted m k c e
 op_rooted m k c e r ok l p q =
-    let there : IsLongest V74 m (92 ∷ e ++ r) Op (suc (length e)) = subst (λ (x : ℕ). IsLongest V74 m (x ∷ e ++ r) Op (suc (length e))) q (subst (λ (j : Kind). IsLongest V74 m (c ∷ e ++ r) j (suc (length e))) p l) in
+    let there : IsLongest V74 m (92 ∷ e ++ r) Op (suc (length e)) =
+    subst (λ (x : ℕ). IsLongest V74 m (x ∷ e ++ r) Op (suc (length e))) q
+    (subst (λ (j : Kind). IsLongest V74 m (c ∷ e ++ r) j (suc (length e))) p l) in
     let is = root_op m e r ok there in
     record { kind = p; byte = q; code_mode = is.mode; text = is.text }
 
@@ -197,11 +219,14 @@ rooted_by m k c e r ok l (name p) = absurd (name_none m c e r (subst (λ (j : Ki
 pub data RootFirst (m : Mode) : List Tile → Type 0 where
   first : {ts : List Tile} → m ≡ code → RootFirst m (tile Op 92 [] ∷ ts)
 
-pub root_first : (ts : List Tile) (m : Mode) (below : List Mode) (depth : ℕ) → mode_ok m ≡ true → Steps V74 (stack_of m below depth) ts → begins_rooted (whole_names ts) ≡ true → RootFirst m ts
+pub root_first : (ts : List Tile) (m : Mode) (below : List Mode) (depth : ℕ) → mode_ok m ≡ true
+    → Steps V74 (stack_of m below depth) ts → begins_rooted (whole_names ts) ≡ true → RootFirst m ts
 root_first [] m below depth ok s h = absurd cc
 root_first (tile k c e ∷ ts) m below depth ok s h =
     let is = rooted_by m k c e (joined ts) ok (longest_in (stack_of m below depth) k c e ts s) (front_root k c e (whole_names ts) h) in
-    subst (λ (t : Tile). RootFirst m (t ∷ ts)) (sym (ap (λ (j : Kind). tile j c e) is.kind ∙ ap (λ (x : ℕ). tile Op x e) is.byte ∙ ap (λ (x : List ℕ). tile Op 92 x) is.text)) (first is.code_mode)
+    subst (λ (t : Tile). RootFirst m (t ∷ ts))
+    (sym (ap (λ (j : Kind). tile j c e) is.kind ∙ ap (λ (x : ℕ). tile Op x e) is.byte
+    ∙ ap (λ (x : List ℕ). tile Op 92 x) is.text)) (first is.code_mode)
 
 -- ---- a keyword or a label comes next
 
@@ -215,7 +240,9 @@ other_kind Word c e us h = h
 other_kind Label c e us h = refl
 other_kind _ c e us h = absurd cc
 
-other_by : (k : Kind) (c : ℕ) (e : List ℕ) (j : Kind) (d : ℕ) (x : List ℕ) (us : List Tile) (t : Bool) → begins_other (cond t (tile Name c (e ++ d ∷ x) ∷ us) (tile k c e ∷ tile j d x ∷ us)) ≡ true → is_other k (c ∷ e) ≡ true
+other_by : (k : Kind) (c : ℕ) (e : List ℕ) (j : Kind) (d : ℕ) (x : List ℕ) (us : List Tile) (t : Bool)
+    → begins_other (cond t (tile Name c (e ++ d ∷ x) ∷ us) (tile k c e ∷ tile j d x ∷ us)) ≡ true
+    → is_other k (c ∷ e) ≡ true
 other_by k c e j d x us true h = absurd cc
 other_by k c e j d x us false h = other_kind k c e (tile j d x ∷ us) h
 

@@ -113,12 +113,17 @@ module _ (mark : Mark) (label : List ℕ) where
   arrow_in fresh [] r stop h = absurd (stops_byte 45 (moved (Body mark) (from_line fresh) 63) r (behind_plain mark fresh) mark_goes (arrow_first r h) stop)
   arrow_in fresh (x ∷ []) r stop h =
       let two = arrow_second x r h in
-      let state : moved (Body mark) (moved (Body mark) (from_line fresh) 63) x ≡ Plain = ap (λ (s : State). moved (Body mark) s x) (behind_plain mark fresh) ∙ ap (moved (Body mark) Plain) two.0 ∙ minus_plain mark in
+      let state : moved (Body mark) (moved (Body mark) (from_line fresh) 63) x ≡ Plain =
+      ap (λ (s : State). moved (Body mark) s x) (behind_plain mark fresh) ∙ ap (moved (Body mark) Plain) two.0
+      ∙ minus_plain mark in
       absurd (stops_byte 62 (moved (Body mark) (moved (Body mark) (from_line fresh) 63) x) r state more_goes two.1 stop)
   arrow_in fresh (x ∷ y ∷ []) r stop h =
       let three = arrow_third x y r h in
-      let one : moved (Body mark) (moved (Body mark) (from_line fresh) 63) x ≡ Plain = ap (λ (s : State). moved (Body mark) s x) (behind_plain mark fresh) ∙ ap (moved (Body mark) Plain) three.0 ∙ minus_plain mark in
-      let state : moved (Body mark) (moved (Body mark) (moved (Body mark) (from_line fresh) 63) x) y ≡ Plain = ap (λ (s : State). moved (Body mark) s y) one ∙ ap (moved (Body mark) Plain) three.1.0 ∙ more_plain mark in
+      let one : moved (Body mark) (moved (Body mark) (from_line fresh) 63) x ≡ Plain =
+      ap (λ (s : State). moved (Body mark) s x) (behind_plain mark fresh) ∙ ap (moved (Body mark) Plain) three.0
+      ∙ minus_plain mark in
+      let state : moved (Body mark) (moved (Body mark) (moved (Body mark) (from_line fresh) 63) x) y ≡ Plain =
+      ap (λ (s : State). moved (Body mark) s y) one ∙ ap (moved (Body mark) Plain) three.1.0 ∙ more_plain mark in
       absurd (stops_letter (moved (Body mark) (moved (Body mark) (moved (Body mark) (from_line fresh) 63) x) y) r state three.1.1 stop)
   arrow_in fresh (x ∷ y ∷ z ∷ e) r stop h = h
 
@@ -155,7 +160,9 @@ near_of t u us h =
 abbrev pub lexeme_of : TokenKind → List ℕ → List ℕ → Lexeme
 lexeme_of kind lead text = record { kind = kind; lead = lead; text = text }
 
-pub near_token : (t : Lexeme) (k : Kind) (c : ℕ) (e : List ℕ) (ts : List Tile) (j : TokenKind) → token_of k (c ∷ e) ≡ Some j → are_apart (t ∷ spelled [] (tile k c e ∷ ts)) ≡ true → Near t (lexeme_of j [] (c ∷ e))
+pub near_token : (t : Lexeme) (k : Kind) (c : ℕ) (e : List ℕ) (ts : List Tile) (j : TokenKind)
+    → token_of k (c ∷ e) ≡ Some j → are_apart (t ∷ spelled [] (tile k c e ∷ ts)) ≡ true
+    → Near t (lexeme_of j [] (c ∷ e))
 near_token t k c e ts j is h =
     near_of t (lexeme_of j [] (c ∷ e)) (spelled [] ts)
     (subst (λ (o : Option TokenKind). are_apart (t ∷ lexeme_with o [] (c ∷ e) (λ l. spelled l ts)) ≡ true) is h)
@@ -168,7 +175,8 @@ not_three true true false e f h = refl
 not_three true false q e f h = absurd cc
 not_three false p q e f h = absurd cc
 
-safe_by : (m : Mode) (c : ℕ) (e r : List ℕ) → IsLongest V74 m (c ∷ e ++ r) Piece (suc (length e)) → begins_question (c ∷ e) ≡ false → (x y : Bool) → nat_eq c 63 ≡ x → begins_arrow (e ++ r) ≡ y → (x && y) ≡ false
+safe_by : (m : Mode) (c : ℕ) (e r : List ℕ) → IsLongest V74 m (c ∷ e ++ r) Piece (suc (length e))
+    → begins_question (c ∷ e) ≡ false → (x y : Bool) → nat_eq c 63 ≡ x → begins_arrow (e ++ r) ≡ y → (x && y) ≡ false
 safe_by m c e r l h false y p q = refl
 safe_by m c e r l h true false p q = refl
 safe_by m c e r l h true true p q =
@@ -177,7 +185,9 @@ safe_by m c e r l h true true p q =
     let arrow = arrow_alone m e r there q in
     absurd (let clash : begins_question (63 ∷ e) ≡ false = subst (λ (x : ℕ). begins_question (x ∷ e) ≡ false) is h in let other : true ≡ false = sym arrow ∙ clash in cc)
 
-pub safe_variable : (t : Lexeme) (ts : List Tile) (m : Mode) (below : List Mode) (depth : ℕ) → is_variable_kind t.kind ≡ true → Steps V74 (stack_of m below depth) ts → are_apart (t ∷ spelled [] ts) ≡ true → begins_nullsafe ts ≡ false
+pub safe_variable : (t : Lexeme) (ts : List Tile) (m : Mode) (below : List Mode) (depth : ℕ)
+    → is_variable_kind t.kind ≡ true → Steps V74 (stack_of m below depth) ts → are_apart (t ∷ spelled [] ts) ≡ true
+    → begins_nullsafe ts ≡ false
 safe_variable t [] m below depth v s h = refl
 safe_variable t (tile Piece c e ∷ ts) m below depth v s h =
     let near = near_token t Piece c e ts token.Piece refl h in

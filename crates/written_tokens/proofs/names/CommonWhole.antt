@@ -86,7 +86,9 @@ module _ (lead : List ℕ) (below : List Mode) (depth : ℕ) where
   abbrev Code : List Tile → Type 0
   Code ts = Steps V74 (stack_of code below depth) ts
 
-  common_by : (k : Kind) (c : ℕ) (e : List ℕ) (ts : List Tile) → Code (tile k c e ∷ ts) → are_apart (root_token lead ∷ spelled [] (tile k c e ∷ ts)) ≡ true → (o : Option TokenKind) → token_of k (c ∷ e) ≡ o → (x : Bool) → is_letter c ≡ x → (not x || begins_word (tile k c e ∷ ts)) ≡ true
+  common_by : (k : Kind) (c : ℕ) (e : List ℕ) (ts : List Tile) → Code (tile k c e ∷ ts)
+      → are_apart (root_token lead ∷ spelled [] (tile k c e ∷ ts)) ≡ true → (o : Option TokenKind)
+      → token_of k (c ∷ e) ≡ o → (x : Bool) → is_letter c ≡ x → (not x || begins_word (tile k c e ∷ ts)) ≡ true
   common_by k c e ts s h o is false p = refl
   common_by k c e ts s h None is true p =
       absurd (let clash : true ≡ false = sym p ∙ trivia_letter k c e (joined ts) is (longest_in (stack_of code below depth) k c e ts s) in cc)
@@ -99,7 +101,9 @@ module _ (lead : List ℕ) (below : List Mode) (depth : ℕ) where
   root_common [] s h = refl
   root_common (tile k c e ∷ ts) s h = common_by k c e ts s h (token_of k (c ∷ e)) refl (is_letter c) refl
 
-  keyword_near : (c : ℕ) (e : List ℕ) (ts : List Tile) → Code (tile Word c e ∷ ts) → are_apart (root_token lead ∷ spelled [] (tile Word c e ∷ ts)) ≡ true → (x : Bool) → is_keyword (c ∷ e) ≡ x → x ≡ false
+  keyword_near : (c : ℕ) (e : List ℕ) (ts : List Tile) → Code (tile Word c e ∷ ts)
+      → are_apart (root_token lead ∷ spelled [] (tile Word c e ∷ ts)) ≡ true → (x : Bool) → is_keyword (c ∷ e) ≡ x
+      → x ≡ false
   keyword_near c e ts s h false p = refl
   keyword_near c e ts s h true p =
       let is : token_of Word (c ∷ e) ≡ Some token.Keyword = ap (λ (x : Bool). Some (cond x token.Keyword token.Label)) p in
@@ -107,7 +111,8 @@ module _ (lead : List ℕ) (below : List Mode) (depth : ℕ) where
       let letter : is_letter c ≡ true = (and_parts (is_letter c) (all_label e) (words_are_labels V74 c e (joined ts) (longest_in (stack_of code below depth) Word c e ts s))).0 in
       absurd (let clash : (not true || false) ≡ true = subst (λ (x : Bool). (not x || false) ≡ true) letter near.labelled in cc)
 
-  other_near : (k : Kind) (c : ℕ) (e : List ℕ) (ts : List Tile) → Code (tile k c e ∷ ts) → are_apart (root_token lead ∷ spelled [] (tile k c e ∷ ts)) ≡ true → is_other k (c ∷ e) ≡ true → ⊥
+  other_near : (k : Kind) (c : ℕ) (e : List ℕ) (ts : List Tile) → Code (tile k c e ∷ ts)
+      → are_apart (root_token lead ∷ spelled [] (tile k c e ∷ ts)) ≡ true → is_other k (c ∷ e) ≡ true → ⊥
   other_near Word c e ts s h o = let clash : true ≡ false = sym o ∙ keyword_near c e ts s h (is_keyword (c ∷ e)) refl in cc
   other_near Label c e ts s h o = let clash = longest_meets is_label_tile V74 code (c ∷ e) (joined ts) Label refl (longest_in (stack_of code below depth) Label c e ts s) in cc
   other_near _ c e ts s h o = absurd cc
@@ -141,12 +146,16 @@ module _ (lead : List ℕ) (m : Mode) (below : List Mode) (depth : ℕ) (ok : st
   op_both : (a : List ℕ) (ts : List Tile) → Stands Op 92 a ts → are_apart (lexeme_of token.Op lead (92 ∷ a) ∷ spelled [] ts) ≡ true → Both Op 92 a ts
   op_both a ts s h =
       let is = root_op m a (joined ts) top_ok (longest_in (stack_of m below depth) Op 92 a ts s) in
-      let there : Steps V74 (stack_of code below depth) (tile Op 92 [] ∷ ts) = subst (λ (n : Mode). Steps V74 (stack_of n below depth) (tile Op 92 [] ∷ ts)) is.mode (subst (λ (x : List ℕ). Steps V74 (stack_of m below depth) (tile Op 92 x ∷ ts)) is.text s) in
+      let there : Steps V74 (stack_of code below depth) (tile Op 92 [] ∷ ts) =
+      subst (λ (n : Mode). Steps V74 (stack_of n below depth) (tile Op 92 [] ∷ ts)) is.mode
+      (subst (λ (x : List ℕ). Steps V74 (stack_of m below depth) (tile Op 92 x ∷ ts)) is.text s) in
       let tail = steps_behind (stack_of code below depth) (stack_of code below depth) Op 92 [] ts refl there in
       let near : are_apart (root_token lead ∷ spelled [] ts) ≡ true = subst (λ (x : List ℕ). are_apart (lexeme_of token.Op lead (92 ∷ x) ∷ spelled [] ts) ≡ true) is.text h in
       (root_common lead below depth ts tail near, subst (λ (x : List ℕ). is_apart Op 92 x (whole_names ts) ≡ true) (sym is.text) (root_apart lead below depth ts tail near))
 
-  op_by : (b : ℕ) (a : List ℕ) (ts : List Tile) → Stands Op b a ts → are_apart (lexeme_of token.Op lead (b ∷ a) ∷ spelled [] ts) ≡ true → (x : Bool) → nat_eq b 92 ≡ x → Both Op b a ts
+  op_by : (b : ℕ) (a : List ℕ) (ts : List Tile) → Stands Op b a ts
+      → are_apart (lexeme_of token.Op lead (b ∷ a) ∷ spelled [] ts) ≡ true → (x : Bool) → nat_eq b 92 ≡ x
+      → Both Op b a ts
   op_by b a ts s h true e =
       subst (λ (x : ℕ). Stands Op x a ts → are_apart (lexeme_of token.Op lead (x ∷ a) ∷ spelled [] ts) ≡ true → Both Op x a ts) (sym (eqb-true b 92 e)) (op_both a ts) s h
   op_by b a ts s h false e = (rw e refl, rw e refl)
@@ -157,7 +166,10 @@ module _ (lead : List ℕ) (m : Mode) (below : List Mode) (depth : ℕ) (ok : st
       let near = near_token t Op 92 [] us token.Op refl h in
       let clash = rw (k, n) at near.parted in cc
 
-  word_by : (b : ℕ) (a : List ℕ) (ts : List Tile) → Steps V74 (stack_of code below depth) ts → are_apart (lexeme_of (cond (is_keyword (b ∷ a)) token.Keyword token.Label) lead (b ∷ a) ∷ spelled [] ts) ≡ true → (x y z : Bool) → is_keyword (b ∷ a) ≡ x → is_namespace (b ∷ a) ≡ y → begins_rooted (whole_names ts) ≡ z → (not x || y || not z) ≡ true
+  word_by : (b : ℕ) (a : List ℕ) (ts : List Tile) → Steps V74 (stack_of code below depth) ts
+      → are_apart (lexeme_of (cond (is_keyword (b ∷ a)) token.Keyword token.Label) lead (b ∷ a) ∷ spelled [] ts) ≡
+      true → (x y z : Bool) → is_keyword (b ∷ a) ≡ x → is_namespace (b ∷ a) ≡ y → begins_rooted (whole_names ts) ≡ z
+      → (not x || y || not z) ≡ true
   word_by b a ts s h false y z e f g = refl
   word_by b a ts s h true true z e f g = refl
   word_by b a ts s h true false false e f g = refl
@@ -205,7 +217,8 @@ abbrev is_code_mode : Mode → Bool
 is_code_mode code = true
 is_code_mode _ = false
 
-quoted_not : (below : List Mode) (depth : ℕ) (text rest : List ℕ) → quoted_first below ≡ true → is_code_mode (turned_by (turn_of V74 property Label text rest) (stack_of property below depth)).top ≡ false
+quoted_not : (below : List Mode) (depth : ℕ) (text rest : List ℕ) → quoted_first below ≡ true
+    → is_code_mode (turned_by (turn_of V74 property Label text rest) (stack_of property below depth)).top ≡ false
 quoted_not [] depth text rest h = absurd cc
 quoted_not (quoted mark label fresh ∷ below) depth text rest h = refl
 quoted_not (html ∷ below) depth text rest h = absurd cc
@@ -214,7 +227,9 @@ quoted_not (named ∷ below) depth text rest h = absurd cc
 quoted_not (offset ∷ below) depth text rest h = absurd cc
 quoted_not (property ∷ below) depth text rest h = absurd cc
 
-label_not : (m : Mode) (below : List Mode) (depth : ℕ) (b : ℕ) (a r : List ℕ) → mode_ok m ≡ true → sound (stack_of m below depth) ≡ true → IsLongest V74 m (b ∷ a ++ r) Label (suc (length a)) → is_code_mode (turned_by (turn_of V74 m Label (b ∷ a) r) (stack_of m below depth)).top ≡ false
+label_not : (m : Mode) (below : List Mode) (depth : ℕ) (b : ℕ) (a r : List ℕ) → mode_ok m ≡ true
+    → sound (stack_of m below depth) ≡ true → IsLongest V74 m (b ∷ a ++ r) Label (suc (length a))
+    → is_code_mode (turned_by (turn_of V74 m Label (b ∷ a) r) (stack_of m below depth)).top ≡ false
 label_not html below depth b a r ok f l = absurd (let clash = longest_meets is_label_tile V74 html (b ∷ a) r Label refl l in cc)
 label_not code below depth b a r ok f l = absurd (let clash = longest_meets is_label_tile V74 code (b ∷ a) r Label refl l in cc)
 label_not named below depth b a r ok f l = absurd cc
@@ -227,7 +242,8 @@ label_not property below depth b a r ok f l = quoted_not below depth (b ∷ a) r
 
 -- ---- the row
 
-module _ (m : Mode) (below : List Mode) (depth : ℕ) (ok : stack_ok (stack_of m below depth) ≡ true) (fine : sound (stack_of m below depth) ≡ true) (b : ℕ) (a : List ℕ) (ts : List Tile) where
+module _ (m : Mode) (below : List Mode) (depth : ℕ) (ok : stack_ok (stack_of m below depth) ≡ true)
+    (fine : sound (stack_of m below depth) ≡ true) (b : ℕ) (a : List ℕ) (ts : List Tile) where
   abbrev Next : Kind → Stack
   Next kind = turned_by (turn_of V74 m kind (b ∷ a) (joined ts)) (stack_of m below depth)
 
@@ -254,7 +270,9 @@ module _ (m : Mode) (below : List Mode) (depth : ℕ) (ok : stack_ok (stack_of m
   keyword_by s false e = refl
   keyword_by s true e = absurd (keyword_in m b a (joined ts) (and_parts (mode_ok m) (modes_ok below) ok).0 (longest_in (stack_of m below depth) Keyword b a ts s) e)
 
-  token_both : (kind : Kind) (lead : List ℕ) (j : TokenKind) → token_of kind (b ∷ a) ≡ Some j → is_dollar_brace kind ≡ false → is_hash kind b a ≡ false → Row kind → are_apart (lexeme_of j lead (b ∷ a) ∷ spelled [] ts) ≡ true → Both kind b a ts
+  token_both : (kind : Kind) (lead : List ℕ) (j : TokenKind) → token_of kind (b ∷ a) ≡ Some j
+      → is_dollar_brace kind ≡ false → is_hash kind b a ≡ false → Row kind
+      → are_apart (lexeme_of j lead (b ∷ a) ∷ spelled [] ts) ≡ true → Both kind b a ts
   token_both DollarBrace lead j is d f s h = absurd cc
   token_both Comment lead j is d f s h = absurd cc
   token_both Variable lead j is d f s h =
@@ -262,9 +280,11 @@ module _ (m : Mode) (below : List Mode) (depth : ℕ) (ok : stack_ok (stack_of m
       let kind : is_variable_kind j ≡ true = variable_is j is in
       (ap not (safe_variable (lexeme_of j lead (b ∷ a)) ts (Next Variable).top (Next Variable).below (Next Variable).depth kind tail h), refl)
   token_both Op lead j is d f s h =
-      op_by lead m below depth ok b a ts s (subst (λ (k : TokenKind). are_apart (lexeme_of k lead (b ∷ a) ∷ spelled [] ts) ≡ true) (sym (some_is token.Op j is)) h) (nat_eq b 92) refl
+      op_by lead m below depth ok b a ts s (subst (λ (k : TokenKind). are_apart
+      (lexeme_of k lead (b ∷ a) ∷ spelled [] ts) ≡ true) (sym (some_is token.Op j is)) h) (nat_eq b 92) refl
   token_both Word lead j is d f s h =
-      word_both lead s (subst (λ (k : TokenKind). are_apart (lexeme_of k lead (b ∷ a) ∷ spelled [] ts) ≡ true) (sym (some_is (cond (is_keyword (b ∷ a)) token.Keyword token.Label) j is)) h)
+      word_both lead s (subst (λ (k : TokenKind). are_apart (lexeme_of k lead (b ∷ a) ∷ spelled [] ts) ≡ true)
+      (sym (some_is (cond (is_keyword (b ∷ a)) token.Keyword token.Label) j is)) h)
   token_both Label lead j is d f s h =
       (refl, ap not (label_by s (behind_ok m below depth Label (b ∷ a) (joined ts) ok refl) (begins_rooted (whole_names ts)) refl))
   token_both Keyword lead j is d f s h = (refl, ap not (keyword_by s (is_namespace (b ∷ a)) refl))
@@ -288,12 +308,18 @@ all_of : (kind : Kind) (b : ℕ) (a : List ℕ) (ts : List Tile) → Both kind b
 all_of kind b a ts both more =
     (and_same (is_common kind b a ts) (all_common ts) both.0 more.0, and_same (is_apart kind b a (whole_names ts)) (all_apart ts) both.1 more.1)
 
-row_by : (m : Mode) (below : List Mode) (depth : ℕ) (kind : Kind) (b : ℕ) (a : List ℕ) (ts : List Tile) (lead : List ℕ) → stack_ok (stack_of m below depth) ≡ true → sound (stack_of m below depth) ≡ true → is_dollar_brace kind ≡ false → is_hash kind b a ≡ false → Steps V74 (stack_of m below depth) (tile kind b a ∷ ts) → ((l : List ℕ) → are_apart (spelled l ts) ≡ true → All ts) → (o : Option TokenKind) → token_of kind (b ∷ a) ≡ o → are_apart (lexeme_with o lead (b ∷ a) (λ l. spelled l ts)) ≡ true → All (tile kind b a ∷ ts)
+row_by : (m : Mode) (below : List Mode) (depth : ℕ) (kind : Kind) (b : ℕ) (a : List ℕ) (ts : List Tile)
+    (lead : List ℕ) → stack_ok (stack_of m below depth) ≡ true → sound (stack_of m below depth) ≡ true
+    → is_dollar_brace kind ≡ false → is_hash kind b a ≡ false
+    → Steps V74 (stack_of m below depth) (tile kind b a ∷ ts)
+    → ((l : List ℕ) → are_apart (spelled l ts) ≡ true → All ts) → (o : Option TokenKind) → token_of kind (b ∷ a) ≡ o
+    → are_apart (lexeme_with o lead (b ∷ a) (λ l. spelled l ts)) ≡ true → All (tile kind b a ∷ ts)
 row_by m below depth kind b a ts lead ok fine d f s ih None is h = all_of kind b a ts (trivia_both m below depth ok fine b a ts kind is f) (ih (lead ++ b ∷ a) h)
 row_by m below depth kind b a ts lead ok fine d f s ih (Some j) is h =
     all_of kind b a ts (token_both m below depth ok fine b a ts kind lead j is d f s h) (ih [] (apart_tail (lexeme_of j lead (b ∷ a)) (spelled [] ts) h))
 
-row_all : (ts : List Tile) (lead : List ℕ) (k : Stack) → stack_ok k ≡ true → sound k ≡ true → none_dollar ts ≡ true → none_hash ts ≡ true → Steps V74 k ts → are_apart (spelled lead ts) ≡ true → All ts
+row_all : (ts : List Tile) (lead : List ℕ) (k : Stack) → stack_ok k ≡ true → sound k ≡ true → none_dollar ts ≡ true
+    → none_hash ts ≡ true → Steps V74 k ts → are_apart (spelled lead ts) ≡ true → All ts
 row_all [] lead k ok fine d f s h = (refl, refl)
 row_all (tile kind b a ∷ ts) lead k ok fine d f s h =
     let (one, dollars) = and_parts (not (is_dollar_brace kind)) (none_dollar ts) d in

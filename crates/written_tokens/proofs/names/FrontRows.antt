@@ -58,7 +58,9 @@ spelled_some lead (tile kind b a ∷ ts) = spelled_by (token_of kind (b ∷ a)) 
 
 -- ---- the front
 
-behind_trivia : (lead : List ℕ) (kind : Kind) (b : ℕ) (a : List ℕ) (ts : List Tile) (first : Lexeme) (more : List Lexeme) → token_of kind (b ∷ a) ≡ None → Front (lead ++ b ∷ a) ts first more → Front lead (tile kind b a ∷ ts) first more
+behind_trivia : (lead : List ℕ) (kind : Kind) (b : ℕ) (a : List ℕ) (ts : List Tile) (first : Lexeme)
+    (more : List Lexeme) → token_of kind (b ∷ a) ≡ None → Front (lead ++ b ∷ a) ts first more
+    → Front lead (tile kind b a ∷ ts) first more
 behind_trivia lead kind b a ts first more none f = record {
   trivia = tile kind b a ∷ f.trivia;
   kind = f.kind;
@@ -73,7 +75,9 @@ behind_trivia lead kind b a ts first more none f = record {
   tokens = f.tokens;
 }
 
-at_token : (lead : List ℕ) (kind : Kind) (b : ℕ) (a : List ℕ) (ts : List Tile) (first : Lexeme) (more : List Lexeme) (k : TokenKind) → token_of kind (b ∷ a) ≡ Some k → record { kind = k; lead = lead; text = b ∷ a } ≡ first → spelled [] ts ≡ more → Front lead (tile kind b a ∷ ts) first more
+at_token : (lead : List ℕ) (kind : Kind) (b : ℕ) (a : List ℕ) (ts : List Tile) (first : Lexeme) (more : List Lexeme)
+    (k : TokenKind) → token_of kind (b ∷ a) ≡ Some k → record { kind = k; lead = lead; text = b ∷ a } ≡ first
+    → spelled [] ts ≡ more → Front lead (tile kind b a ∷ ts) first more
 at_token lead kind b a ts first more k some same others = record {
   trivia = [];
   kind = kind;
@@ -88,7 +92,10 @@ at_token lead kind b a ts first more k some same others = record {
   tokens = others;
 }
 
-by_kind : (lead : List ℕ) (kind : Kind) (b : ℕ) (a : List ℕ) (ts : List Tile) (first : Lexeme) (more : List Lexeme) → ((l : List ℕ) → spelled l ts ≡ first ∷ more → Front l ts first more) → (o : Option TokenKind) → token_of kind (b ∷ a) ≡ o → lexeme_with o lead (b ∷ a) (λ l. spelled l ts) ≡ first ∷ more → Front lead (tile kind b a ∷ ts) first more
+by_kind : (lead : List ℕ) (kind : Kind) (b : ℕ) (a : List ℕ) (ts : List Tile) (first : Lexeme) (more : List Lexeme)
+    → ((l : List ℕ) → spelled l ts ≡ first ∷ more → Front l ts first more) → (o : Option TokenKind)
+    → token_of kind (b ∷ a) ≡ o → lexeme_with o lead (b ∷ a) (λ l. spelled l ts) ≡ first ∷ more
+    → Front lead (tile kind b a ∷ ts) first more
 by_kind lead kind b a ts first more ih None e h = behind_trivia lead kind b a ts first more e (ih (lead ++ b ∷ a) h)
 by_kind lead kind b a ts first more ih (Some k) e h =
     at_token lead kind b a ts first more k e
@@ -107,7 +114,8 @@ front_of_row lead row first ts last us h = front lead row first (ts ++ last ∷ 
 
 -- ---- the end
 
-end_behind : (lead : List ℕ) (kind : Kind) (b : ℕ) (a : List ℕ) (ts : List Tile) (last : Lexeme) → token_of kind (b ∷ a) ≡ None → LastFront (lead ++ b ∷ a) ts last → LastFront lead (tile kind b a ∷ ts) last
+end_behind : (lead : List ℕ) (kind : Kind) (b : ℕ) (a : List ℕ) (ts : List Tile) (last : Lexeme)
+    → token_of kind (b ∷ a) ≡ None → LastFront (lead ++ b ∷ a) ts last → LastFront lead (tile kind b a ∷ ts) last
 end_behind lead kind b a ts last none f = record {
   free = and_both (is_trivia kind) (all_trivia ts) (none_is kind (b ∷ a) none) f.free;
   lead = sym (append_assoc lead (b ∷ a) (joined ts)) ∙ f.lead;
@@ -115,7 +123,10 @@ end_behind lead kind b a ts last none f = record {
   text = f.text;
 }
 
-end_by : (lead : List ℕ) (kind : Kind) (b : ℕ) (a : List ℕ) (ts : List Tile) (last : Lexeme) → ((l : List ℕ) → spelled l ts ≡ last ∷ [] → LastFront l ts last) → (o : Option TokenKind) → token_of kind (b ∷ a) ≡ o → lexeme_with o lead (b ∷ a) (λ l. spelled l ts) ≡ last ∷ [] → LastFront lead (tile kind b a ∷ ts) last
+end_by : (lead : List ℕ) (kind : Kind) (b : ℕ) (a : List ℕ) (ts : List Tile) (last : Lexeme)
+    → ((l : List ℕ) → spelled l ts ≡ last ∷ [] → LastFront l ts last) → (o : Option TokenKind)
+    → token_of kind (b ∷ a) ≡ o → lexeme_with o lead (b ∷ a) (λ l. spelled l ts) ≡ last ∷ []
+    → LastFront lead (tile kind b a ∷ ts) last
 end_by lead kind b a ts last ih None e h = end_behind lead kind b a ts last e (ih (lead ++ b ∷ a) h)
 end_by lead kind b a ts last ih (Some k) e h =
     absurd (let none : true ≡ false = sym (spelled_some [] ts) ∙ ap is_some (tail_is (record { kind = k; lead = lead; text = b ∷ a }) last (spelled [] ts) [] h) in cc)
@@ -141,7 +152,9 @@ trivia_spelled lead (tile kind b a ∷ gap) rest h =
     ∙ trivia_spelled (lead ++ b ∷ a) gap rest more
     ∙ ap (λ (l : List ℕ). spelled l rest) (append_assoc lead (b ∷ a) (joined gap))
 
-pub token_spelled : (lead : List ℕ) (kind : Kind) (b : ℕ) (a : List ℕ) (k : TokenKind) (rest : List Tile) → token_of kind (b ∷ a) ≡ Some k → spelled lead (tile kind b a ∷ rest) ≡ record { kind = k; lead = lead; text = b ∷ a } ∷ spelled [] rest
+pub token_spelled : (lead : List ℕ) (kind : Kind) (b : ℕ) (a : List ℕ) (k : TokenKind) (rest : List Tile)
+    → token_of kind (b ∷ a) ≡ Some k → spelled lead (tile kind b a ∷ rest) ≡ record
+    { kind = k; lead = lead; text = b ∷ a } ∷ spelled [] rest
 token_spelled lead kind b a k rest h = ap (λ (o : Option TokenKind). lexeme_with o lead (b ∷ a) (λ l. spelled l rest)) h
 
 pub fronts_are_spelled : FrontsAreSpelled

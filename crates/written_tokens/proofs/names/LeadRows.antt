@@ -104,11 +104,16 @@ within_block b c x r false e = rw e refl
 abbrev Over : State → List ℕ → List ℕ → List ℕ → Type 0
 Over s x rest r = is_until Block s x rest ≡ true → Wrote (standing s x) (x ++ r) ≡ x ++ Wrote outside r
 
-block_goes : (b : ℕ) (x rest r : List ℕ) → is_until Block (cond (nat_eq b 42) Escaped Plain) x rest ≡ true → Over (cond (nat_eq b 42) Escaped Plain) x rest r → Wrote block (b ∷ x ++ r) ≡ b ∷ x ++ Wrote outside r
+block_goes : (b : ℕ) (x rest r : List ℕ) → is_until Block (cond (nat_eq b 42) Escaped Plain) x rest ≡ true
+    → Over (cond (nat_eq b 42) Escaped Plain) x rest r → Wrote block (b ∷ x ++ r) ≡ b ∷ x ++ Wrote outside r
 block_goes b [] rest r h ih = absurd cc
-block_goes b (c ∷ x) rest r h ih = plain_step block (standing (cond (nat_eq b 42) Escaped Plain) (c ∷ x)) b (c ∷ x ++ r) refl (within_block b c x r (nat_eq b 42) refl) ∙ ap (λ (l : List ℕ). b ∷ l) (ih h)
+block_goes b (c ∷ x) rest r h ih = plain_step block (standing (cond (nat_eq b 42) Escaped Plain) (c ∷ x)) b
+    (c ∷ x ++ r) refl (within_block b c x r (nat_eq b 42) refl) ∙ ap (λ (l : List ℕ). b ∷ l) (ih h)
 
-closed_by : (b : ℕ) (x rest r : List ℕ) (t : Bool) → nat_eq b 47 ≡ t → Over (cond (nat_eq b 42) Escaped Plain) x rest r → (true && cond t (is_empty x) (is_until Block (cond (nat_eq b 42) Escaped Plain) x rest)) ≡ true → Wrote (cond t closing block) (b ∷ x ++ r) ≡ b ∷ x ++ Wrote outside r
+closed_by : (b : ℕ) (x rest r : List ℕ) (t : Bool) → nat_eq b 47 ≡ t
+    → Over (cond (nat_eq b 42) Escaped Plain) x rest r
+    → (true && cond t (is_empty x) (is_until Block (cond (nat_eq b 42) Escaped Plain) x rest)) ≡ true
+    → Wrote (cond t closing block) (b ∷ x ++ r) ≡ b ∷ x ++ Wrote outside r
 closed_by b [] rest r true e ih h = plain_step closing outside b r refl refl
 closed_by b (c ∷ x) rest r true e ih h = absurd cc
 closed_by b x rest r false e ih h = block_goes b x rest r h ih
@@ -149,14 +154,19 @@ line_by b bs false false p r k h = absurd cc
 front_line : (stack : Stack) (ts rest : List Tile) → all_trivia ts ≡ true → Steps V74 stack (ts ++ rest) → stops_line (joined (ts ++ rest)) ≡ true → line_front (joined ts) ≡ true
 front_line stack [] rest t h s = refl
 front_line stack (tile kind b a ∷ ts) rest t h s =
-    line_by b (a ++ joined (ts ++ rest)) (is_line_end b) (nat_eq b 63) refl refl (front_mark stack.top kind b a (joined (ts ++ rest)) (and_parts (is_trivia kind) (all_trivia ts) t).0 (opened h).0) s
+    line_by b (a ++ joined (ts ++ rest)) (is_line_end b) (nat_eq b 63) refl refl
+    (front_mark stack.top kind b a (joined (ts ++ rest)) (and_parts (is_trivia kind) (all_trivia ts) t).0
+    (opened h).0) s
 
-module _ (stack : Stack) (ts rest : List Tile) (free : all_trivia ts ≡ true) (more : Steps V74 stack (ts ++ rest)) (ih : Wrote outside (joined ts) ≡ joined (spaced_trivia ts)) where
+module _ (stack : Stack) (ts rest : List Tile) (free : all_trivia ts ≡ true) (more : Steps V74 stack (ts ++ rest))
+    (ih : Wrote outside (joined ts) ≡ joined (spaced_trivia ts)) where
   calm_tile : (x : List ℕ) → texts.all_calm x ≡ true → Wrote outside (x ++ joined ts) ≡ x ++ joined (spaced_trivia ts)
   calm_tile x h = over_calm x (joined ts) h ∙ ap (λ (l : List ℕ). x ++ l) ih
 
-  line_tile : (a : List ℕ) → is_run Line [] First a (joined (ts ++ rest)) ≡ true → stops_line (joined (ts ++ rest)) ≡ true → Wrote line (a ++ joined ts) ≡ a ++ joined (spaced_trivia ts)
-  line_tile a run stop = over_line a (joined (ts ++ rest)) (joined ts) First run ∙ ap (λ (l : List ℕ). a ++ l) (line_left (joined ts) (front_line stack ts rest free more stop) ∙ ih)
+  line_tile : (a : List ℕ) → is_run Line [] First a (joined (ts ++ rest)) ≡ true
+      → stops_line (joined (ts ++ rest)) ≡ true → Wrote line (a ++ joined ts) ≡ a ++ joined (spaced_trivia ts)
+  line_tile a run stop = over_line a (joined (ts ++ rest)) (joined ts) First run
+      ∙ ap (λ (l : List ℕ). a ++ l) (line_left (joined ts) (front_line stack ts rest free more stop) ∙ ih)
 
   line_next : (bs : List ℕ) → line_front bs ≡ true → next_is 91 bs ≡ false
   line_next [] h = refl
@@ -166,7 +176,9 @@ module _ (stack : Stack) (ts rest : List Tile) (free : all_trivia ts ≡ true) (
   bracket_next [] stop = line_next (joined ts) (front_line stack ts rest free more stop)
   bracket_next (c ∷ a) stop = refl
 
-  hash_by : (a : List ℕ) (t : Bool) → begins_by 91 a ≡ t → is_run Line [] First a (joined (ts ++ rest)) ≡ true → stops_line (joined (ts ++ rest)) ≡ true → Wrote outside (35 ∷ a ++ joined ts) ≡ joined (cond t (tile Comment 35 (32 ∷ a)) (tile Comment 35 a) ∷ spaced_trivia ts)
+  hash_by : (a : List ℕ) (t : Bool) → begins_by 91 a ≡ t → is_run Line [] First a (joined (ts ++ rest)) ≡ true
+      → stops_line (joined (ts ++ rest)) ≡ true → Wrote outside (35 ∷ a ++ joined ts) ≡ joined
+      (cond t (tile Comment 35 (32 ∷ a)) (tile Comment 35 a) ∷ spaced_trivia ts)
   hash_by a true e run stop =
       step_by true 35 (a ++ joined ts) outside (bracket_next a stop ∙ e)
       ∙ ap (λ (l : List ℕ). 35 ∷ 32 ∷ l) (line_tile a run stop)
@@ -174,7 +186,8 @@ module _ (stack : Stack) (ts rest : List Tile) (free : all_trivia ts ≡ true) (
       step_by false 35 (a ++ joined ts) outside (bracket_next a stop ∙ e)
       ∙ ap (λ (l : List ℕ). 35 ∷ l) (line_tile a run stop)
 
-  comment_tile : (b : ℕ) (a : List ℕ) → texts.CommentText b a (joined (ts ++ rest)) → Wrote outside (b ∷ a ++ joined ts) ≡ joined (spaced_tile (tile Comment b a) ∷ spaced_trivia ts)
+  comment_tile : (b : ℕ) (a : List ℕ) → texts.CommentText b a (joined (ts ++ rest))
+      → Wrote outside (b ∷ a ++ joined ts) ≡ joined (spaced_tile (tile Comment b a) ∷ spaced_trivia ts)
   comment_tile b a (texts.hash x run stop) = hash_by x (begins_by 91 x) refl run stop
   comment_tile b a (texts.block x until) =
       plain_step outside opening 47 (42 ∷ x ++ joined ts) refl refl
@@ -185,7 +198,9 @@ module _ (stack : Stack) (ts rest : List Tile) (free : all_trivia ts ≡ true) (
       ∙ ap (λ (l : List ℕ). 47 ∷ l) (plain_step line line 47 (x ++ joined ts) refl refl
       ∙ ap (λ (l : List ℕ). 47 ∷ l) (line_tile x run stop))
 
-  tile_by : (m : Mode) (kind : Kind) (b : ℕ) (a : List ℕ) → is_trivia kind ≡ true → IsLongest V74 m (b ∷ a ++ joined (ts ++ rest)) kind (suc (length a)) → Wrote outside (b ∷ a ++ joined ts) ≡ joined (spaced_tile (tile kind b a) ∷ spaced_trivia ts)
+  tile_by : (m : Mode) (kind : Kind) (b : ℕ) (a : List ℕ) → is_trivia kind ≡ true
+      → IsLongest V74 m (b ∷ a ++ joined (ts ++ rest)) kind (suc (length a))
+      → Wrote outside (b ∷ a ++ joined ts) ≡ joined (spaced_tile (tile kind b a) ∷ spaced_trivia ts)
   tile_by m Space b a t h = calm_tile (b ∷ a) (spaces_calm (b ∷ a) (texts.space_text m b a (joined (ts ++ rest)) h))
   tile_by m Comment b a t h = comment_tile b a (texts.comment_text m b a (joined (ts ++ rest)) h)
   tile_by m Tag b a t h = calm_tile (b ∷ a) (texts.tag_text m b a (joined (ts ++ rest)) h)
@@ -205,7 +220,10 @@ and_false : (x : Bool) → (x && false) ≡ false
 and_false true = refl
 and_false false = refl
 
-both : (kind : Kind) (b : ℕ) (a : List ℕ) (t : Bool) → is_hash kind b a ≡ t → (us : List Tile) → is_trivia kind ≡ true → (all_trivia us ≡ true) × (none_hash us ≡ true) → (all_trivia (cond t (tile kind b (32 ∷ a)) (tile kind b a) ∷ us) ≡ true) × (none_hash (cond t (tile kind b (32 ∷ a)) (tile kind b a) ∷ us) ≡ true)
+both : (kind : Kind) (b : ℕ) (a : List ℕ) (t : Bool) → is_hash kind b a ≡ t → (us : List Tile) → is_trivia kind ≡ true
+    → (all_trivia us ≡ true) × (none_hash us ≡ true)
+    → (all_trivia (cond t (tile kind b (32 ∷ a)) (tile kind b a) ∷ us) ≡ true)
+    × (none_hash (cond t (tile kind b (32 ∷ a)) (tile kind b a) ∷ us) ≡ true)
 both kind b a true e us h ih = (rw (h, ih.0) refl, rw (no_hash kind b a, ih.1) refl)
   where
     no_hash : (k : Kind) (c : ℕ) (x : List ℕ) → is_hash k c (32 ∷ x) ≡ false

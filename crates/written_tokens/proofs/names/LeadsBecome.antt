@@ -16,8 +16,11 @@ use Rattle.written_tokens.proofs.tiles.HtmlTokens.{html_tokens_become}
 use Rattle.written_tokens.proofs.tiles.CastEdits.{hash_comments_become}
 use Rattle.written_tokens.specs.names.Leads.{is_hash, spaced_tile, spaced_trivia, is_tag, TriviaBecome}
 
-hash_tile : (b : ℕ) (a : List ℕ) (t : Bool) → is_hash Comment b a ≡ t → Becomes false true code code (tile Comment b a ∷ []) (cond t (tile Comment b (32 ∷ a)) (tile Comment b a) ∷ [])
-hash_tile b a true e = subst (λ (x : ℕ). Becomes false true code code (tile Comment x a ∷ []) (tile Comment x (32 ∷ a) ∷ [])) (sym (eqb-true b 35 (and_parts (nat_eq b 35) (begins_by 91 a) e).0)) (hash_comments_become a)
+hash_tile : (b : ℕ) (a : List ℕ) (t : Bool) → is_hash Comment b a ≡ t
+    → Becomes false true code code (tile Comment b a ∷ []) (cond t (tile Comment b (32 ∷ a)) (tile Comment b a) ∷ [])
+hash_tile b a true e = subst (λ (x : ℕ). Becomes false true code code (tile Comment x a ∷ [])
+    (tile Comment x (32 ∷ a) ∷ [])) (sym (eqb-true b 35 (and_parts (nat_eq b 35) (begins_by 91 a) e).0))
+    (hash_comments_become a)
 hash_tile b a false e = code_tokens_become Comment b a refl
 
 one_tile : (kind : Kind) (b : ℕ) (a : List ℕ) → is_trivia kind ≡ true → Becomes false (stops_cast kind) code code (tile kind b a ∷ []) (spaced_tile (tile kind b a) ∷ [])
@@ -30,10 +33,14 @@ in_code : (ts : List Tile) → all_trivia ts ≡ true → Becomes false (any_sto
 in_code [] h = becomes_loosely.nothing code
 in_code (tile kind b a ∷ ts) h =
     let (here, more) = and_parts (is_trivia kind) (all_trivia ts) h in
-    becomes_join false (stops_cast kind) false (any_stops ts) code code code (tile kind b a ∷ []) (spaced_tile (tile kind b a) ∷ []) ts (spaced_trivia ts) (one_tile kind b a here) (in_code ts more)
+    becomes_join false (stops_cast kind) false (any_stops ts) code code code (tile kind b a ∷ [])
+    (spaced_tile (tile kind b a) ∷ []) ts (spaced_trivia ts) (one_tile kind b a here) (in_code ts more)
 
-from_tag : (kind : Kind) (b : ℕ) (a : List ℕ) (ts : List Tile) → is_tag kind ≡ true → all_trivia ts ≡ true → Becomes false (any_stops (tile kind b a ∷ ts)) html code (tile kind b a ∷ ts) (spaced_trivia (tile kind b a ∷ ts))
-from_tag Tag b a ts h free = becomes_join false true false (any_stops ts) html code code (tile Tag b a ∷ []) (tile Tag b a ∷ []) ts (spaced_trivia ts) (html_tokens_become Tag b a) (in_code ts free)
+from_tag : (kind : Kind) (b : ℕ) (a : List ℕ) (ts : List Tile) → is_tag kind ≡ true → all_trivia ts ≡ true
+    → Becomes false (any_stops (tile kind b a ∷ ts)) html code (tile kind b a ∷ ts)
+    (spaced_trivia (tile kind b a ∷ ts))
+from_tag Tag b a ts h free = becomes_join false true false (any_stops ts) html code code (tile Tag b a ∷ [])
+    (tile Tag b a ∷ []) ts (spaced_trivia ts) (html_tokens_become Tag b a) (in_code ts free)
 from_tag _ b a ts h free = absurd cc
 
 pub trivia_become : TriviaBecome

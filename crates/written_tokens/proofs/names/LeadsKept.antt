@@ -112,7 +112,9 @@ opened_good : (t : NewToken) (d : Draft) → Good t → AllGood d → AllGood (o
 opened_good t no_more g h = (g, h)
 opened_good t (new_leaf name no_more) g h = (g, h)
 opened_good t (new_leaf name (new_node k c d)) g h = (g, h)
-opened_good t (new_leaf name (new_leaf mark d)) g h = pick (is_text (codes "[") mark) (with_offset t name mark d) (plain t name (new_leaf mark d)) (offset_good t name mark d g h.1.0 h.1.1) (plain_good t name (new_leaf mark d) g h.1)
+opened_good t (new_leaf name (new_leaf mark d)) g h = pick (is_text (codes "[") mark) (with_offset t name mark d)
+    (plain t name (new_leaf mark d)) (offset_good t name mark d g h.1.0 h.1.1)
+    (plain_good t name (new_leaf mark d) g h.1)
 opened_good t (new_node k e d) g h = node_good t k e d g h.0 h.1
 
 parts_good : (d : Draft) → AllGood d → AllGood (parts d)
@@ -149,7 +151,8 @@ drafted_good : (wraps : Patches) (id : ℕ) (f : Forest) → AllGood (drafted (r
 drafted_good wraps id none = tt
 drafted_good wraps id (leaf t f) = (spaced_good t.lead, drafted_good wraps id f)
 drafted_good wraps id (node k c f) = (
-  wrapped_good (wraps id) (node_by every_rule (k, c) (k, drafted (rewriting (all_on wraps)) (suc id) c)) (node_at wraps (k, c) (k, drafted (rewriting (all_on wraps)) (suc id) c) (drafted_good wraps (suc id) c)),
+  wrapped_good (wraps id) (node_by every_rule (k, c) (k, drafted (rewriting (all_on wraps)) (suc id) c))
+      (node_at wraps (k, c) (k, drafted (rewriting (all_on wraps)) (suc id) c) (drafted_good wraps (suc id) c)),
   drafted_good wraps (suc (id + count c)) f,
 )
 

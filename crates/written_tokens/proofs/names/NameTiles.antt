@@ -1,5 +1,33 @@
 -- The tiles of parts of names, and the trivia between them.
-use Rattle.std.proofs.Common.{◌≡◌, ℕ, suc, Bool, true, false, cond, not, ◌&&◌, ◌||◌, nat_eq, nat_lt, nat_le, ◌+◌, List, [], ◌∷◌, ◌++◌, length, Option, Some, None, refl, ap, ◌∙◌, subst, arith}
+use Rattle.std.proofs.Common.{
+  ◌≡◌,
+  ℕ,
+  suc,
+  Bool,
+  true,
+  false,
+  cond,
+  not,
+  ◌&&◌,
+  ◌||◌,
+  nat_eq,
+  nat_lt,
+  nat_le,
+  ◌+◌,
+  List,
+  [],
+  ◌∷◌,
+  ◌++◌,
+  length,
+  Option,
+  Some,
+  None,
+  refl,
+  ap,
+  ◌∙◌,
+  subst,
+  arith,
+}
 use Rattle.std.proofs.lemmas.Bool.{and_parts, eqb-true}
 use Rattle.std.proofs.lemmas.Bool.Decides.{nat_tests}
 use Rattle.php_tree.specs.declared.version.Version.TheVariants.{V74}
@@ -169,7 +197,8 @@ not_space_word b a h e =
     let first : nat_eq (cond (nat_lt b 65) b (cond (nat_lt b 91) (b + 32) b)) 110 ≡ true = (and_parts (nat_eq (cond (nat_lt b 65) b (cond (nat_lt b 91) (b + 32) b)) 110) _ e).0 in
     clash b (nat_lt b 65) (nat_lt b 91) (nat_le 65 b && nat_le b 90) refl refl refl h first
   where
-    clash : (x : ℕ) (p q s : Bool) → nat_lt x 65 ≡ p → nat_lt x 91 ≡ q → (nat_le 65 x && nat_le x 90) ≡ s → cond s (x + 32) x ≡ 121 → nat_eq (cond p x (cond q (x + 32) x)) 110 ≡ true → ⊥
+    clash : (x : ℕ) (p q s : Bool) → nat_lt x 65 ≡ p → nat_lt x 91 ≡ q → (nat_le 65 x && nat_le x 90) ≡ s
+        → cond s (x + 32) x ≡ 121 → nat_eq (cond p x (cond q (x + 32) x)) 110 ≡ true → ⊥
     clash x true q true e f g h k = grind (arith, nat_tests)
     clash x true q false e f g h k = grind (arith, nat_tests)
     clash x false true true e f g h k = grind (arith, nat_tests)
@@ -195,14 +224,18 @@ under_html (quoted mark label fresh) h = refl
 under_html offset h = refl
 under_html property h = refl
 
-left_html : (below : List Mode) (depth : ℕ) (kind : Kind) (text rest : List ℕ) → modes_ok below ≡ true → is_wordy kind ≡ true → is_html (turned_by (turn_of V74 property kind text rest) (stack_of property below depth)).top ≡ false
+left_html : (below : List Mode) (depth : ℕ) (kind : Kind) (text rest : List ℕ) → modes_ok below ≡ true
+    → is_wordy kind ≡ true → is_html (turned_by (turn_of V74 property kind text rest)
+    (stack_of property below depth)).top ≡ false
 left_html [] depth Label text rest h e = refl
 left_html (m ∷ below) depth Label text rest h e = under_html m (and_parts (under_ok m) (modes_ok below) h).0
 left_html below depth Word text rest h e = refl
 left_html below depth Keyword text rest h e = refl
 left_html below depth _ text rest h e = absurd cc
 
-pub behind_word : (m : Mode) (below : List Mode) (depth : ℕ) (kind : Kind) (text rest : List ℕ) → modes_ok below ≡ true → is_wordy kind ≡ true → is_html (turned_by (turn_of V74 m kind text rest) (stack_of m below depth)).top ≡ false
+pub behind_word : (m : Mode) (below : List Mode) (depth : ℕ) (kind : Kind) (text rest : List ℕ)
+    → modes_ok below ≡ true → is_wordy kind ≡ true → is_html
+    (turned_by (turn_of V74 m kind text rest) (stack_of m below depth)).top ≡ false
 behind_word html below depth Word text rest h e = refl
 behind_word html below depth Label text rest h e = refl
 behind_word html below depth Keyword text rest h e = refl
@@ -243,20 +276,24 @@ comment_first b a r (texts.hash x run stop) = refl
 comment_first b a r (texts.block x until) = refl
 comment_first b a r (texts.slash x run stop) = refl
 
-blank_tile : (m : Mode) (kind : Kind) (b : ℕ) (a r : List ℕ) → is_html m ≡ false → is_trivia kind ≡ true → IsLongest V74 m (b ∷ a ++ r) kind (suc (length a)) → (is_blank kind b a ≡ true) × (is_blank_kind kind ≡ true)
+blank_tile : (m : Mode) (kind : Kind) (b : ℕ) (a r : List ℕ) → is_html m ≡ false → is_trivia kind ≡ true
+    → IsLongest V74 m (b ∷ a ++ r) kind (suc (length a)) → (is_blank kind b a ≡ true) × (is_blank_kind kind ≡ true)
 blank_tile m Space b a r e t l = (texts.space_text m b a r l, refl)
 blank_tile m Comment b a r e t l = (comment_first b a r (texts.comment_text m b a r l), refl)
 blank_tile m Tag b a r e t l = absurd (no_tag m b a r e l)
 blank_tile m _ b a r e t l = absurd cc
 
-pub blank_of : (trivia ts : List Tile) (m : Mode) (below : List Mode) (depth : ℕ) → mode_ok m ≡ true → is_html m ≡ false → all_trivia trivia ≡ true → Steps V74 (stack_of m below depth) (trivia ++ ts) → all_blank trivia ≡ true
+pub blank_of : (trivia ts : List Tile) (m : Mode) (below : List Mode) (depth : ℕ) → mode_ok m ≡ true
+    → is_html m ≡ false → all_trivia trivia ≡ true → Steps V74 (stack_of m below depth) (trivia ++ ts)
+    → all_blank trivia ≡ true
 blank_of [] ts m below depth ok e f s = refl
 blank_of (tile kind b a ∷ trivia) ts m below depth ok e f s =
     let (one, more) = and_parts (is_trivia kind) (all_trivia trivia) f in
     let longest = longest_in (stack_of m below depth) kind b a (trivia ++ ts) s in
     let (here, blank) = blank_tile m kind b a (joined (trivia ++ ts)) e one longest in
     let is : m ≡ code = no_blank m kind b a (joined (trivia ++ ts)) ok blank longest in
-    let in_code : Steps V74 (stack_of code below depth) (tile kind b a ∷ (trivia ++ ts)) = subst (λ (n : Mode). Steps V74 (stack_of n below depth) (tile kind b a ∷ (trivia ++ ts))) is s in
+    let in_code : Steps V74 (stack_of code below depth) (tile kind b a ∷ (trivia ++ ts)) =
+    subst (λ (n : Mode). Steps V74 (stack_of n below depth) (tile kind b a ∷ (trivia ++ ts))) is s in
     let behind = steps_behind (stack_of code below depth) (stack_of code below depth) kind b a (trivia ++ ts) (blank_turn kind b a below depth blank) in_code in
     rw (here, blank_of trivia ts code below depth refl refl more behind) refl
 

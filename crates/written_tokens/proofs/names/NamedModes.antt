@@ -6,7 +6,26 @@ use Rattle.php_spellings.specs.declared.table.Kind.{Kind}
 use Rattle.php_spellings.specs.declared.table.Kind.TheVariants.{InlineHtml, Variable, Label, Quote, Backtick, HeredocStart, Op, Close, CurlyOpen, DollarBrace, QuotedEnd}
 use Rattle.php_spellings.specs.declared.table.Mark.{Mark}
 use Rattle.php_spellings.specs.Bytes.{begins_by}
-use Rattle.php_lexer.specs.Modes.{Mode, html, code, named, quoted, offset, property, Turn, stay, enter, leave, is_byte, label_of, label_place, begins_property, code_turn, quoted_turn, turn_of}
+use Rattle.php_lexer.specs.Modes.{
+  Mode,
+  html,
+  code,
+  named,
+  quoted,
+  offset,
+  property,
+  Turn,
+  stay,
+  enter,
+  leave,
+  is_byte,
+  label_of,
+  label_place,
+  begins_property,
+  code_turn,
+  quoted_turn,
+  turn_of,
+}
 use Rattle.php_lexer.specs.Lexed.{Stack, turned_by}
 use Rattle.php_relexing.specs.Labels.{all_label}
 use Rattle.written_tokens.specs.tokens.Levels.{stack_of}
@@ -66,10 +85,13 @@ code_ok Backtick text = refl
 code_ok HeredocStart text = and_true (all_label (label_of text)) (all_front (drop (label_place text) (drop 1 text)))
 code_ok _ text = refl
 
-quoted_ok : (mark : Mark) (label : List ℕ) (kind : Kind) (text rest : List ℕ) → all_label label ≡ true → is_dollar_brace kind ≡ false → turn_ok (quoted_turn V74 mark label kind text rest) ≡ true
+quoted_ok : (mark : Mark) (label : List ℕ) (kind : Kind) (text rest : List ℕ) → all_label label ≡ true
+    → is_dollar_brace kind ≡ false → turn_ok (quoted_turn V74 mark label kind text rest) ≡ true
 quoted_ok mark label DollarBrace text rest h d = absurd cc
 quoted_ok mark label Variable text rest h d =
-    chosen (begins_by 91 rest) (enter offset (quoted mark label false)) (cond (begins_property V74 rest) (enter property (quoted mark label false)) (stay (quoted mark label false))) h
+    chosen (begins_by 91 rest) (enter offset (quoted mark label false))
+    (cond (begins_property V74 rest) (enter property (quoted mark label false)) (stay (quoted mark label false)))
+    h
     (chosen (begins_property V74 rest) (enter property (quoted mark label false)) (stay (quoted mark label false)) h h)
 quoted_ok mark label QuotedEnd text rest h d = refl
 quoted_ok mark label CurlyOpen text rest h d = h
@@ -97,7 +119,9 @@ turned_ok leave m (n ∷ below) depth p q =
     rw (under_mode n one, two) refl
 
 -- a token that isn't `${` keeps them so
-pub behind_ok : (m : Mode) (below : List Mode) (depth : ℕ) (kind : Kind) (text rest : List ℕ) → stack_ok (stack_of m below depth) ≡ true → is_dollar_brace kind ≡ false → stack_ok (turned_by (turn_of V74 m kind text rest) (stack_of m below depth)) ≡ true
+pub behind_ok : (m : Mode) (below : List Mode) (depth : ℕ) (kind : Kind) (text rest : List ℕ)
+    → stack_ok (stack_of m below depth) ≡ true → is_dollar_brace kind ≡ false
+    → stack_ok (turned_by (turn_of V74 m kind text rest) (stack_of m below depth)) ≡ true
 behind_ok m below depth kind text rest h d =
     let (top, others) = and_parts (mode_ok m) (modes_ok below) h in
     turned_ok (turn_of V74 m kind text rest) m below depth (turn_is_ok m kind text rest top d) others

@@ -42,7 +42,9 @@ is_echo _ = false
 and_same : (x y z : Bool) → y ≡ z → (x && y) ≡ false → (x && z) ≡ false
 and_same x y z e h = subst (λ (t : Bool). (x && t) ≡ false) e h
 
-inline_stay : (b : ℕ) (a : List ℕ) (c : ℕ) (r s : List ℕ) → c ≡ 60 → begins_tag s ≡ true → IsLongest V74 html (b ∷ a ++ c ∷ r) InlineHtml (suc (length a)) → IsLongest V74 html (b ∷ a ++ c ∷ s) InlineHtml (suc (length a))
+inline_stay : (b : ℕ) (a : List ℕ) (c : ℕ) (r s : List ℕ) → c ≡ 60 → begins_tag s ≡ true
+    → IsLongest V74 html (b ∷ a ++ c ∷ r) InlineHtml (suc (length a))
+    → IsLongest V74 html (b ∷ a ++ c ∷ s) InlineHtml (suc (length a))
 inline_stay b a c r s e h l =
     subst (λ (x : ℕ). IsLongest V74 html (b ∷ a ++ x ∷ s) InlineHtml (suc (length a))) (sym e)
     (html_stays.inline V74 V74 (b ∷ a) r s h (subst (λ (x : ℕ). IsLongest V74 html (b ∷ a ++ x ∷ r) InlineHtml (suc (length a))) e l))
@@ -53,14 +55,18 @@ module _ (below : List Mode) (depth : ℕ) where
 
   blank_never : {A : Type 0} (trivia ts : List Tile) → all_blank trivia ≡ true → Html (trivia ++ tile Op 92 [] ∷ ts) → A
   blank_never [] ts f s = never Op 92 [] (joined ts) refl (longest_in (stack_of html below depth) Op 92 [] ts s)
-  blank_never (tile Space b a ∷ trivia) ts f s = never Space b a (joined (trivia ++ tile Op 92 [] ∷ ts)) refl (longest_in (stack_of html below depth) Space b a (trivia ++ tile Op 92 [] ∷ ts) s)
-  blank_never (tile Comment b a ∷ trivia) ts f s = never Comment b a (joined (trivia ++ tile Op 92 [] ∷ ts)) refl (longest_in (stack_of html below depth) Comment b a (trivia ++ tile Op 92 [] ∷ ts) s)
+  blank_never (tile Space b a ∷ trivia) ts f s = never Space b a (joined (trivia ++ tile Op 92 [] ∷ ts)) refl
+      (longest_in (stack_of html below depth) Space b a (trivia ++ tile Op 92 [] ∷ ts) s)
+  blank_never (tile Comment b a ∷ trivia) ts f s = never Comment b a (joined (trivia ++ tile Op 92 [] ∷ ts)) refl
+      (longest_in (stack_of html below depth) Comment b a (trivia ++ tile Op 92 [] ∷ ts) s)
   blank_never (tile _ b a ∷ trivia) ts f s = absurd cc
 
   abbrev Inline : ℕ → List ℕ → List Tile → Type 0
   Inline b a ts = IsLongest V74 html (b ∷ a ++ joined ts) InlineHtml (suc (length a))
 
-  inline_by : (b : ℕ) (a : List ℕ) (kind : Kind) (c : ℕ) (e : List ℕ) (ts us : List Tile) → Inline b a (tile kind c e ∷ ts) → Html (tile kind c e ∷ ts) → Html (tile kind c e ∷ us) → Inline b a (tile kind c e ∷ us)
+  inline_by : (b : ℕ) (a : List ℕ) (kind : Kind) (c : ℕ) (e : List ℕ) (ts us : List Tile)
+      → Inline b a (tile kind c e ∷ ts) → Html (tile kind c e ∷ ts) → Html (tile kind c e ∷ us)
+      → Inline b a (tile kind c e ∷ us)
   inline_by b a Tag c e ts us l s w =
       let opens = tag_opens c e (joined us) Tag refl (longest_in (stack_of html below depth) Tag c e us w) in
       inline_stay b a c (e ++ joined ts) (e ++ joined us) opens.angle opens.tag l
@@ -76,7 +82,8 @@ module _ (below : List Mode) (depth : ℕ) where
   inline_so b a (same {ts = ts} {us = us} kind c e h) l s w = inline_by b a kind c e ts us l s w
   inline_so b a (spaced {ts = ts} h) l s w = never Op 92 [] (joined ts) refl (longest_in (stack_of html below depth) Op 92 [] ts s)
   inline_so b a (closed {ts = ts} trivia f h) l s w = blank_never trivia ts f s
-  inline_so b a (rooted {ts = ts} trivia c e f h) l s w = never Op 92 [] (joined (trivia ++ tile Word c e ∷ ts)) refl (longest_in (stack_of html below depth) Op 92 [] (trivia ++ tile Word c e ∷ ts) s)
+  inline_so b a (rooted {ts = ts} trivia c e f h) l s w = never Op 92 [] (joined (trivia ++ tile Word c e ∷ ts)) refl
+      (longest_in (stack_of html below depth) Op 92 [] (trivia ++ tile Word c e ∷ ts) s)
 
 abbrev Echo : List ℕ → List ℕ → Type 0
 Echo s [] = Unit {0}
@@ -101,12 +108,17 @@ gap_none (spaced g) e h = absurd cc
 gap_none (closed trivia f g) e h = absurd cc
 gap_none (rooted trivia b a f g) e h = absurd cc
 
-pub html_new : (kind : Kind) (b : ℕ) (a : List ℕ) (ts us : List Tile) (below : List Mode) (depth : ℕ) → Named (is_trivia kind) ts us → IsLongest V74 html (b ∷ a ++ joined ts) kind (suc (length a)) → Steps V74 (stack_of (mode_opened kind) below depth) ts → Steps V74 (stack_of (mode_opened kind) below depth) us → IsLongest V74 html (b ∷ a ++ joined us) kind (suc (length a))
+pub html_new : (kind : Kind) (b : ℕ) (a : List ℕ) (ts us : List Tile) (below : List Mode) (depth : ℕ)
+    → Named (is_trivia kind) ts us → IsLongest V74 html (b ∷ a ++ joined ts) kind (suc (length a))
+    → Steps V74 (stack_of (mode_opened kind) below depth) ts → Steps V74 (stack_of (mode_opened kind) below depth) us
+    → IsLongest V74 html (b ∷ a ++ joined us) kind (suc (length a))
 html_new Tag b a ts us below depth g l s w =
     tags_stay V74 V74 (b ∷ a) (joined ts) (joined us)
     (and_same (ends_return (b ∷ a)) (begins_by 10 (joined ts)) (begins_by 10 (joined us)) (gap_feed g refl) (tag_behind b a (joined ts) l))
     (gap_none g refl) l
-html_new OpenEcho b a ts us below depth g l s w = echo_by (joined us) (b ∷ a) (one_of (picked is_echo html_rows) (b ∷ a) (joined ts) refl (longest_meets is_echo V74 html (b ∷ a) (joined ts) OpenEcho refl l))
+html_new OpenEcho b a ts us below depth g l s w = echo_by (joined us) (b ∷ a)
+    (one_of (picked is_echo html_rows) (b ∷ a) (joined ts) refl
+    (longest_meets is_echo V74 html (b ∷ a) (joined ts) OpenEcho refl l))
 html_new InlineHtml b a ts us below depth g l s w = inline_so below depth b a g l s w
 html_new _ b a ts us below depth g l s w = never _ b a (joined ts) refl l
 
@@ -124,14 +136,17 @@ may_is Comment b h = absurd cc
 may_is Op b h = absurd cc
 may_is _ b h = refl
 
-edited_by : (mark : Mark) (label : List ℕ) (fresh : Bool) (kind : Kind) (b : ℕ) (a r : List ℕ) (t : Bool) → is_edited kind ≡ t → IsLongest V74 (quoted mark label fresh) (b ∷ a ++ r) kind (suc (length a)) → may_edit kind b ≡ false
+edited_by : (mark : Mark) (label : List ℕ) (fresh : Bool) (kind : Kind) (b : ℕ) (a r : List ℕ) (t : Bool)
+    → is_edited kind ≡ t → IsLongest V74 (quoted mark label fresh) (b ∷ a ++ r) kind (suc (length a))
+    → may_edit kind b ≡ false
 edited_by mark label fresh kind b a r false e l = may_is kind b e
 edited_by Double label fresh kind b a r true e l = absurd (let clash = longest_meets is_edited V74 (quoted Double label fresh) (b ∷ a) r kind e l in cc)
 edited_by Back label fresh kind b a r true e l = absurd (let clash = longest_meets is_edited V74 (quoted Back label fresh) (b ∷ a) r kind e l in cc)
 edited_by Here label true kind b a r true e l = absurd (let clash = longest_meets is_edited V74 (quoted Here label true) (b ∷ a) r kind e l in cc)
 edited_by Here label false kind b a r true e l = absurd (let clash = longest_meets is_edited V74 (quoted Here label false) (b ∷ a) r kind e l in cc)
 
-pub unedited : (mark : Mark) (label : List ℕ) (fresh : Bool) (below : List Mode) (depth : ℕ) (ts : List Tile) → Steps V74 (stack_of (quoted mark label fresh) below depth) ts → edit_first ts ≡ false
+pub unedited : (mark : Mark) (label : List ℕ) (fresh : Bool) (below : List Mode) (depth : ℕ) (ts : List Tile)
+    → Steps V74 (stack_of (quoted mark label fresh) below depth) ts → edit_first ts ≡ false
 unedited mark label fresh below depth [] s = refl
 unedited mark label fresh below depth (tile kind b a ∷ ts) s =
     edited_by mark label fresh kind b a (joined ts) (is_edited kind) refl (longest_in (stack_of (quoted mark label fresh) below depth) kind b a ts s)
@@ -161,19 +176,23 @@ module _ (below : List Mode) (depth : ℕ) where
   abbrev InText : List Tile → Type 0
   InText ts = Steps V74 (stack_of (quoted Double [] false) below depth) ts
 
-  piece_open : (b : ℕ) (a : List ℕ) (ts us : List Tile) → Share (joined ts) (joined us) → InText (tile Piece b a ∷ ts) → InText (tile Piece b a ∷ us) → Unclosed (b ∷ a ++ joined ts) → Unclosed (b ∷ a ++ joined us)
+  piece_open : (b : ℕ) (a : List ℕ) (ts us : List Tile) → Share (joined ts) (joined us) → InText (tile Piece b a ∷ ts)
+      → InText (tile Piece b a ∷ us) → Unclosed (b ∷ a ++ joined ts) → Unclosed (b ∷ a ++ joined us)
   piece_open b a ts us h s w u =
       let old = longest_in (stack_of (quoted Double [] false) below depth) Piece b a ts s in
       let new = longest_in (stack_of (quoted Double [] false) below depth) Piece b a us w in
       of_quote (b ∷ a ++ joined us) (quotes_open.piece V74 V74 (b ∷ a) (joined us) (sym (byte_same 34 refl h) ∙ no_quote b a (joined ts) old u) new)
 
-  opened_by : (kind : Kind) (b : ℕ) (a : List ℕ) (ts us : List Tile) → Share (joined ts) (joined us) → InText (tile kind b a ∷ ts) → InText (tile kind b a ∷ us) → Unclosed (b ∷ a ++ joined ts) → (p q : Bool) → begins_part b (a ++ joined ts) ≡ p → nat_eq b 34 ≡ q → Unclosed (b ∷ a ++ joined us)
+  opened_by : (kind : Kind) (b : ℕ) (a : List ℕ) (ts us : List Tile) → Share (joined ts) (joined us)
+      → InText (tile kind b a ∷ ts) → InText (tile kind b a ∷ us) → Unclosed (b ∷ a ++ joined ts) → (p q : Bool)
+      → begins_part b (a ++ joined ts) ≡ p → nat_eq b 34 ≡ q → Unclosed (b ∷ a ++ joined us)
   opened_by kind b a ts us h s w u true q e f = part_none b (a ++ joined us) (sym (part_same b (share_behind a (joined ts) (joined us) h)) ∙ e)
   opened_by kind b a ts us h s w u false true e f = absurd (closing_some b (a ++ joined ts) e f u)
   opened_by kind b a ts us h s w u false false e f =
       let in_it : in_piece Double [] Plain b (a ++ joined ts) ≡ true = not_both (nat_eq b 34) (begins_part b (a ++ joined ts)) f e in
       let old = longest_in (stack_of (quoted Double [] false) below depth) kind b a ts s in
-      let is : Piece ≡ kind = ap kind_found (sym (piece_scan V74 Double [] false b (a ++ joined ts) in_it) ∙ scan_of V74 (quoted Double [] false) (b ∷ a ++ joined ts) kind (suc (length a)) old) in
+      let is : Piece ≡ kind = ap kind_found (sym (piece_scan V74 Double [] false b (a ++ joined ts) in_it)
+      ∙ scan_of V74 (quoted Double [] false) (b ∷ a ++ joined ts) kind (suc (length a)) old) in
       piece_open b a ts us h
       (subst (λ (k : Kind). InText (tile k b a ∷ ts)) (sym is) s)
       (subst (λ (k : Kind). InText (tile k b a ∷ us)) (sym is) w) u

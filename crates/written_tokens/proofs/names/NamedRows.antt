@@ -42,16 +42,24 @@ abbrev back_in : (m : Mode) (kind : Kind) (b : ℕ) (a : List ℕ) (ts : List Ti
 back_in m kind b a ts below depth = turned_by (turn_of V74 m kind (b ∷ a) (joined ts)) (stack_of m below depth)
 
 -- braces
-brace_stays : (c : ℕ) (b : ℕ) (a r s : List ℕ) → nat_eq b c ≡ true → Alike r s → operator_stays c a s ≡ true → IsLongest V74 code (b ∷ a ++ r) Op (suc (length a)) → IsLongest V74 code (b ∷ a ++ s) Op (suc (length a))
+brace_stays : (c : ℕ) (b : ℕ) (a r s : List ℕ) → nat_eq b c ≡ true → Alike r s → operator_stays c a s ≡ true
+    → IsLongest V74 code (b ∷ a ++ r) Op (suc (length a)) → IsLongest V74 code (b ∷ a ++ s) Op (suc (length a))
 brace_stays c b a r s e alike stays l =
-    subst (λ (x : ℕ). IsLongest V74 code (x ∷ a ++ r) Op (suc (length a)) → IsLongest V74 code (x ∷ a ++ s) Op (suc (length a))) (sym (eqb-true b c e)) (code_stays Op c a r s alike stays) l
+    subst (λ (x : ℕ). IsLongest V74 code (x ∷ a ++ r) Op (suc (length a))
+    → IsLongest V74 code (x ∷ a ++ s) Op (suc (length a))) (sym (eqb-true b c e))
+    (code_stays Op c a r s alike stays) l
 
-brace_by : (b : ℕ) (a r s : List ℕ) → Alike r s → not (nat_eq b 123 || nat_eq b 125) ≡ false → IsLongest V74 code (b ∷ a ++ r) Op (suc (length a)) → (x y : Bool) → nat_eq b 123 ≡ x → nat_eq b 125 ≡ y → IsLongest V74 code (b ∷ a ++ s) Op (suc (length a))
+brace_by : (b : ℕ) (a r s : List ℕ) → Alike r s → not (nat_eq b 123 || nat_eq b 125) ≡ false
+    → IsLongest V74 code (b ∷ a ++ r) Op (suc (length a)) → (x y : Bool) → nat_eq b 123 ≡ x → nat_eq b 125 ≡ y
+    → IsLongest V74 code (b ∷ a ++ s) Op (suc (length a))
 brace_by b a r s alike p l true y e f = brace_stays 123 b a r s e alike refl l
 brace_by b a r s alike p l false true e f = brace_stays 125 b a r s f alike refl l
 brace_by b a r s alike p l false false e f = absurd (let clash = rw (e, f) at p in cc)
 
-code_other : (kind : Kind) (b : ℕ) (a : List ℕ) (ts us : List Tile) (below : List Mode) (depth : ℕ) → is_plain kind b a ≡ false → Named (is_trivia kind) ts us → Old kind b a ts → Steps V74 (turned_by (code_turn kind (b ∷ a)) (stack_of code below depth)) ts → Steps V74 (turned_by (code_turn kind (b ∷ a)) (stack_of code below depth)) us → Old kind b a us
+code_other : (kind : Kind) (b : ℕ) (a : List ℕ) (ts us : List Tile) (below : List Mode) (depth : ℕ)
+    → is_plain kind b a ≡ false → Named (is_trivia kind) ts us → Old kind b a ts
+    → Steps V74 (turned_by (code_turn kind (b ∷ a)) (stack_of code below depth)) ts
+    → Steps V74 (turned_by (code_turn kind (b ∷ a)) (stack_of code below depth)) us → Old kind b a us
 code_other Quote b a ts us below depth p g l s w =
     quote_by b a (joined ts) (joined us) (quote_text b a (joined ts) l)
     (unclosed_by (code ∷ below) (suc depth) g (unedited Double [] false (code ∷ below) (suc depth) ts s) s w) l
@@ -64,12 +72,17 @@ code_other Text b a ts us below depth p g l s w =
 code_other Op b a ts us below depth p g l s w = brace_by b a (joined ts) (joined us) (alike_of g) p l (nat_eq b 123) (nat_eq b 125) refl refl
 code_other _ b a ts us below depth p g l s w = absurd cc
 
-code_by : (kind : Kind) (b : ℕ) (a : List ℕ) (ts us : List Tile) (below : List Mode) (depth : ℕ) (t : Bool) → is_plain kind b a ≡ t → Named (is_trivia kind) ts us → Old kind b a ts → Steps V74 (turned_by (code_turn kind (b ∷ a)) (stack_of code below depth)) ts → Steps V74 (turned_by (code_turn kind (b ∷ a)) (stack_of code below depth)) us → Old kind b a us
+code_by : (kind : Kind) (b : ℕ) (a : List ℕ) (ts us : List Tile) (below : List Mode) (depth : ℕ) (t : Bool)
+    → is_plain kind b a ≡ t → Named (is_trivia kind) ts us → Old kind b a ts
+    → Steps V74 (turned_by (code_turn kind (b ∷ a)) (stack_of code below depth)) ts
+    → Steps V74 (turned_by (code_turn kind (b ∷ a)) (stack_of code below depth)) us → Old kind b a us
 code_by kind b a ts us below depth true p g l s w = kept true (is_trivia kind) (joined ts) (joined us) (goes_on g) kind b a p (λ e. refl) (λ e. e) l
 code_by kind b a ts us below depth false p g l s w = code_other kind b a ts us below depth p g l s w
 
 -- a piece leaves the text open
-piece_unedited : (mark : Mark) (label : List ℕ) (fresh : Bool) (kind : Kind) (b : ℕ) (a : List ℕ) (ts : List Tile) (below : List Mode) (depth : ℕ) → is_piece kind ≡ true → Steps V74 (back_in (quoted mark label fresh) kind b a ts below depth) ts → edit_first ts ≡ false
+piece_unedited : (mark : Mark) (label : List ℕ) (fresh : Bool) (kind : Kind) (b : ℕ) (a : List ℕ) (ts : List Tile)
+    (below : List Mode) (depth : ℕ) → is_piece kind ≡ true → Steps V74
+    (back_in (quoted mark label fresh) kind b a ts below depth) ts → edit_first ts ≡ false
 piece_unedited mark label fresh Piece b a ts below depth e s = unedited mark label (ends_line (b ∷ a)) below depth ts s
 piece_unedited mark label fresh _ b a ts below depth e s = absurd cc
 
@@ -78,23 +91,35 @@ piece_unedited mark label fresh _ b a ts below depth e s = absurd cc
 abbrev Stays : List Tile → List Tile → Type 0
 Stays ts us = (k : Stack) → stack_ok k ≡ true → Steps V74 k ts → Steps V74 k us
 
-same_in : (m : Mode) (below : List Mode) (depth : ℕ) (kind : Kind) (b : ℕ) (a : List ℕ) (ts us : List Tile) → stack_ok (stack_of m below depth) ≡ true → is_dollar_brace kind ≡ false → Named (is_trivia kind) ts us → Stays ts us → IsLongest V74 m (b ∷ a ++ joined us) kind (suc (length a)) → Steps V74 (stack_of m below depth) (tile kind b a ∷ ts) → Steps V74 (stack_of m below depth) (tile kind b a ∷ us)
+same_in : (m : Mode) (below : List Mode) (depth : ℕ) (kind : Kind) (b : ℕ) (a : List ℕ) (ts us : List Tile)
+    → stack_ok (stack_of m below depth) ≡ true → is_dollar_brace kind ≡ false → Named (is_trivia kind) ts us
+    → Stays ts us → IsLongest V74 m (b ∷ a ++ joined us) kind (suc (length a))
+    → Steps V74 (stack_of m below depth) (tile kind b a ∷ ts)
+    → Steps V74 (stack_of m below depth) (tile kind b a ∷ us)
 same_in m below depth kind b a ts us ok d g ih l s =
     let n : Stack = back_in m kind b a ts below depth in
     let more = ih n (behind_ok m below depth kind (b ∷ a) (joined ts) ok d) (steps_behind (stack_of m below depth) n kind b a ts refl s) in
-    stepped (stack_of m below depth) n kind b a us l (ap (λ (t : Turn). turned_by t (stack_of m below depth)) (sym (turn_same m kind (b ∷ a) (joined ts) (joined us) (share_of g)))) more
+    stepped (stack_of m below depth) n kind b a us l
+    (ap (λ (t : Turn). turned_by t (stack_of m below depth))
+    (sym (turn_same m kind (b ∷ a) (joined ts) (joined us) (share_of g)))) more
 
-same_step : (m : Mode) (below : List Mode) (depth : ℕ) (kind : Kind) (b : ℕ) (a : List ℕ) (ts us : List Tile) → stack_ok (stack_of m below depth) ≡ true → is_dollar_brace kind ≡ false → Named (is_trivia kind) ts us → Stays ts us → Steps V74 (stack_of m below depth) (tile kind b a ∷ ts) → Steps V74 (stack_of m below depth) (tile kind b a ∷ us)
+same_step : (m : Mode) (below : List Mode) (depth : ℕ) (kind : Kind) (b : ℕ) (a : List ℕ) (ts us : List Tile)
+    → stack_ok (stack_of m below depth) ≡ true → is_dollar_brace kind ≡ false → Named (is_trivia kind) ts us
+    → Stays ts us → Steps V74 (stack_of m below depth) (tile kind b a ∷ ts)
+    → Steps V74 (stack_of m below depth) (tile kind b a ∷ us)
 same_step html below depth kind b a ts us ok d g ih s =
     let n : Stack = stack_of (mode_opened kind) below depth in
     let tail = steps_behind (stack_of html below depth) n kind b a ts (html_turn kind b a (joined ts) below depth) s in
-    let fine : stack_ok n ≡ true = subst (λ (k : Stack). stack_ok k ≡ true) (html_turn kind b a (joined ts) below depth) (behind_ok html below depth kind (b ∷ a) (joined ts) ok d) in
+    let fine : stack_ok n ≡ true = subst (λ (k : Stack). stack_ok k ≡ true)
+    (html_turn kind b a (joined ts) below depth) (behind_ok html below depth kind (b ∷ a) (joined ts) ok d) in
     same_in html below depth kind b a ts us ok d g ih (html_new kind b a ts us below depth g (longest_in (stack_of html below depth) kind b a ts s) tail (ih n fine tail)) s
 same_step code below depth kind b a ts us ok d g ih s =
     let n : Stack = back_in code kind b a ts below depth in
     let tail = steps_behind (stack_of code below depth) n kind b a ts refl s in
     let fine = behind_ok code below depth kind (b ∷ a) (joined ts) ok d in
-    same_in code below depth kind b a ts us ok d g ih (code_by kind b a ts us below depth (is_plain kind b a) refl g (longest_in (stack_of code below depth) kind b a ts s) tail (ih n fine tail)) s
+    same_in code below depth kind b a ts us ok d g ih
+    (code_by kind b a ts us below depth (is_plain kind b a) refl g
+    (longest_in (stack_of code below depth) kind b a ts s) tail (ih n fine tail)) s
 same_step named below depth kind b a ts us ok d g ih s = absurd cc
 same_step (quoted mark label fresh) below depth kind b a ts us ok d g ih s =
     let old = longest_in (stack_of (quoted mark label fresh) below depth) kind b a ts s in
@@ -138,7 +163,8 @@ no_blank (quoted Here label false) kind b a r ok e l = absurd (let clash = longe
 no_blank offset kind b a r ok e l = absurd (let clash = longest_meets is_blank_kind V74 offset (b ∷ a) r kind e l in cc)
 no_blank property kind b a r ok e l = absurd (let clash = longest_meets is_blank_kind V74 property (b ∷ a) r kind e l in cc)
 
-pub blank_turn : (kind : Kind) (b : ℕ) (a : List ℕ) (below : List Mode) (depth : ℕ) → is_blank_kind kind ≡ true → turned_by (code_turn kind (b ∷ a)) (stack_of code below depth) ≡ stack_of code below depth
+pub blank_turn : (kind : Kind) (b : ℕ) (a : List ℕ) (below : List Mode) (depth : ℕ) → is_blank_kind kind ≡ true
+    → turned_by (code_turn kind (b ∷ a)) (stack_of code below depth) ≡ stack_of code below depth
 blank_turn Space b a below depth e = refl
 blank_turn Comment b a below depth e = refl
 blank_turn _ b a below depth e = absurd cc
@@ -149,13 +175,15 @@ blank_is Comment b a h = refl
 blank_is _ b a h = absurd cc
 
 -- trivia leave code as it is
-pub strip : (trivia ts : List Tile) (m : Mode) (below : List Mode) (depth : ℕ) → all_blank trivia ≡ true → mode_ok m ≡ true → Steps V74 (stack_of m below depth) (trivia ++ ts) → Steps V74 (stack_of m below depth) ts
+pub strip : (trivia ts : List Tile) (m : Mode) (below : List Mode) (depth : ℕ) → all_blank trivia ≡ true
+    → mode_ok m ≡ true → Steps V74 (stack_of m below depth) (trivia ++ ts) → Steps V74 (stack_of m below depth) ts
 strip [] ts m below depth f ok s = s
 strip (tile kind b a ∷ trivia) ts m below depth f ok s =
     let (one, more) = and_parts (is_blank kind b a) (all_blank trivia) f in
     let blank = blank_is kind b a one in
     let is : m ≡ code = no_blank m kind b a (joined (trivia ++ ts)) ok blank (longest_in (stack_of m below depth) kind b a (trivia ++ ts) s) in
-    let in_code : Steps V74 (stack_of code below depth) (tile kind b a ∷ (trivia ++ ts)) = subst (λ (n : Mode). Steps V74 (stack_of n below depth) (tile kind b a ∷ (trivia ++ ts))) is s in
+    let in_code : Steps V74 (stack_of code below depth) (tile kind b a ∷ (trivia ++ ts)) =
+    subst (λ (n : Mode). Steps V74 (stack_of n below depth) (tile kind b a ∷ (trivia ++ ts))) is s in
     let behind = steps_behind (stack_of code below depth) (stack_of code below depth) kind b a (trivia ++ ts) (blank_turn kind b a below depth blank) in_code in
     subst (λ (n : Mode). Steps V74 (stack_of n below depth) ts) (sym is) (strip trivia ts code below depth more refl behind)
 
@@ -165,18 +193,26 @@ root_longest s = longest_of V74 code (92 ∷ s) Op 1 refl
 space_longest : (s : List ℕ) → IsLongest V74 code (32 ∷ 92 ∷ s) Space 1
 space_longest s = longest_of V74 code (32 ∷ 92 ∷ s) Space 1 refl
 
-space_put : (m : Mode) (below : List Mode) (depth : ℕ) (us : List Tile) → mode_ok m ≡ true → Steps V74 (stack_of m below depth) (tile Op 92 [] ∷ us) → Steps V74 (stack_of m below depth) (tile Space 32 [] ∷ tile Op 92 [] ∷ us)
+space_put : (m : Mode) (below : List Mode) (depth : ℕ) (us : List Tile) → mode_ok m ≡ true
+    → Steps V74 (stack_of m below depth) (tile Op 92 [] ∷ us)
+    → Steps V74 (stack_of m below depth) (tile Space 32 [] ∷ tile Op 92 [] ∷ us)
 space_put m below depth us ok s =
     let is : m ≡ code = no_op m (joined us) ok (longest_in (stack_of m below depth) Op 92 [] us s) in
     let in_code : Steps V74 (stack_of code below depth) (tile Op 92 [] ∷ us) = subst (λ (n : Mode). Steps V74 (stack_of n below depth) (tile Op 92 [] ∷ us)) is s in
     subst (λ (n : Mode). Steps V74 (stack_of n below depth) (tile Space 32 [] ∷ tile Op 92 [] ∷ us)) (sym is)
     (stepped (stack_of code below depth) (stack_of code below depth) Space 32 [] (tile Op 92 [] ∷ us) (space_longest (joined us)) refl in_code)
 
-root_put : (m : Mode) (below : List Mode) (depth : ℕ) (trivia : List Tile) (b : ℕ) (a : List ℕ) (ts us : List Tile) → all_blank trivia ≡ true → stack_ok (stack_of m below depth) ≡ true → Stays (tile Word b a ∷ ts) (tile Word b a ∷ us) → Steps V74 (stack_of m below depth) (tile Op 92 [] ∷ trivia ++ tile Word b a ∷ ts) → Steps V74 (stack_of m below depth) (tile Op 92 [] ∷ tile Word b a ∷ us)
+root_put : (m : Mode) (below : List Mode) (depth : ℕ) (trivia : List Tile) (b : ℕ) (a : List ℕ) (ts us : List Tile)
+    → all_blank trivia ≡ true → stack_ok (stack_of m below depth) ≡ true
+    → Stays (tile Word b a ∷ ts) (tile Word b a ∷ us) → Steps V74 (stack_of m below depth)
+    (tile Op 92 [] ∷ trivia ++ tile Word b a ∷ ts) → Steps V74 (stack_of m below depth)
+    (tile Op 92 [] ∷ tile Word b a ∷ us)
 root_put m below depth trivia b a ts us f ok ih s =
     let (top, others) = and_parts (mode_ok m) (modes_ok below) ok in
     let is : m ≡ code = no_op m (joined (trivia ++ tile Word b a ∷ ts)) top (longest_in (stack_of m below depth) Op 92 [] (trivia ++ tile Word b a ∷ ts) s) in
-    let in_code : Steps V74 (stack_of code below depth) (tile Op 92 [] ∷ trivia ++ tile Word b a ∷ ts) = subst (λ (n : Mode). Steps V74 (stack_of n below depth) (tile Op 92 [] ∷ trivia ++ tile Word b a ∷ ts)) is s in
+    let in_code : Steps V74 (stack_of code below depth) (tile Op 92 [] ∷ trivia ++ tile Word b a ∷ ts) =
+    subst (λ (n : Mode). Steps V74 (stack_of n below depth) (tile Op 92 [] ∷ trivia ++ tile Word b a ∷ ts)) is s
+    in
     let tail = steps_behind (stack_of code below depth) (stack_of code below depth) Op 92 [] (trivia ++ tile Word b a ∷ ts) refl in_code in
     let words = strip trivia (tile Word b a ∷ ts) code below depth f refl tail in
     let more = ih (stack_of code below depth) others words in

@@ -210,24 +210,35 @@ module _ (flag : Bool) (u : NewToken) (more : List NewToken) (end : Lexeme) (res
   wanted_bare : map new_lexeme (bare (parted (spaces_put flag (u ∷ more)))) ++ end ∷ [] ≡ record { kind = u.kind; lead = []; text = after u.text } ∷ Tail
   wanted_bare = ap (λ (l : List Lexeme). l ++ end ∷ []) (bare_given Spaced u (tail_of flag u more))
 
-  pub closed_row : (kind : Kind) (b : ℕ) (a : List ℕ) → is_trivia kind ≡ false → all_blank next.trivia ≡ true → names.is_backslash u ≡ true → Row rest kind b a (map new_lexeme (bare (parted (spaces_put flag (u ∷ more)))) ++ end ∷ [])
+  pub closed_row : (kind : Kind) (b : ℕ) (a : List ℕ) → is_trivia kind ≡ false → all_blank next.trivia ≡ true
+      → names.is_backslash u ≡ true
+      → Row rest kind b a (map new_lexeme (bare (parted (spaces_put flag (u ∷ more)))) ++ end ∷ [])
   closed_row kind b a plain blank root =
       let e = root_tile u next.m next.kind next.b next.a (joined next.rest) next.placed root in
       let inner : Named false (tile Op 92 [] ∷ next.rest) (tile Op 92 [] ∷ next.new) = subst (λ (x : Tile). Named false (x ∷ next.rest) (x ∷ next.new)) e (next.put false) in
-      let shut : Named false (next.trivia ++ tile next.kind next.b next.a ∷ next.rest) (tile next.kind next.b next.a ∷ next.new) = subst (λ (x : Tile). Named false (next.trivia ++ x ∷ next.rest) (x ∷ next.new)) (sym e) (closed next.trivia blank inner) in
-      let there : Named (is_trivia kind) rest (tile next.kind next.b next.a ∷ next.new) = subst (λ (g : Bool). Named g rest (tile next.kind next.b next.a ∷ next.new)) (sym plain) (subst (λ (l : List Tile). Named false l (tile next.kind next.b next.a ∷ next.new)) (sym next.whole) shut) in
+      let shut : Named false (next.trivia ++ tile next.kind next.b next.a ∷ next.rest)
+      (tile next.kind next.b next.a ∷ next.new) =
+      subst (λ (x : Tile). Named false (next.trivia ++ x ∷ next.rest) (x ∷ next.new)) (sym e)
+      (closed next.trivia blank inner) in
+      let there : Named (is_trivia kind) rest (tile next.kind next.b next.a ∷ next.new) =
+      subst (λ (g : Bool). Named g rest (tile next.kind next.b next.a ∷ next.new)) (sym plain)
+      (subst (λ (l : List Tile). Named false l (tile next.kind next.b next.a ∷ next.new)) (sym next.whole) shut)
+      in
       record {
         new = tile next.kind next.b next.a ∷ next.new;
         put = λ g. same kind b a there;
         tokens = token_only ∙ sym wanted_bare;
       }
 
-  pub rooted_row : (kind : Kind) (b : ℕ) (a : List ℕ) → tile kind b a ≡ tile Op 92 [] → all_blank next.trivia ≡ true → next.kind ≡ Word → Row rest kind b a (map new_lexeme (bare (parted (spaces_put flag (u ∷ more)))) ++ end ∷ [])
+  pub rooted_row : (kind : Kind) (b : ℕ) (a : List ℕ) → tile kind b a ≡ tile Op 92 [] → all_blank next.trivia ≡ true
+      → next.kind ≡ Word → Row rest kind b a (map new_lexeme (bare (parted (spaces_put flag (u ∷ more)))) ++ end ∷ [])
   rooted_row kind b a root blank word =
       let e : tile next.kind next.b next.a ≡ tile Word next.b next.a = ap (λ (k : Kind). tile k next.b next.a) word in
-      let inner : Named false (tile Word next.b next.a ∷ next.rest) (tile Word next.b next.a ∷ next.new) = subst (λ (x : Tile). Named false (x ∷ next.rest) (x ∷ next.new)) e (next.put false) in
+      let inner : Named false (tile Word next.b next.a ∷ next.rest) (tile Word next.b next.a ∷ next.new) =
+      subst (λ (x : Tile). Named false (x ∷ next.rest) (x ∷ next.new)) e (next.put false) in
       let put_it = λ (g : Bool). subst (λ (l : List Tile). Named g (tile Op 92 [] ∷ l) (tile Op 92 [] ∷ tile next.kind next.b next.a ∷ next.new)) (sym next.whole)
-      (subst (λ (x : Tile). Named g (tile Op 92 [] ∷ next.trivia ++ x ∷ next.rest) (tile Op 92 [] ∷ x ∷ next.new)) (sym e) (rooted {gap = g} next.trivia next.b next.a blank inner)) in
+      (subst (λ (x : Tile). Named g (tile Op 92 [] ∷ next.trivia ++ x ∷ next.rest) (tile Op 92 [] ∷ x ∷ next.new))
+      (sym e) (rooted {gap = g} next.trivia next.b next.a blank inner)) in
       record {
         new = tile next.kind next.b next.a ∷ next.new;
         put = over_tile (tile kind b a) (tile Op 92 []) rest (tile next.kind next.b next.a ∷ next.new) root put_it;
@@ -268,9 +279,14 @@ module _ (flag : Bool) (u : NewToken) (more : List NewToken) (end : Lexeme) (res
   spaced_row kind b a plain is root none_before =
       let e = root_tile u next.m next.kind next.b next.a (joined next.rest) next.placed root in
       let inner : Named false (tile Op 92 [] ∷ next.rest) (tile Op 92 [] ∷ next.new) = subst (λ (x : Tile). Named false (x ∷ next.rest) (x ∷ next.new)) e (next.put false) in
-      let put_space : Named false (tile next.kind next.b next.a ∷ next.rest) (space_tile ∷ tile next.kind next.b next.a ∷ next.new) = subst (λ (x : Tile). Named false (x ∷ next.rest) (space_tile ∷ x ∷ next.new)) (sym e) (spaced inner) in
+      let put_space : Named false (tile next.kind next.b next.a ∷ next.rest)
+      (space_tile ∷ tile next.kind next.b next.a ∷ next.new) =
+      subst (λ (x : Tile). Named false (x ∷ next.rest) (space_tile ∷ x ∷ next.new)) (sym e) (spaced inner) in
       let bare_rest : rest ≡ tile next.kind next.b next.a ∷ next.rest = next.whole ∙ ap (λ (l : List Tile). l ++ tile next.kind next.b next.a ∷ next.rest) (led_none none_before) in
-      let there : Named (is_trivia kind) rest (space_tile ∷ tile next.kind next.b next.a ∷ next.new) = subst (λ (g : Bool). Named g rest (space_tile ∷ tile next.kind next.b next.a ∷ next.new)) (sym plain) (subst (λ (l : List Tile). Named false l (space_tile ∷ tile next.kind next.b next.a ∷ next.new)) (sym bare_rest) put_space) in
+      let there : Named (is_trivia kind) rest (space_tile ∷ tile next.kind next.b next.a ∷ next.new) =
+      subst (λ (g : Bool). Named g rest (space_tile ∷ tile next.kind next.b next.a ∷ next.new)) (sym plain)
+      (subst (λ (l : List Tile). Named false l (space_tile ∷ tile next.kind next.b next.a ∷ next.new))
+      (sym bare_rest) put_space) in
       let led : after (u.lead ++ changed [] (codes " ") ∷ []) ≡ 32 ∷ [] = after_append u.lead (changed [] (codes " ") ∷ []) ∙ ap (λ (l : List ℕ). l ++ 32 ∷ []) none_before in
       record {
         new = space_tile ∷ tile next.kind next.b next.a ∷ next.new;

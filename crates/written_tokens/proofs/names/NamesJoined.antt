@@ -73,7 +73,8 @@ alone_parts false l false r false e h = absurd cc
 
 alone : (t u : NewToken) → Known u → names.is_one t u ≡ true → Joined t u
 alone t u known h =
-    let (slash, label) = alone_parts (names.is_backslash t) (names.is_label u.kind) (names.is_name u.kind) (names.begins_root (before u.text)) (names.is_label t.kind || names.is_namespace t) known.no_name h in
+    let (slash, label) = alone_parts (names.is_backslash t) (names.is_label u.kind) (names.is_name u.kind)
+    (names.begins_root (before u.text)) (names.is_label t.kind || names.is_namespace t) known.no_name h in
     behind slash (left_or (names.is_label u.kind) (names.is_namespace u) label)
 
 word_parts : (p l n r d : Bool) → p ≡ false → ((p && (l || (n && not r))) || (d && n && r)) ≡ true → d ≡ true
@@ -96,7 +97,8 @@ name_parts false true false h = absurd cc
 name_parts false false true h = absurd cc
 name_parts false false false h = absurd cc
 
-whole : (t u v : NewToken) → Known u → names.is_nothing (before u.text) ≡ false → names.is_one u v ≡ true → names.is_one t (names.one_name u v) ≡ true → (q : Bool) → names.is_backslash u ≡ q → Joined t u
+whole : (t u v : NewToken) → Known u → names.is_nothing (before u.text) ≡ false → names.is_one u v ≡ true
+    → names.is_one t (names.one_name u v) ≡ true → (q : Bool) → names.is_backslash u ≡ q → Joined t u
 whole t u v known text one h true e =
     let parts = name_parts (names.is_backslash t) (names.begins_root (before (names.one_name u v).text)) (names.is_label t.kind || names.is_namespace t) h in
     root e (parts.0 (front_root u v text ∙ backslash_root u e))
@@ -105,7 +107,9 @@ whole t u v known text one h false e =
     let word = part_is u v one false e refl in
     behind (parts.1 (front_root u v text ∙ known.plain word)) word
 
-joined_by : (t u v : NewToken) (vs : List NewToken) → Known u → (names.is_one u v ≡ true → names.is_nothing (before u.text) ≡ false) → (x : Bool) → names.is_one u v ≡ x → joins t (cond x (names.one_name u v ∷ vs) (u ∷ v ∷ vs)) ≡ true → Joined t u
+joined_by : (t u v : NewToken) (vs : List NewToken) → Known u
+    → (names.is_one u v ≡ true → names.is_nothing (before u.text) ≡ false) → (x : Bool) → names.is_one u v ≡ x
+    → joins t (cond x (names.one_name u v ∷ vs) (u ∷ v ∷ vs)) ≡ true → Joined t u
 joined_by t u v vs known text true e h = whole t u v known (text e) e h (names.is_backslash u) refl
 joined_by t u v vs known text false e h = alone t u known h
 
@@ -139,7 +143,9 @@ front_part u (v ∷ vs) known h r false e =
     absurd (let clash : true ≡ false = sym r ∙ known.plain (part_is u v h false e refl) in cc)
 
 -- a space is put before `\`, where no trivia stand
-pub put_before : (flag : Bool) (u : NewToken) (more : List NewToken) → Known u → wants flag u (joins u (all_whole more)) ≡ true → (names.is_backslash u ≡ true) × (names.is_nothing (before u.lead) ≡ true)
+pub put_before : (flag : Bool) (u : NewToken) (more : List NewToken) → Known u
+    → wants flag u (joins u (all_whole more)) ≡ true → (names.is_backslash u ≡ true)
+    × (names.is_nothing (before u.lead) ≡ true)
 put_before flag u more known h =
     let parts = wants_parts flag (joins u (all_whole more)) (names.is_name u.kind) (names.begins_root (before u.text)) (names.is_nothing (before u.lead)) known.no_name h in
     (front_part u (all_whole more) known parts.0 parts.1.0 (names.is_backslash u) refl, parts.1.1)

@@ -29,7 +29,24 @@ use Rattle.written_tokens.proofs.names.NamedModes.{mode_ok, modes_ok, stack_ok, 
 use Rattle.written_tokens.proofs.names.NamedRows.{no_op, strip, named_steps}
 use Rattle.written_tokens.proofs.names.NameTiles.{behind_word, blank_of, Reached, reached}
 use Rattle.written_tokens.proofs.names.NamesJoined.{Joined, behind, root, joined_of, wants, given, put_before, joins_same}
-use Rattle.written_tokens.proofs.names.NamesBuilt.{Wordy, Placed, wordy_tile, known_of, root_tile, word_tile, itself, behind_same, tail_of, Body, Row, closed_row, rooted_row, kept_row, spaced_row, token_led}
+use Rattle.written_tokens.proofs.names.NamesBuilt.{
+  Wordy,
+  Placed,
+  wordy_tile,
+  known_of,
+  root_tile,
+  word_tile,
+  itself,
+  behind_same,
+  tail_of,
+  Body,
+  Row,
+  closed_row,
+  rooted_row,
+  kept_row,
+  spaced_row,
+  token_led,
+}
 
 part_of : (w : Bool) (t : NewToken) → SamePart (given w t) → SamePart t
 part_of true t p = record { backslash = p.backslash; word = p.word; front = p.front }
@@ -73,7 +90,8 @@ module _ (t : NewToken) (kind : Kind) (b : ℕ) (a : List ℕ) (rest : List Tile
   code_steps e =
       let there : Steps V74 (stack_of r.m r.below r.depth) (tile Op 92 [] ∷ rest) = subst (λ (x : Tile). Steps V74 (stack_of r.m r.below r.depth) (x ∷ rest)) e r.steps in
       let is : r.m ≡ code = no_op r.m (joined rest) p.ok (longest_in (stack_of r.m r.below r.depth) Op 92 [] rest there) in
-      let in_code : Steps V74 (stack_of code r.below r.depth) (tile Op 92 [] ∷ rest) = subst (λ (m : Mode). Steps V74 (stack_of m r.below r.depth) (tile Op 92 [] ∷ rest)) is there in
+      let in_code : Steps V74 (stack_of code r.below r.depth) (tile Op 92 [] ∷ rest) =
+      subst (λ (m : Mode). Steps V74 (stack_of m r.below r.depth) (tile Op 92 [] ∷ rest)) is there in
       steps_behind (stack_of code r.below r.depth) (stack_of code r.below r.depth) Op 92 [] rest refl in_code
 
   module _ (flag : Bool) (u : NewToken) (more : List NewToken) (end : Lexeme) (next : Body flag u more end rest) where
@@ -89,7 +107,8 @@ module _ (t : NewToken) (kind : Kind) (b : ℕ) (a : List ℕ) (rest : List Tile
     behind_root : names.is_backslash t ≡ true → Wordy u → Bare
     behind_root slash word =
         let e = root_tile t r.m kind b a (joined rest) p slash in
-        let steps : Steps V74 (stack_of code r.below r.depth) (next.trivia ++ Behind) = subst (λ (l : List Tile). Steps V74 (stack_of code r.below r.depth) l) next.whole (code_steps e) in
+        let steps : Steps V74 (stack_of code r.below r.depth) (next.trivia ++ Behind) =
+        subst (λ (l : List Tile). Steps V74 (stack_of code r.below r.depth) l) next.whole (code_steps e) in
         let blank = blank_of next.trivia Behind code r.below r.depth refl refl next.free steps in
         let words = strip next.trivia Behind code r.below r.depth blank refl steps in
         let placed : Placed u code next.kind next.b next.a (joined next.rest) = record {
@@ -125,7 +144,9 @@ module _ (t : NewToken) (kind : Kind) (b : ℕ) (a : List ℕ) (rest : List Tile
 abbrev Spelled : NewToken → List NewToken → Lexeme → List Tile → Type 0
 Spelled t more end us = spelled [] us ≡ map new_lexeme (t ∷ more) ++ end ∷ []
 
-module _ (flag : Bool) (t : NewToken) (more : List NewToken) (end : Lexeme) (us : List Tile) (f : Front [] us (new_lexeme t) (map new_lexeme more ++ end ∷ [])) (r : Reached (tile f.kind f.b f.a ∷ f.rest)) (part : SamePart t) where
+module _ (flag : Bool) (t : NewToken) (more : List NewToken) (end : Lexeme) (us : List Tile)
+    (f : Front [] us (new_lexeme t) (map new_lexeme more ++ end ∷ [])) (r : Reached (tile f.kind f.b f.a ∷ f.rest))
+    (part : SamePart t) where
   placed_here : Placed t r.m f.kind f.b f.a (joined f.rest)
   placed_here = record {
     ok = (and_parts (mode_ok r.m) (modes_ok r.below) r.ok).0;
@@ -152,22 +173,37 @@ module _ (flag : Bool) (t : NewToken) (more : List NewToken) (end : Lexeme) (us 
     tokens = row.tokens;
   }
 
-last_row : (flag : Bool) (t : NewToken) (end : Lexeme) (us : List Tile) (f : Front [] us (new_lexeme t) (map new_lexeme [] ++ end ∷ [])) → Row f.rest f.kind f.b f.a (map new_lexeme (tail_of flag t []) ++ end ∷ [])
+last_row : (flag : Bool) (t : NewToken) (end : Lexeme) (us : List Tile)
+    (f : Front [] us (new_lexeme t) (map new_lexeme [] ++ end ∷ []))
+    → Row f.rest f.kind f.b f.a (map new_lexeme (tail_of flag t []) ++ end ∷ [])
 last_row flag t end us f = record { new = f.rest; put = λ g. same f.kind f.b f.a (itself (is_trivia f.kind) f.rest); tokens = f.tokens }
 
-tail_row : (flag : Bool) (t u : NewToken) (more : List NewToken) (end : Lexeme) (rest : List Tile) (kind : Kind) (b : ℕ) (a : List ℕ) → PartsHaveText (u ∷ more) → (j : Bool) → joins t (all_whole (u ∷ more)) ≡ j → Row rest kind b a (map new_lexeme (cond j (bare (parted (spaces_put (names.keyword_behind flag t) (u ∷ more)))) (parted (spaces_put (names.keyword_behind flag t) (u ∷ more)))) ++ end ∷ []) → Row rest kind b a (map new_lexeme (tail_of flag t (u ∷ more)) ++ end ∷ [])
+tail_row : (flag : Bool) (t u : NewToken) (more : List NewToken) (end : Lexeme) (rest : List Tile) (kind : Kind)
+    (b : ℕ) (a : List ℕ) → PartsHaveText (u ∷ more) → (j : Bool) → joins t (all_whole (u ∷ more)) ≡ j
+    → Row rest kind b a (map new_lexeme (cond j (bare (parted (spaces_put (names.keyword_behind flag t) (u ∷ more))))
+    (parted (spaces_put (names.keyword_behind flag t) (u ∷ more)))) ++ end ∷ [])
+    → Row rest kind b a (map new_lexeme (tail_of flag t (u ∷ more)) ++ end ∷ [])
 tail_row flag t u more end rest kind b a texts j e row =
     let same_j = joins_same t (wants flag t (joins t (all_whole (u ∷ more)))) (names.keyword_behind flag t) (u ∷ more) texts ∙ e in
-    subst (λ (x : Bool). Row rest kind b a (map new_lexeme (cond x (bare (parted (spaces_put (names.keyword_behind flag t) (u ∷ more)))) (parted (spaces_put (names.keyword_behind flag t) (u ∷ more)))) ++ end ∷ [])) (sym same_j) row
+    subst (λ (x : Bool). Row rest kind b a (map new_lexeme (cond x
+    (bare (parted (spaces_put (names.keyword_behind flag t) (u ∷ more))))
+    (parted (spaces_put (names.keyword_behind flag t) (u ∷ more)))) ++ end ∷ [])) (sym same_j) row
 
-next_row : (flag : Bool) (t u : NewToken) (more : List NewToken) (end : Lexeme) (kind : Kind) (b : ℕ) (a : List ℕ) (rest : List Tile) (r : Reached (tile kind b a ∷ rest)) → Placed t r.m kind b a (joined rest) → PartsHaveText (u ∷ more) → LeadsStay (u ∷ more) → Body (names.keyword_behind flag t) u more end rest → (j : Bool) → joins t (all_whole (u ∷ more)) ≡ j → Row rest kind b a (map new_lexeme (cond j (bare (parted (spaces_put (names.keyword_behind flag t) (u ∷ more)))) (parted (spaces_put (names.keyword_behind flag t) (u ∷ more)))) ++ end ∷ [])
+next_row : (flag : Bool) (t u : NewToken) (more : List NewToken) (end : Lexeme) (kind : Kind) (b : ℕ) (a : List ℕ)
+    (rest : List Tile) (r : Reached (tile kind b a ∷ rest)) → Placed t r.m kind b a (joined rest)
+    → PartsHaveText (u ∷ more) → LeadsStay (u ∷ more) → Body (names.keyword_behind flag t) u more end rest
+    → (j : Bool) → joins t (all_whole (u ∷ more)) ≡ j → Row rest kind b a
+    (map new_lexeme (cond j (bare (parted (spaces_put (names.keyword_behind flag t) (u ∷ more))))
+    (parted (spaces_put (names.keyword_behind flag t) (u ∷ more)))) ++ end ∷ [])
 next_row flag t u more end kind b a rest r p texts leads next true e =
     bare_by t kind b a rest r p (names.keyword_behind flag t) u more end next
     (joined_of t u more (known_of u next.m next.kind next.b next.a (joined next.rest) next.placed) texts e)
 next_row flag t u more end kind b a rest r p texts leads next false e =
     led_by t kind b a rest r p (names.keyword_behind flag t) u more end next leads.0 (wants (names.keyword_behind flag t) u (joins u (all_whole more))) refl
 
-build : (more : List NewToken) (flag : Bool) (t : NewToken) (end : Lexeme) (k : Stack) (us : List Tile) → stack_ok k ≡ true → none_dollar us ≡ true → PartsHaveText (t ∷ more) → LeadsStay (t ∷ more) → NamesStay (spaces_put flag (t ∷ more)) → Steps V74 k us → Spelled t more end us → Body flag t more end us
+build : (more : List NewToken) (flag : Bool) (t : NewToken) (end : Lexeme) (k : Stack) (us : List Tile)
+    → stack_ok k ≡ true → none_dollar us ≡ true → PartsHaveText (t ∷ more) → LeadsStay (t ∷ more)
+    → NamesStay (spaces_put flag (t ∷ more)) → Steps V74 k us → Spelled t more end us → Body flag t more end us
 build [] flag t end k us ok d texts leads stay s h =
     let f = front [] us (new_lexeme t) (map new_lexeme [] ++ end ∷ []) (some_end [] end) h in
     let r = reached f.trivia (tile f.kind f.b f.a ∷ f.rest) k ok (subst (λ (l : List Tile). none_dollar l ≡ true) f.whole d) (subst (λ (l : List Tile). Steps V74 k l) f.whole s) in
@@ -177,7 +213,9 @@ build (u ∷ more) flag t end k us ok d texts leads stay s h =
     let r = reached f.trivia (tile f.kind f.b f.a ∷ f.rest) k ok (subst (λ (l : List Tile). none_dollar l ≡ true) f.whole d) (subst (λ (l : List Tile). Steps V74 k l) f.whole s) in
     let part = part_of (wants flag t (joins t (all_whole (u ∷ more)))) t stay.0 in
     let p = placed_here flag t (u ∷ more) end us f r part in
-    let next = build more (names.keyword_behind flag t) u end (onward t f.kind f.b f.a f.rest r p) f.rest (onward_ok t f.kind f.b f.a f.rest r p) (dollar_parts t f.kind f.b f.a f.rest r p).1 texts.1 leads.1 stay.2 (onward_steps t f.kind f.b f.a f.rest r p) f.tokens in
+    let next = build more (names.keyword_behind flag t) u end (onward t f.kind f.b f.a f.rest r p) f.rest
+    (onward_ok t f.kind f.b f.a f.rest r p) (dollar_parts t f.kind f.b f.a f.rest r p).1 texts.1 leads.1 stay.2
+    (onward_steps t f.kind f.b f.a f.rest r p) f.tokens in
     body_of flag t (u ∷ more) end us f r part
     (tail_row flag t u more end f.rest f.kind f.b f.a texts.1 (joins t (all_whole (u ∷ more))) refl
     (next_row flag t u more end f.kind f.b f.a f.rest r p texts.1 leads.1 next (joins t (all_whole (u ∷ more))) refl))
@@ -185,7 +223,9 @@ build (u ∷ more) flag t end k us ok d texts leads stay s h =
 row_of : (t : NewToken) (more : List NewToken) (end : Lexeme) (us : List Tile) → none_dollar us ≡ true → Steps V74 start us → Body false t more end us → NamesRow us (t ∷ more) end
 row_of t more end us d s body =
     let new : List Tile = body.trivia ++ tile body.kind body.b body.a ∷ body.new in
-    let put : Named false us new = subst (λ (l : List Tile). Named false l new) (sym body.whole) (behind_same false body.trivia (tile body.kind body.b body.a ∷ body.rest) (tile body.kind body.b body.a ∷ body.new) body.put) in
+    let put : Named false us new = subst (λ (l : List Tile). Named false l new) (sym body.whole)
+    (behind_same false body.trivia (tile body.kind body.b body.a ∷ body.rest)
+    (tile body.kind body.b body.a ∷ body.new) body.put) in
     record { row = new; put = put; steps = named_steps false us new d put s; tokens = token_led false t more end us body }
 
 pub names_are_put : NamesArePut

@@ -76,9 +76,15 @@ module _ (mark : Mark) (label : List ℕ) (fresh : Bool) (ok : all_label label �
       let one = low_same (codes "$") (tail_len label (SomeOf Labels First)) (label_tail label) refl r s h in
       let two = low_same (codes "{") (tail_len label (When Dollar)) (dollar_tail label) refl r s h in
       let three = low_same (codes "${") (tail_len label (When Anything)) (any_tail label) refl r s h in
-      ap (λ (x : Option ℕ). longer Variable x (longer CurlyOpen (behind lower (codes "{") (tail_len label (When Dollar)) r) (longer DollarBrace (behind lower (codes "${") (tail_len label (When Anything)) r) o))) one
-      ∙ ap (λ (x : Option ℕ). longer Variable (behind lower (codes "$") (tail_len label (SomeOf Labels First)) s) (longer CurlyOpen x (longer DollarBrace (behind lower (codes "${") (tail_len label (When Anything)) r) o))) two
-      ∙ ap (λ (x : Option ℕ). longer Variable (behind lower (codes "$") (tail_len label (SomeOf Labels First)) s) (longer CurlyOpen (behind lower (codes "{") (tail_len label (When Dollar)) s) (longer DollarBrace x o))) three
+      ap (λ (x : Option ℕ). longer Variable x
+      (longer CurlyOpen (behind lower (codes "{") (tail_len label (When Dollar)) r)
+      (longer DollarBrace (behind lower (codes "${") (tail_len label (When Anything)) r) o))) one
+      ∙ ap (λ (x : Option ℕ). longer Variable (behind lower (codes "$") (tail_len label (SomeOf Labels First)) s)
+      (longer CurlyOpen x (longer DollarBrace (behind lower (codes "${") (tail_len label (When Anything)) r) o)))
+      two
+      ∙ ap (λ (x : Option ℕ). longer Variable (behind lower (codes "$") (tail_len label (SomeOf Labels First)) s)
+      (longer CurlyOpen (behind lower (codes "{") (tail_len label (When Dollar)) s) (longer DollarBrace x o)))
+      three
 
   abbrev Pieces : List ℕ → Option (Kind × ℕ)
   Pieces bs = longer Piece (add_to 0 (some_len (piece_len mark label (from_line fresh) bs))) (scan_by label (end_rows mark fresh) bs)
@@ -91,7 +97,8 @@ module _ (mark : Mark) (label : List ℕ) (fresh : Bool) (ok : all_label label �
       ap (λ (n : ℕ). longer Piece (add_to 0 (some_len n)) (scan_by label (end_rows mark fresh) r)) e
       ∙ ap (λ (o : Option (Kind × ℕ)). longer Piece (add_to 0 (some_len (piece_len mark label (from_line fresh) s))) o) (ends_by mark fresh r s h)
 
-  scan_same : (r s : List ℕ) → piece_len mark label (from_line fresh) r ≡ piece_len mark label (from_line fresh) s → Share r s → scan V74 (quoted mark label fresh) r ≡ scan V74 (quoted mark label fresh) s
+  scan_same : (r s : List ℕ) → piece_len mark label (from_line fresh) r ≡ piece_len mark label (from_line fresh) s
+      → Share r s → scan V74 (quoted mark label fresh) r ≡ scan V74 (quoted mark label fresh) s
   scan_same r s e h = parts_same r s (Pieces r) h ∙ ap (λ (o : Option (Kind × ℕ)). Parts s o) (pieces_same r s e h)
 
   -- a piece goes as far
@@ -102,7 +109,8 @@ module _ (mark : Mark) (label : List ℕ) (fresh : Bool) (ok : all_label label �
   stop_same : (st : State) → {r s : List ℕ} → SameFront r s → piece_len mark label st r ≡ 0 → piece_len mark label st s ≡ 0
   stop_same st nothing e = refl
   stop_same st (first {r} {s} c h) e =
-      let out : in_piece mark label st c s ≡ false = sym (piece_same mark label ok st c h) ∙ stop_by (in_piece mark label st c r) (piece_len mark label (moved (Body mark) st c) r) e in
+      let out : in_piece mark label st c s ≡ false = sym (piece_same mark label ok st c h)
+      ∙ stop_by (in_piece mark label st c r) (piece_len mark label (moved (Body mark) st c) r) e in
       rw out refl
 
   step_by : (t : Bool) (n m : ℕ) → cond t (1 + n) 0 ≡ suc m → (t ≡ true) × (n ≡ m)
@@ -118,11 +126,15 @@ module _ (mark : Mark) (label : List ℕ) (fresh : Bool) (ok : all_label label �
       rw (here, rest) (omega arith)
 
   -- one token
-  piece_by : (kind : Kind) (b : ℕ) (a r s : List ℕ) → Share r s → (is_piece kind ≡ true → SameFront r s) → (t : Bool) → in_piece mark label (from_line fresh) b (a ++ r) ≡ t → scan V74 (quoted mark label fresh) (b ∷ a ++ r) ≡ found kind (suc (length a)) → scan V74 (quoted mark label fresh) (b ∷ a ++ s) ≡ found kind (suc (length a))
+  piece_by : (kind : Kind) (b : ℕ) (a r s : List ℕ) → Share r s → (is_piece kind ≡ true → SameFront r s) → (t : Bool)
+      → in_piece mark label (from_line fresh) b (a ++ r) ≡ t
+      → scan V74 (quoted mark label fresh) (b ∷ a ++ r) ≡ found kind (suc (length a))
+      → scan V74 (quoted mark label fresh) (b ∷ a ++ s) ≡ found kind (suc (length a))
   piece_by kind b a r s h front true e is =
       let old : found Piece (piece_len mark label (from_line fresh) (b ∷ a ++ r)) ≡ found kind (suc (length a)) = sym (piece_scan V74 mark label fresh b (a ++ r) e) ∙ is in
       let kinds : Piece ≡ kind = ap kind_found old in
-      let size : piece_len mark label (from_line fresh) (b ∷ a ++ r) ≡ suc (length a) = found_length Piece kind (piece_len mark label (from_line fresh) (b ∷ a ++ r)) (suc (length a)) old in
+      let size : piece_len mark label (from_line fresh) (b ∷ a ++ r) ≡ suc (length a) =
+      found_length Piece kind (piece_len mark label (from_line fresh) (b ∷ a ++ r)) (suc (length a)) old in
       let new : in_piece mark label (from_line fresh) b (a ++ s) ≡ true = sym (piece_same mark label ok (from_line fresh) b (share_behind a r s h)) ∙ e in
       let same = body_same (b ∷ a) (from_line fresh) r s h (front (sym (ap is_piece kinds))) size in
       piece_scan V74 mark label fresh b (a ++ s) new ∙ ap (λ (n : ℕ). found Piece n) same ∙ ap (λ (k : Kind). found k (suc (length a))) kinds
@@ -131,7 +143,9 @@ module _ (mark : Mark) (label : List ℕ) (fresh : Bool) (ok : all_label label �
       let size : piece_len mark label (from_line fresh) (b ∷ a ++ r) ≡ piece_len mark label (from_line fresh) (b ∷ a ++ s) = rw (e, new) refl in
       sym (scan_same (b ∷ a ++ r) (b ∷ a ++ s) size (both b (share_behind a r s h))) ∙ is
 
-  pub quoted_stays : (kind : Kind) (b : ℕ) (a r s : List ℕ) → Share r s → (is_piece kind ≡ true → SameFront r s) → IsLongest V74 (quoted mark label fresh) (b ∷ a ++ r) kind (suc (length a)) → IsLongest V74 (quoted mark label fresh) (b ∷ a ++ s) kind (suc (length a))
+  pub quoted_stays : (kind : Kind) (b : ℕ) (a r s : List ℕ) → Share r s → (is_piece kind ≡ true → SameFront r s)
+      → IsLongest V74 (quoted mark label fresh) (b ∷ a ++ r) kind (suc (length a))
+      → IsLongest V74 (quoted mark label fresh) (b ∷ a ++ s) kind (suc (length a))
   quoted_stays kind b a r s h front is =
       longest_of V74 (quoted mark label fresh) (b ∷ a ++ s) kind (suc (length a))
       (piece_by kind b a r s h front (in_piece mark label (from_line fresh) b (a ++ r)) refl (scan_of V74 (quoted mark label fresh) (b ∷ a ++ r) kind (suc (length a)) is))
@@ -166,11 +180,17 @@ property_same r s h =
     longer_same Op _ _ _ _ (low_same (codes "->") (tail_len [] (When Anything)) (any_tail []) refl r s h)
     (longer_same Label _ _ _ _ (add_same _ _ (label_tail [] r s h)) refl)
 
-pub offset_stays : (kind : Kind) (b : ℕ) (a r s : List ℕ) → Share r s → IsLongest V74 offset (b ∷ a ++ r) kind (suc (length a)) → IsLongest V74 offset (b ∷ a ++ s) kind (suc (length a))
-offset_stays kind b a r s h is = rescanned V74 V74 offset offset (b ∷ a ++ r) (b ∷ a ++ s) kind (suc (length a)) (offset_same (b ∷ a ++ r) (b ∷ a ++ s) (both b (share_behind a r s h))) is
+pub offset_stays : (kind : Kind) (b : ℕ) (a r s : List ℕ) → Share r s
+    → IsLongest V74 offset (b ∷ a ++ r) kind (suc (length a))
+    → IsLongest V74 offset (b ∷ a ++ s) kind (suc (length a))
+offset_stays kind b a r s h is = rescanned V74 V74 offset offset (b ∷ a ++ r) (b ∷ a ++ s) kind (suc (length a))
+    (offset_same (b ∷ a ++ r) (b ∷ a ++ s) (both b (share_behind a r s h))) is
 
-pub property_stays : (kind : Kind) (b : ℕ) (a r s : List ℕ) → Share r s → IsLongest V74 property (b ∷ a ++ r) kind (suc (length a)) → IsLongest V74 property (b ∷ a ++ s) kind (suc (length a))
-property_stays kind b a r s h is = rescanned V74 V74 property property (b ∷ a ++ r) (b ∷ a ++ s) kind (suc (length a)) (property_same (b ∷ a ++ r) (b ∷ a ++ s) (both b (share_behind a r s h))) is
+pub property_stays : (kind : Kind) (b : ℕ) (a r s : List ℕ) → Share r s
+    → IsLongest V74 property (b ∷ a ++ r) kind (suc (length a))
+    → IsLongest V74 property (b ∷ a ++ s) kind (suc (length a))
+property_stays kind b a r s h is = rescanned V74 V74 property property (b ∷ a ++ r) (b ∷ a ++ s) kind (suc (length a))
+    (property_same (b ∷ a ++ r) (b ∷ a ++ s) (both b (share_behind a r s h))) is
 
 -- ---- what a token does to the modes
 

@@ -1,5 +1,32 @@
 -- Bytes that are the same up to where the trivia of names were edited, and what is counted over them.
-use Rattle.std.proofs.Common.{◌≡◌, ℕ, suc, ◌+◌, Bool, true, false, cond, not, ◌&&◌, ◌||◌, nat_eq, nat_le, List, [], ◌∷◌, length, drop, Option, None, refl, sym, ap, ◌∙◌, subst, arith}
+use Rattle.std.proofs.Common.{
+  ◌≡◌,
+  ℕ,
+  suc,
+  ◌+◌,
+  Bool,
+  true,
+  false,
+  cond,
+  not,
+  ◌&&◌,
+  ◌||◌,
+  nat_eq,
+  nat_le,
+  List,
+  [],
+  ◌∷◌,
+  length,
+  drop,
+  Option,
+  None,
+  refl,
+  sym,
+  ap,
+  ◌∙◌,
+  subst,
+  arith,
+}
 use Rattle.std.specs.List.{prefix_len}
 use Rattle.std.proofs.lemmas.Bool.{and_parts, eqb-true}
 use Rattle.std.proofs.lemmas.Bool.Decides.{nat_tests}
@@ -135,16 +162,20 @@ module _ (f : ℕ → ℕ) (fixed : (c : ℕ) → is_cut c ≡ true → f c ≡ 
       let two = starts_cut a w s first k in
       (one ∙ sym two, λ e. absurd (let clash : true ≡ false = sym e ∙ one in cc))
 
-  behind_by : (w : List ℕ) (len : List ℕ → Option ℕ) (r s : List ℕ) → (t : Bool) → starts_by f w r ≡ t → starts_by f w s ≡ t → (t ≡ true → len (drop (length w) r) ≡ len (drop (length w) s)) → behind f w len r ≡ behind f w len s
+  behind_by : (w : List ℕ) (len : List ℕ → Option ℕ) (r s : List ℕ) → (t : Bool) → starts_by f w r ≡ t
+      → starts_by f w s ≡ t → (t ≡ true → len (drop (length w) r) ≡ len (drop (length w) s))
+      → behind f w len r ≡ behind f w len s
   behind_by w len r s true p q h = rw (p, q, h refl) refl
   behind_by w len r s false p q h = rw (p, q) refl
 
-  pub behind_same : (w : List ℕ) (len : List ℕ → Option ℕ) → ((x y : List ℕ) → Share x y → len x ≡ len y) → uncut w ≡ true → (r s : List ℕ) → Share r s → behind f w len r ≡ behind f w len s
+  pub behind_same : (w : List ℕ) (len : List ℕ → Option ℕ) → ((x y : List ℕ) → Share x y → len x ≡ len y)
+      → uncut w ≡ true → (r s : List ℕ) → Share r s → behind f w len r ≡ behind f w len s
   behind_same w len keeps out r s h =
       let is = starts_same w out h in
       behind_by w len r s (starts_by f w r) refl (sym is.0) (λ e. keeps (drop (length w) r) (drop (length w) s) (is.1 e))
 
-pub low_same : (w : List ℕ) (len : List ℕ → Option ℕ) → ((x y : List ℕ) → Share x y → len x ≡ len y) → uncut w ≡ true → (r s : List ℕ) → Share r s → behind lower w len r ≡ behind lower w len s
+pub low_same : (w : List ℕ) (len : List ℕ → Option ℕ) → ((x y : List ℕ) → Share x y → len x ≡ len y) → uncut w ≡ true
+    → (r s : List ℕ) → Share r s → behind lower w len r ≡ behind lower w len s
 low_same = behind_same lower cut_low
 
 as_is : (c : ℕ) → is_cut c ≡ true → as_it_is c ≡ c
@@ -215,7 +246,8 @@ skip_by b bs false e = rw e refl
 pub cuts_blank : (b : ℕ) (bs : List ℕ) → is_blank_byte b ≡ true → cuts (b ∷ bs) ≡ true → cuts bs ≡ true
 cuts_blank b bs e h = subst (λ (t : Bool). cond t (cuts bs) (nat_eq b 92 || (nat_eq b 35 || nat_eq b 47)) ≡ true) (blank_space b e) h
 
-cuts_skip_by : (b : ℕ) (bs : List ℕ) → (cuts bs ≡ true → cuts (skip_blanks bs) ≡ true) → cuts (b ∷ bs) ≡ true → (t : Bool) → is_blank_byte b ≡ t → cuts (skip_blanks (b ∷ bs)) ≡ true
+cuts_skip_by : (b : ℕ) (bs : List ℕ) → (cuts bs ≡ true → cuts (skip_blanks bs) ≡ true) → cuts (b ∷ bs) ≡ true
+    → (t : Bool) → is_blank_byte b ≡ t → cuts (skip_blanks (b ∷ bs)) ≡ true
 cuts_skip_by b bs ih h true e = ap cuts (skip_by b bs true e) ∙ ih (cuts_blank b bs e h)
 cuts_skip_by b bs ih h false e = ap cuts (skip_by b bs false e) ∙ h
 
@@ -223,7 +255,8 @@ cuts_skip : (r : List ℕ) → cuts r ≡ true → cuts (skip_blanks r) ≡ true
 cuts_skip [] h = absurd cc
 cuts_skip (b ∷ bs) h = cuts_skip_by b bs (cuts_skip bs) h (is_blank_byte b) refl
 
-both_skip : (c : ℕ) (r s : List ℕ) (t : Bool) → is_blank_byte c ≡ t → Share (skip_blanks r) (skip_blanks s) → Share (c ∷ r) (c ∷ s) → Share (skip_blanks (c ∷ r)) (skip_blanks (c ∷ s))
+both_skip : (c : ℕ) (r s : List ℕ) (t : Bool) → is_blank_byte c ≡ t → Share (skip_blanks r) (skip_blanks s)
+    → Share (c ∷ r) (c ∷ s) → Share (skip_blanks (c ∷ r)) (skip_blanks (c ∷ s))
 both_skip c r s true e ih h =
     subst (λ (x : List ℕ). Share x (skip_blanks (c ∷ s))) (sym (skip_by c r true e))
     (subst (λ (x : List ℕ). Share (skip_blanks r) x) (sym (skip_by c s true e)) ih)
@@ -239,7 +272,9 @@ skip_same (cut {r} {s} h k) = cut (cuts_skip r h) (cuts_skip s k)
 pub no_label_same : {r s : List ℕ} → Share r s → no_label r ≡ no_label s
 no_label_same h = ap not (label_same h)
 
-front_by : (label r s : List ℕ) (t : Bool) → starts label r ≡ t → starts label s ≡ t → (t ≡ true → no_label (drop (length label) r) ≡ no_label (drop (length label) s)) → begins_label label r ≡ begins_label label s
+front_by : (label r s : List ℕ) (t : Bool) → starts label r ≡ t → starts label s ≡ t
+    → (t ≡ true → no_label (drop (length label) r) ≡ no_label (drop (length label) s))
+    → begins_label label r ≡ begins_label label s
 front_by label r s true p q h = rw (p, q) (h refl)
 front_by label r s false p q h = rw (p, q) refl
 
@@ -265,7 +300,9 @@ last_cut (a ∷ label) b bs out h =
     let other : nat_eq a b ≡ false = other_byte a b (nat_eq a b) refl h first in
     rw other refl
 
-end_cut_by : (label : List ℕ) (b : ℕ) (bs : List ℕ) → uncut label ≡ true → (cuts bs ≡ true → end_line_len label bs ≡ None) → cuts (b ∷ bs) ≡ true → (t : Bool) → is_blank_byte b ≡ t → end_line_len label (b ∷ bs) ≡ None
+end_cut_by : (label : List ℕ) (b : ℕ) (bs : List ℕ) → uncut label ≡ true
+    → (cuts bs ≡ true → end_line_len label bs ≡ None) → cuts (b ∷ bs) ≡ true → (t : Bool) → is_blank_byte b ≡ t
+    → end_line_len label (b ∷ bs) ≡ None
 end_cut_by label b bs out ih h true e = rw (e, ih (cuts_blank b bs e h)) refl
 end_cut_by label b bs out ih h false e = rw e (last_cut label b bs out (first_cut b bs h))
 
@@ -327,7 +364,8 @@ arrow_same (cut {r} {s} h k) = arrow_first r h ∙ sym (arrow_first s k)
 
 -- ---- pieces
 
-pub piece_same : (mark : Mark) (label : List ℕ) → all_label label ≡ true → (st : State) (b : ℕ) → {r s : List ℕ} → Share r s → in_piece mark label st b r ≡ in_piece mark label st b s
+pub piece_same : (mark : Mark) (label : List ℕ) → all_label label ≡ true → (st : State) (b : ℕ) → {r s : List ℕ}
+    → Share r s → in_piece mark label st b r ≡ in_piece mark label st b s
 piece_same mark label ok Escaped b h = refl
 piece_same Double label ok First b h = rw (part_same b h) refl
 piece_same Double label ok Plain b h = rw (part_same b h) refl

@@ -167,12 +167,16 @@ slash_scan bs = rw (not_less (run_len Line [] First bs)) refl
 
 hash_stops : (a r : List ℕ) → IsLongest V74 code (35 ∷ a ++ r) Comment (suc (length a)) → stops_line r ≡ true
 hash_stops a r h =
-    let size : 1 + run_len Line [] First (a ++ r) ≡ suc (length a) = found_length Comment Comment (1 + run_len Line [] First (a ++ r)) (suc (length a)) (sym (hash_scan (a ++ r)) ∙ scan_of V74 code (35 ∷ a ++ r) Comment (suc (length a)) h) in
+    let size : 1 + run_len Line [] First (a ++ r) ≡ suc (length a) =
+    found_length Comment Comment (1 + run_len Line [] First (a ++ r)) (suc (length a))
+    (sym (hash_scan (a ++ r)) ∙ scan_of V74 code (35 ∷ a ++ r) Comment (suc (length a)) h) in
     line_stops a r First (omega arith)
 
 slash_stops : (a r : List ℕ) → IsLongest V74 code (47 ∷ 47 ∷ a ++ r) Comment (suc (suc (length a))) → stops_line r ≡ true
 slash_stops a r h =
-    let size : 2 + run_len Line [] First (a ++ r) ≡ suc (suc (length a)) = found_length Comment Comment (2 + run_len Line [] First (a ++ r)) (suc (suc (length a))) (sym (slash_scan (a ++ r)) ∙ scan_of V74 code (47 ∷ 47 ∷ a ++ r) Comment (suc (suc (length a))) h) in
+    let size : 2 + run_len Line [] First (a ++ r) ≡ suc (suc (length a)) =
+    found_length Comment Comment (2 + run_len Line [] First (a ++ r)) (suc (suc (length a)))
+    (sym (slash_scan (a ++ r)) ∙ scan_of V74 code (47 ∷ 47 ∷ a ++ r) Comment (suc (suc (length a))) h) in
     line_stops a r First (omega arith)
 
 -- a text that begins with a byte
@@ -240,7 +244,8 @@ mark_first (rule kind [] tail ∷ rows) b a rest c h = absurd cc
 mark_first (rule kind (x ∷ w) tail ∷ rows) b a rest c h =
     let (here, others) = and_parts (nat_eq x 60) (calm_first rows) c in
     elim (or_case (led lower (x ∷ w) (is_tail [] tail) (b ∷ a) rest) (meets [] rows (b ∷ a) rest) h) [
-      | inl first ↦ mark_same 60 b refl (subst (λ (y : ℕ). nat_eq y (lower b) ≡ true) (eqb-true x 60 here) (and_parts (nat_eq x (lower b)) (led lower w (is_tail [] tail) a rest) first).0)
+      | inl first ↦ mark_same 60 b refl (subst (λ (y : ℕ). nat_eq y (lower b) ≡ true) (eqb-true x 60 here)
+          (and_parts (nat_eq x (lower b)) (led lower w (is_tail [] tail) a rest) first).0)
       | inr more ↦ mark_first rows b a rest others more
     ]
 

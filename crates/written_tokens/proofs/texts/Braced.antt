@@ -2,7 +2,22 @@
 use Rattle.std.proofs.Common.{◌≡◌, ℕ, Bool, true, false, ◌||◌, List, [], ◌∷◌, ◌++◌, refl}
 use Rattle.php_spellings.specs.declared.table.Kind.TheVariants.{Op}
 use Rattle.php_relexing.specs.Tiles.{Tile, tile}
-use Rattle.written_tokens.specs.texts.TextRows.{TextRow, quote_end, piece, escaped_piece, variable, with_offset, with_property, curly, dollar_name, dollar_row, is_dollar_brace, has_dollar_brace, has_inside, TextsAreBraced}
+use Rattle.written_tokens.specs.texts.TextRows.{
+  TextRow,
+  quote_end,
+  piece,
+  escaped_piece,
+  variable,
+  with_offset,
+  with_property,
+  curly,
+  dollar_name,
+  dollar_row,
+  is_dollar_brace,
+  has_dollar_brace,
+  has_inside,
+  TextsAreBraced,
+}
 
 or_false : (x y : Bool) → (x || y) ≡ false → (x ≡ false) × (y ≡ false)
 or_false true y h = absurd cc

@@ -20,7 +20,9 @@ label_not bs h = not_it (begins is_label_byte bs) h
     not_it false k = refl
 
 -- what edits put in begins no label
-put_by : (c : ℕ) (t : Bool) (u v w x y z o : Bool) → nat_eq c 40 ≡ t → nat_eq c 91 ≡ u → nat_eq c 93 ≡ v → nat_eq c 125 ≡ w → nat_eq c 92 ≡ x → nat_eq c 35 ≡ y → nat_eq c 41 ≡ z → (t || u || v || w || x || y || (o && z)) ≡ true → is_label_byte c ≡ false
+put_by : (c : ℕ) (t : Bool) (u v w x y z o : Bool) → nat_eq c 40 ≡ t → nat_eq c 91 ≡ u → nat_eq c 93 ≡ v
+    → nat_eq c 125 ≡ w → nat_eq c 92 ≡ x → nat_eq c 35 ≡ y → nat_eq c 41 ≡ z
+    → (t || u || v || w || x || y || (o && z)) ≡ true → is_label_byte c ≡ false
 put_by c true u v w x y z o p q r s m n l h = ap is_label_byte (eqb-true c 40 p)
 put_by c false true v w x y z o p q r s m n l h = ap is_label_byte (eqb-true c 91 q)
 put_by c false false true w x y z o p q r s m n l h = ap is_label_byte (eqb-true c 93 r)

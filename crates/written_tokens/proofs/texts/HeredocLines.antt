@@ -1,5 +1,34 @@
 -- The first line of a heredoc, also with `b` in front, before other bytes, and its label.
-use Rattle.std.proofs.Common.{◌≡◌, ℕ, suc, ◌+◌, Bool, true, false, cond, not, ◌&&◌, ◌||◌, nat_eq, List, [], ◌∷◌, ◌++◌, length, drop, codes, Option, Some, None, refl, sym, ap, ◌∙◌, subst, arith}
+use Rattle.std.proofs.Common.{
+  ◌≡◌,
+  ℕ,
+  suc,
+  ◌+◌,
+  Bool,
+  true,
+  false,
+  cond,
+  not,
+  ◌&&◌,
+  ◌||◌,
+  nat_eq,
+  List,
+  [],
+  ◌∷◌,
+  ◌++◌,
+  length,
+  drop,
+  codes,
+  Option,
+  Some,
+  None,
+  refl,
+  sym,
+  ap,
+  ◌∙◌,
+  subst,
+  arith,
+}
 use Rattle.std.specs.List.{prefix_len}
 use Rattle.std.proofs.lemmas.Bool.{and_parts, eqb-true}
 use Rattle.std.proofs.lemmas.Bool.Decides.{nat_tests}
@@ -8,7 +37,28 @@ use Rattle.php_spellings.specs.declared.table.Kind.{Kind}
 use Rattle.php_spellings.specs.declared.table.Kind.TheVariants.{HeredocStart, Word, Op}
 use Rattle.php_spellings.specs.declared.table.Shape.TheVariants as shape
 use Rattle.php_spellings.specs.declared.table.Spot.{Spot}
-use Rattle.php_spellings.specs.declared.table.Spot.TheVariants.{Begin, Whole, WholeGap, LeadPoint, Point, Part, PartGap, Mark, Sign, Power, PowerGap, FirstLabel, Backslash, LaterLabel, OpenedLabel, QuotedLabel, ClosedLabel, Return, Line, Stuck}
+use Rattle.php_spellings.specs.declared.table.Spot.TheVariants.{
+  Begin,
+  Whole,
+  WholeGap,
+  LeadPoint,
+  Point,
+  Part,
+  PartGap,
+  Mark,
+  Sign,
+  Power,
+  PowerGap,
+  FirstLabel,
+  Backslash,
+  LaterLabel,
+  OpenedLabel,
+  QuotedLabel,
+  ClosedLabel,
+  Return,
+  Line,
+  Stuck,
+}
 use Rattle.php_spellings.specs.Bytes.{is_blank_byte, is_letter, is_label_byte, begins, begins_by, lower, label_len, skip_blanks}
 use Rattle.php_spellings.specs.declared.table.Tail.TheVariants.{Shaped}
 use Rattle.php_lexer.specs.Heredocs.{led, begins_nowdoc}
@@ -38,7 +88,8 @@ at_return : (s : List ℕ) → shape_len shape.HeredocLine Return s ≡ cond (be
 at_return [] = refl
 at_return (c ∷ s) = return_by c s (nat_eq c 10) refl
 
-end_same : (spot : Spot) (r s : List ℕ) → begins_by 10 r ≡ begins_by 10 s → may_end shape.HeredocLine spot ≡ true → shape_len shape.HeredocLine spot r ≡ shape_len shape.HeredocLine spot s
+end_same : (spot : Spot) (r s : List ℕ) → begins_by 10 r ≡ begins_by 10 s → may_end shape.HeredocLine spot ≡ true
+    → shape_len shape.HeredocLine spot r ≡ shape_len shape.HeredocLine spot s
 end_same Begin r s e h = absurd cc
 end_same Whole r s e h = absurd cc
 end_same WholeGap r s e h = absurd cc
@@ -60,22 +111,30 @@ end_same Return r s e h = at_return r ∙ ap (λ (t : Bool). cond t (Some 1) (So
 end_same Line r s e h = at_line r ∙ sym (at_line s)
 end_same Stuck r s e h = absurd cc
 
-line_same : (spot : Spot) (x r s : List ℕ) → begins_by 10 r ≡ begins_by 10 s → has_shape shape.HeredocLine spot x ≡ true → shape_len shape.HeredocLine spot (x ++ r) ≡ shape_len shape.HeredocLine spot (x ++ s)
+line_same : (spot : Spot) (x r s : List ℕ) → begins_by 10 r ≡ begins_by 10 s
+    → has_shape shape.HeredocLine spot x ≡ true → shape_len shape.HeredocLine spot (x ++ r) ≡ shape_len
+    shape.HeredocLine spot (x ++ s)
 line_same spot [] r s e h = end_same spot r s e h
 line_same spot (b ∷ x) r s e h =
     let (goes, more) = and_parts (not (is_stuck (step shape.HeredocLine spot b))) (has_shape shape.HeredocLine (step shape.HeredocLine spot b) x) h in
     let ih = line_same (step shape.HeredocLine spot b) x r s e more in
-    ap (λ (o : Option ℕ). cond (is_stuck (step shape.HeredocLine spot b)) (here_len (may_end shape.HeredocLine spot)) (or_else (add_to 1 o) (here_len (may_end shape.HeredocLine spot)))) ih
+    ap (λ (o : Option ℕ). cond (is_stuck (step shape.HeredocLine spot b)) (here_len (may_end shape.HeredocLine spot))
+    (or_else (add_to 1 o) (here_len (may_end shape.HeredocLine spot)))) ih
 
 -- ---- no nowdoc
 
-begin_by : (b : ℕ) (a : List ℕ) (t l q : Bool) → is_blank_byte b ≡ t → is_letter b ≡ l → nat_eq b 34 ≡ q → (not (is_stuck (cond t Begin (cond l FirstLabel (cond q OpenedLabel Stuck)))) && has_shape shape.HeredocLine (cond t Begin (cond l FirstLabel (cond q OpenedLabel Stuck))) a) ≡ true → (t ≡ true → has_shape shape.HeredocLine Begin a ≡ true) × (t ≡ false → nat_eq b 39 ≡ false)
+begin_by : (b : ℕ) (a : List ℕ) (t l q : Bool) → is_blank_byte b ≡ t → is_letter b ≡ l → nat_eq b 34 ≡ q
+    → (not (is_stuck (cond t Begin (cond l FirstLabel (cond q OpenedLabel Stuck))))
+    && has_shape shape.HeredocLine (cond t Begin (cond l FirstLabel (cond q OpenedLabel Stuck))) a) ≡ true
+    → (t ≡ true → has_shape shape.HeredocLine Begin a ≡ true) × (t ≡ false → nat_eq b 39 ≡ false)
 begin_by b a true l q e f g h = (λ p. h, λ p. absurd cc)
 begin_by b a false true q e f g h = (λ p. absurd cc, λ p. grind (arith, nat_tests))
 begin_by b a false false true e f g h = (λ p. absurd cc, λ p. grind (arith, nat_tests))
 begin_by b a false false false e f g h = absurd cc
 
-no_quote_by : (b : ℕ) (bs : List ℕ) (t : Bool) → is_blank_byte b ≡ t → (t ≡ true → begins_by 39 (skip_blanks bs) ≡ false) → (t ≡ false → nat_eq b 39 ≡ false) → begins_by 39 (skip_blanks (b ∷ bs)) ≡ false
+no_quote_by : (b : ℕ) (bs : List ℕ) (t : Bool) → is_blank_byte b ≡ t
+    → (t ≡ true → begins_by 39 (skip_blanks bs) ≡ false) → (t ≡ false → nat_eq b 39 ≡ false)
+    → begins_by 39 (skip_blanks (b ∷ bs)) ≡ false
 no_quote_by b bs t e f g = ap (begins_by 39) (skip_by b bs t e) ∙ by_blank t f g
   where
     by_blank : (t : Bool) → (t ≡ true → begins_by 39 (skip_blanks bs) ≡ false) → (t ≡ false → nat_eq b 39 ≡ false) → begins_by 39 (cond t (skip_blanks bs) (b ∷ bs)) ≡ false
@@ -127,7 +186,9 @@ abbrev is_start : Kind → Bool
 is_start HeredocStart = true
 is_start _ = false
 
-plain_text : (b c d : ℕ) (x : List ℕ) → (nat_eq 60 (lower b) && (nat_eq 60 (lower c) && (nat_eq 60 (lower d) && has_shape shape.HeredocLine Begin x))) ≡ true → StartText b (c ∷ d ∷ x)
+plain_text : (b c d : ℕ) (x : List ℕ) → (nat_eq 60 (lower b)
+    && (nat_eq 60 (lower c) && (nat_eq 60 (lower d) && has_shape shape.HeredocLine Begin x))) ≡ true
+    → StartText b (c ∷ d ∷ x)
 plain_text b c d x h =
     let (one, h2) = and_parts (nat_eq 60 (lower b)) (nat_eq 60 (lower c) && (nat_eq 60 (lower d) && has_shape shape.HeredocLine Begin x)) h in
     let (two, h3) = and_parts (nat_eq 60 (lower c)) (nat_eq 60 (lower d) && has_shape shape.HeredocLine Begin x) h2 in
@@ -136,7 +197,9 @@ plain_text b c d x h =
     (subst (λ (n : ℕ). StartText 60 (n ∷ d ∷ x)) (sym (mark_same 60 c refl two))
     (subst (λ (n : ℕ). StartText 60 (60 ∷ n ∷ x)) (sym (mark_same 60 d refl three)) (plain x shaped)))
 
-binary_text : (b c d e : ℕ) (x : List ℕ) → (nat_eq 98 (lower b) && (nat_eq 60 (lower c) && (nat_eq 60 (lower d) && (nat_eq 60 (lower e) && has_shape shape.HeredocLine Begin x)))) ≡ true → StartText b (c ∷ d ∷ e ∷ x)
+binary_text : (b c d e : ℕ) (x : List ℕ) → (nat_eq 98 (lower b)
+    && (nat_eq 60 (lower c) && (nat_eq 60 (lower d) && (nat_eq 60 (lower e) && has_shape shape.HeredocLine Begin x))))
+    ≡ true → StartText b (c ∷ d ∷ e ∷ x)
 binary_text b c d e x h =
     let (zero_, h1) = and_parts (nat_eq 98 (lower b)) (nat_eq 60 (lower c) && (nat_eq 60 (lower d) && (nat_eq 60 (lower e) && has_shape shape.HeredocLine Begin x))) h in
     let (one, h2) = and_parts (nat_eq 60 (lower c)) (nat_eq 60 (lower d) && (nat_eq 60 (lower e) && has_shape shape.HeredocLine Begin x)) h1 in
@@ -177,10 +240,13 @@ case_of b a r false y f g h = g (or_none y h)
 
 pub start_text : (b : ℕ) (a r : List ℕ) → IsLongest V74 code (b ∷ a ++ r) HeredocStart (suc (length a)) → StartText b a
 start_text b a r h =
-    case_of b a r (led lower (codes "<<<") (is_tail [] (Shaped shape.HeredocLine Begin)) (b ∷ a) r) (led lower (codes "b<<<") (is_tail [] (Shaped shape.HeredocLine Begin)) (b ∷ a) r)
+    case_of b a r (led lower (codes "<<<") (is_tail [] (Shaped shape.HeredocLine Begin)) (b ∷ a) r)
+    (led lower (codes "b<<<") (is_tail [] (Shaped shape.HeredocLine Begin)) (b ∷ a) r)
     (plain_case b a r) (binary_case b a r) (longest_meets is_start V74 code (b ∷ a) r HeredocStart refl h)
 
-lines_stay : (b : ℕ) (a r s : List ℕ) → StartText b a → begins_by 10 r ≡ begins_by 10 s → IsLongest V74 code (b ∷ a ++ r) HeredocStart (suc (length a)) → IsLongest V74 code (b ∷ a ++ s) HeredocStart (suc (length a))
+lines_stay : (b : ℕ) (a r s : List ℕ) → StartText b a → begins_by 10 r ≡ begins_by 10 s
+    → IsLongest V74 code (b ∷ a ++ r) HeredocStart (suc (length a))
+    → IsLongest V74 code (b ∷ a ++ s) HeredocStart (suc (length a))
 lines_stay b a r s (plain x shaped) e h =
     rescanned V74 V74 code code (60 ∷ 60 ∷ 60 ∷ x ++ r) (60 ∷ 60 ∷ 60 ∷ x ++ s) HeredocStart (suc (suc (suc (length x))))
     (plain_scan (x ++ r) (no_nowdoc x r shaped) ∙ ap plain_to (line_same Begin x r s e shaped) ∙ sym (plain_scan (x ++ s) (no_nowdoc x s shaped))) h
@@ -207,7 +273,9 @@ opened_letter : (x : List ℕ) → has_shape shape.HeredocLine OpenedLabel x ≡
 opened_letter [] h = absurd cc
 opened_letter (b ∷ x) h = by_letter (is_letter b) refl h
   where
-    by_letter : (t : Bool) → is_letter b ≡ t → (not (is_stuck (cond t QuotedLabel Stuck)) && has_shape shape.HeredocLine (cond t QuotedLabel Stuck) x) ≡ true → begins is_letter (from_letter (b ∷ x)) ≡ true
+    by_letter : (t : Bool) → is_letter b ≡ t
+        → (not (is_stuck (cond t QuotedLabel Stuck)) && has_shape shape.HeredocLine (cond t QuotedLabel Stuck) x) ≡
+        true → begins is_letter (from_letter (b ∷ x)) ≡ true
     by_letter true e k = ap (begins is_letter) (letter_by b x true e) ∙ e
     by_letter false e k = absurd cc
 
@@ -218,7 +286,11 @@ first_letter : (x : List ℕ) → has_shape shape.HeredocLine Begin x ≡ true �
 first_letter [] h = absurd cc
 first_letter (b ∷ x) h = by_byte (first_letter x) (is_blank_byte b) (is_letter b) (nat_eq b 34) refl refl refl h
   where
-    by_byte : (has_shape shape.HeredocLine Begin x ≡ true → begins is_letter (from_letter x) ≡ true) → (t l q : Bool) → is_blank_byte b ≡ t → is_letter b ≡ l → nat_eq b 34 ≡ q → (not (is_stuck (cond t Begin (cond l FirstLabel (cond q OpenedLabel Stuck)))) && has_shape shape.HeredocLine (cond t Begin (cond l FirstLabel (cond q OpenedLabel Stuck))) x) ≡ true → begins is_letter (from_letter (b ∷ x)) ≡ true
+    by_byte : (has_shape shape.HeredocLine Begin x ≡ true → begins is_letter (from_letter x) ≡ true) → (t l q : Bool)
+        → is_blank_byte b ≡ t → is_letter b ≡ l → nat_eq b 34 ≡ q
+        → (not (is_stuck (cond t Begin (cond l FirstLabel (cond q OpenedLabel Stuck))))
+        && has_shape shape.HeredocLine (cond t Begin (cond l FirstLabel (cond q OpenedLabel Stuck))) x) ≡ true
+        → begins is_letter (from_letter (b ∷ x)) ≡ true
     by_byte ih true l q e f g k = ap (begins is_letter) (letter_by b x false (blank_letter b e)) ∙ ih k
     by_byte ih false true q e f g k = ap (begins is_letter) (letter_by b x true f) ∙ f
     by_byte ih false false true e f g k = ap (begins is_letter) (letter_by b x false f) ∙ opened_letter x k

@@ -61,7 +61,9 @@ at_label (a ∷ l) b t r blank h =
       stops = is.ends;
     }
 
-at_blank : (label : List ℕ) (b : ℕ) (t r : List ℕ) → (is_end_line label t r ≡ true → EndsHere label t r) → (x : Bool) → is_blank_byte b ≡ x → cond x (is_end_line label t r) (is_last_label label (b ∷ t) r) ≡ true → EndsHere label (b ∷ t) r
+at_blank : (label : List ℕ) (b : ℕ) (t r : List ℕ) → (is_end_line label t r ≡ true → EndsHere label t r) → (x : Bool)
+    → is_blank_byte b ≡ x → cond x (is_end_line label t r) (is_last_label label (b ∷ t) r) ≡ true
+    → EndsHere label (b ∷ t) r
 at_blank label b t r ih true p h =
     let is = ih h in
     record { line = ap (begins_label label) (skip_by b (t ++ r) true p) ∙ is.line; stops = is.stops }

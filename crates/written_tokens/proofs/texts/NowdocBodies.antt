@@ -25,7 +25,10 @@ last_over : (label t r s : List ℕ) → no_label s ≡ true → is_last_label l
 last_over [] t r s e h = absurd cc
 last_over (a ∷ l) t r s e h = led_over (a ∷ l) t r s e h
 
-line_by : (label : List ℕ) (b : ℕ) (t r s : List ℕ) → no_label s ≡ true → (is_end_line label t r ≡ true → is_end_line label t s ≡ true) → (x : Bool) → cond x (is_end_line label t r) (is_last_label label (b ∷ t) r) ≡ true → cond x (is_end_line label t s) (is_last_label label (b ∷ t) s) ≡ true
+line_by : (label : List ℕ) (b : ℕ) (t r s : List ℕ) → no_label s ≡ true
+    → (is_end_line label t r ≡ true → is_end_line label t s ≡ true) → (x : Bool)
+    → cond x (is_end_line label t r) (is_last_label label (b ∷ t) r) ≡ true
+    → cond x (is_end_line label t s) (is_last_label label (b ∷ t) s) ≡ true
 line_by label b t r s e ih true h = ih h
 line_by label b t r s e ih false h = last_over label (b ∷ t) r s e h
 
@@ -45,7 +48,10 @@ last_len (a ∷ l) b t s h =
         let size : suc (length l) + 0 ≡ suc (length l) = omega arith in
         rw (same, starts_self l s, drop-append_seam l s, e, size) refl
 
-len_by : (label : List ℕ) (b : ℕ) (t s : List ℕ) → (is_end_line label t s ≡ true → end_line_len label (t ++ s) ≡ Some (length t)) → (x : Bool) → is_blank_byte b ≡ x → cond x (is_end_line label t s) (is_last_label label (b ∷ t) s) ≡ true → end_line_len label (b ∷ t ++ s) ≡ Some (suc (length t))
+len_by : (label : List ℕ) (b : ℕ) (t s : List ℕ)
+    → (is_end_line label t s ≡ true → end_line_len label (t ++ s) ≡ Some (length t)) → (x : Bool)
+    → is_blank_byte b ≡ x → cond x (is_end_line label t s) (is_last_label label (b ∷ t) s) ≡ true
+    → end_line_len label (b ∷ t ++ s) ≡ Some (suc (length t))
 len_by label b t s ih true p h = let one : 1 + length t ≡ suc (length t) = omega arith in rw (p, ih h, one) refl
 len_by label b t s ih false p h = rw p (last_len label b t s h)
 
@@ -95,13 +101,19 @@ module _ (label r s : List ℕ) (named : is_label label ≡ true) (stops : no_la
       let ends = (end_line_ends label (b ∷ y) s there).line in
       rw (e, ends) (line_len label (b ∷ y) s there)
 
-  next_line : (fresh : Bool) (b : ℕ) (y : List ℕ) → (fresh && ends_heredoc label (b ∷ y ++ r)) ≡ false → HasLine (b ∷ y) → body_len label (is_line_end b) (y ++ s) ≡ Some (length y) → body_len label fresh (b ∷ y ++ s) ≡ Some (suc (length y))
+  next_line : (fresh : Bool) (b : ℕ) (y : List ℕ) → (fresh && ends_heredoc label (b ∷ y ++ r)) ≡ false
+      → HasLine (b ∷ y) → body_len label (is_line_end b) (y ++ s) ≡ Some (length y)
+      → body_len label fresh (b ∷ y ++ s) ≡ Some (suc (length y))
   next_line fresh b y e is ih =
       let out : (fresh && ends_heredoc label (b ∷ y ++ s)) ≡ false = ap (λ (t : Bool). fresh && t) (sym (line_apart label (b ∷ y) r s named is)) ∙ e in
       let one : 1 + length y ≡ suc (length y) = omega arith in
       rw (out, ih, one) refl
 
-  body_by : (fresh : Bool) (b : ℕ) (y : List ℕ) → (is_body label (is_line_end b) y r ≡ true → body_len label (is_line_end b) (y ++ s) ≡ Some (length y)) → (t : Bool) → (fresh && ends_heredoc label (b ∷ y ++ r)) ≡ t → cond t (is_end_line label (b ∷ y) r) (is_body label (is_line_end b) y r) ≡ true → body_len label fresh (b ∷ y ++ s) ≡ Some (suc (length y))
+  body_by : (fresh : Bool) (b : ℕ) (y : List ℕ)
+      → (is_body label (is_line_end b) y r ≡ true → body_len label (is_line_end b) (y ++ s) ≡ Some (length y))
+      → (t : Bool) → (fresh && ends_heredoc label (b ∷ y ++ r)) ≡ t
+      → cond t (is_end_line label (b ∷ y) r) (is_body label (is_line_end b) y r) ≡ true
+      → body_len label fresh (b ∷ y ++ s) ≡ Some (suc (length y))
   body_by fresh b y ih true e h = last_line fresh b y (both fresh (ends_heredoc label (b ∷ y ++ r)) e) h
   body_by fresh b y ih false e h = next_line fresh b y e (has_by b y (λ f. has_line label y r (subst (λ (t : Bool). is_body label t y r ≡ true) f h)) (is_line_end b) refl) (ih h)
 
@@ -110,7 +122,9 @@ module _ (label r s : List ℕ) (named : is_label label ≡ true) (stops : no_la
   body_over fresh (b ∷ y) h = body_by fresh b y (body_over (is_line_end b) y) (fresh && ends_heredoc label (b ∷ y ++ r)) refl h
 
 -- no byte of a label follows the body
-end_by : (label : List ℕ) (fresh : Bool) (b : ℕ) (y r : List ℕ) → (is_body label (is_line_end b) y r ≡ true → no_label r ≡ true) → (t : Bool) → cond t (is_end_line label (b ∷ y) r) (is_body label (is_line_end b) y r) ≡ true → no_label r ≡ true
+end_by : (label : List ℕ) (fresh : Bool) (b : ℕ) (y r : List ℕ)
+    → (is_body label (is_line_end b) y r ≡ true → no_label r ≡ true) → (t : Bool)
+    → cond t (is_end_line label (b ∷ y) r) (is_body label (is_line_end b) y r) ≡ true → no_label r ≡ true
 end_by label fresh b y r ih true h = (end_line_ends label (b ∷ y) r h).stops
 end_by label fresh b y r ih false h = ih h
 

@@ -40,7 +40,8 @@ record Blanks (bs : List ℕ) : Type 0 where
   all : all_blank blanks ≡ true
   same : bs ≡ blanks ++ 39 ∷ more
 
-blanks_by : (b : ℕ) (bs : List ℕ) → (begins_by 39 (skip_blanks bs) ≡ true → Blanks bs) → (t : Bool) → is_blank_byte b ≡ t → begins_by 39 (skip_blanks (b ∷ bs)) ≡ true → Blanks (b ∷ bs)
+blanks_by : (b : ℕ) (bs : List ℕ) → (begins_by 39 (skip_blanks bs) ≡ true → Blanks bs) → (t : Bool)
+    → is_blank_byte b ≡ t → begins_by 39 (skip_blanks (b ∷ bs)) ≡ true → Blanks (b ∷ bs)
 blanks_by b bs ih true e h =
     let is = ih (sym (ap (begins_by 39) (skip_by b bs true e)) ∙ h) in
     record { blanks = b ∷ is.blanks; more = is.more; all = both_true (is_blank_byte b) (all_blank is.blanks) e is.all; same = ap (λ (u : List ℕ). b ∷ u) is.same }
@@ -70,7 +71,8 @@ record Run (u : List ℕ) : Type 0 where
   all : all_label label ≡ true
   same : u ≡ label ++ 39 ∷ more
 
-run_split : (b : ℕ) (u : List ℕ) → (begins_by 39 (drop (label_len u) u) ≡ true → Run u) → (t : Bool) → is_label_byte b ≡ t → begins_by 39 (drop (label_len (b ∷ u)) (b ∷ u)) ≡ true → Run (b ∷ u)
+run_split : (b : ℕ) (u : List ℕ) → (begins_by 39 (drop (label_len u) u) ≡ true → Run u) → (t : Bool)
+    → is_label_byte b ≡ t → begins_by 39 (drop (label_len (b ∷ u)) (b ∷ u)) ≡ true → Run (b ∷ u)
 run_split b u ih true e h =
     let is = ih (sym (ap (λ (n : ℕ). begins_by 39 (drop n (b ∷ u))) (run_by b u true e)) ∙ h) in
     record { label = b ∷ is.label; more = is.more; all = both_true (is_label_byte b) (all_label is.label) e is.all; same = ap (λ (v : List ℕ). b ∷ v) is.same }
@@ -147,11 +149,14 @@ label_by : (l w : List ℕ) → all_label l ≡ true → begins is_letter (l ++ 
 label_by [] w h e = absurd cc
 label_by (b ∷ a) w h e = let (here, more) = and_parts (is_label_byte b) (all_label a) h in rw (e, more) refl
 
-opened_by : (k u : List ℕ) → all_blank k ≡ true → begins is_letter u ≡ true → begins_by 39 (drop (label_len u) u) ≡ true → begins is_line_end (drop (label_len u + 1) u) ≡ true → Opened (k ++ 39 ∷ u)
+opened_by : (k u : List ℕ) → all_blank k ≡ true → begins is_letter u ≡ true
+    → begins_by 39 (drop (label_len u) u) ≡ true → begins is_line_end (drop (label_len u + 1) u) ≡ true
+    → Opened (k ++ 39 ∷ u)
 opened_by k u blank letter quote ends =
     let run = run_of u quote in
     let named = label_by run.label run.more run.all (subst (λ (v : List ℕ). begins is_letter v ≡ true) run.same letter) in
-    let there : begins is_line_end (drop (label_len (run.label ++ 39 ∷ run.more) + 1) (run.label ++ 39 ∷ run.more)) ≡ true = subst (λ (v : List ℕ). begins is_line_end (drop (label_len v + 1) v) ≡ true) run.same ends in
+    let there : begins is_line_end (drop (label_len (run.label ++ 39 ∷ run.more) + 1) (run.label ++ 39 ∷ run.more)) ≡
+    true = subst (λ (v : List ℕ). begins is_line_end (drop (label_len v + 1) v) ≡ true) run.same ends in
     record {
       blanks = k;
       label = run.label;
@@ -164,8 +169,11 @@ opened_by k u blank letter quote ends =
 
 pub opened : (bs : List ℕ) → begins_nowdoc bs ≡ true → Opened bs
 opened bs h =
-    let (three, ends) = and_parts (begins_by 39 (skip_blanks bs) && begins is_letter (behind_quote bs) && begins_by 39 (drop (label_len (behind_quote bs)) (behind_quote bs))) (begins is_line_end (drop (label_len (behind_quote bs) + 1) (behind_quote bs))) h in
-    let (two, quote) = and_parts (begins_by 39 (skip_blanks bs) && begins is_letter (behind_quote bs)) (begins_by 39 (drop (label_len (behind_quote bs)) (behind_quote bs))) three in
+    let (three, ends) = and_parts (begins_by 39 (skip_blanks bs) && begins is_letter (behind_quote bs)
+    && begins_by 39 (drop (label_len (behind_quote bs)) (behind_quote bs)))
+    (begins is_line_end (drop (label_len (behind_quote bs) + 1) (behind_quote bs))) h in
+    let (two, quote) = and_parts (begins_by 39 (skip_blanks bs) && begins is_letter (behind_quote bs))
+    (begins_by 39 (drop (label_len (behind_quote bs)) (behind_quote bs))) three in
     let (first, letter) = and_parts (begins_by 39 (skip_blanks bs)) (begins is_letter (behind_quote bs)) two in
     let is = blanks_of bs first in
     let behind : behind_quote bs ≡ is.more = ap behind_quote is.same ∙ ap (drop 1) (skipped is.blanks is.more is.all) in

@@ -21,7 +21,9 @@ module _ (b : ℕ) (a : List ℕ) (unquoted : in_quotes b a ≡ false) where
   source : (below : List Mode) (depth : ℕ) (rest : List Tile) → Steps V74 (stack_of code below depth) (tile Text b a ∷ rest) → Steps V74 (stack_of code below depth) rest
   source below depth rest h = (first (stack_of code below depth) Text b a rest h).more
 
-  written : (gap : Bool) (below over : List Mode) (depth deep : ℕ) (rest after : List Tile) → Goes false false rest after → Steps V74 (stack_of code below depth) (tile Text b a ∷ rest) → Steps V74 (stack_of code over deep) after → Steps V74 (stack_of code over deep) (tile Text b a ∷ after)
+  written : (gap : Bool) (below over : List Mode) (depth deep : ℕ) (rest after : List Tile)
+      → Goes false false rest after → Steps V74 (stack_of code below depth) (tile Text b a ∷ rest)
+      → Steps V74 (stack_of code over deep) after → Steps V74 (stack_of code over deep) (tile Text b a ∷ after)
   written gap below over depth deep rest after g h more =
       let at = (first (stack_of code below depth) Text b a rest h).longest in
       let stops = goes_no_label g (text_stops (nowdoc_text b a (joined rest) unquoted at)) in

@@ -1,5 +1,33 @@
 -- A nowdoc before other bytes.
-use Rattle.std.proofs.Common.{◌≡◌, ℕ, suc, ◌+◌, Bool, true, false, cond, ◌&&◌, ◌||◌, nat_eq, List, [], ◌∷◌, ◌++◌, length, drop, codes, Some, None, refl, sym, ap, ◌∙◌, subst, append_assoc, arith}
+use Rattle.std.proofs.Common.{
+  ◌≡◌,
+  ℕ,
+  suc,
+  ◌+◌,
+  Bool,
+  true,
+  false,
+  cond,
+  ◌&&◌,
+  ◌||◌,
+  nat_eq,
+  List,
+  [],
+  ◌∷◌,
+  ◌++◌,
+  length,
+  drop,
+  codes,
+  Some,
+  None,
+  refl,
+  sym,
+  ap,
+  ◌∙◌,
+  subst,
+  append_assoc,
+  arith,
+}
 use Rattle.std.proofs.lemmas.Bool.{and_parts, eqb-true}
 use Rattle.std.proofs.lemmas.List.{length-append}
 use Rattle.std.proofs.Math.Seq.{drop-append_seam}
@@ -35,10 +63,13 @@ blank_shape (b ∷ k) u h =
     let (here, more) = and_parts (is_blank_byte b) (all_blank k) h in
     rw (here, blank_shape k u more) refl
 
-plain_scan : (bs : List ℕ) (n : ℕ) → begins_nowdoc bs ≡ true → shape_len shape.HeredocLine Begin bs ≡ None → nowdoc_len bs ≡ Some n → scan V74 code (60 ∷ 60 ∷ 60 ∷ bs) ≡ found Text (3 + n)
+plain_scan : (bs : List ℕ) (n : ℕ) → begins_nowdoc bs ≡ true → shape_len shape.HeredocLine Begin bs ≡ None
+    → nowdoc_len bs ≡ Some n → scan V74 code (60 ∷ 60 ∷ 60 ∷ bs) ≡ found Text (3 + n)
 plain_scan bs n h e k = rw (k, e, h) refl
 
-binary_scan : (b : ℕ) (bs : List ℕ) (n : ℕ) → lower b ≡ 98 → begins_nowdoc bs ≡ true → shape_len shape.HeredocLine Begin bs ≡ None → nowdoc_len bs ≡ Some n → scan V74 code (b ∷ 60 ∷ 60 ∷ 60 ∷ bs) ≡ found Text (4 + n)
+binary_scan : (b : ℕ) (bs : List ℕ) (n : ℕ) → lower b ≡ 98 → begins_nowdoc bs ≡ true
+    → shape_len shape.HeredocLine Begin bs ≡ None → nowdoc_len bs ≡ Some n
+    → scan V74 code (b ∷ 60 ∷ 60 ∷ 60 ∷ bs) ≡ found Text (4 + n)
 binary_scan b bs n is h e k =
     older_scan b (60 ∷ 60 ∷ 60 ∷ bs) (b_hash b is)
     ∙ letter_scan b (60 ∷ 60 ∷ 60 ∷ bs) (b_letter b is)
@@ -52,7 +83,8 @@ pub record Counted (bs : List ℕ) (n : ℕ) : Type 0 where
   pub shape_ : shape_len shape.HeredocLine Begin bs ≡ None
   pub len : nowdoc_len bs ≡ Some n
 
-nowdoc_by : (bs : List ℕ) (h : ℕ) (l u : List ℕ) (n : ℕ) → begins_nowdoc bs ≡ true → nowdoc_head bs ≡ h → nowdoc_label bs ≡ l → drop h bs ≡ u → body_len l false u ≡ Some n → nowdoc_len bs ≡ Some (h + n)
+nowdoc_by : (bs : List ℕ) (h : ℕ) (l u : List ℕ) (n : ℕ) → begins_nowdoc bs ≡ true → nowdoc_head bs ≡ h
+    → nowdoc_label bs ≡ l → drop h bs ≡ u → body_len l false u ≡ Some n → nowdoc_len bs ≡ Some (h + n)
 nowdoc_by bs h l u n begin head label rest body =
     ap (λ (t : Bool). cond t (add_to (nowdoc_head bs) (body_len (nowdoc_label bs) false (drop (nowdoc_head bs) bs))) None) begin
     ∙ ap (λ (i : ℕ). add_to i (body_len (nowdoc_label bs) false (drop i bs))) head
@@ -129,7 +161,8 @@ module _ (x r s : List ℕ) (nowdoc : is_nowdoc x r ≡ true) (stops : no_label 
 
   whole : x ≡ front is.blanks is.label ++ body
   unfolding body
-  whole = begins_front (front is.blanks is.label) x r is.more (is.same ∙ front_line is.blanks is.label is.more) (some_body is.label (drop (length (front is.blanks is.label)) x) r is_body_of)
+  whole = begins_front (front is.blanks is.label) x r is.more (is.same ∙ front_line is.blanks is.label is.more)
+      (some_body is.label (drop (length (front is.blanks is.label)) x) r is_body_of)
 
   over : (t : List ℕ) → x ++ t ≡ line is.blanks is.label (body ++ t)
   over t = ap (λ (u : List ℕ). u ++ t) whole ∙ append_assoc (front is.blanks is.label) body t ∙ sym (front_line is.blanks is.label (body ++ t))
@@ -137,7 +170,9 @@ module _ (x r s : List ℕ) (nowdoc : is_nowdoc x r ≡ true) (stops : no_label 
   more_same : body ++ r ≡ is.more
   more_same =
       sym (drop-append_seam (front is.blanks is.label) (body ++ r))
-      ∙ ap (drop (length (front is.blanks is.label))) (sym (append_assoc (front is.blanks is.label) body r) ∙ ap (λ (u : List ℕ). u ++ r) (sym whole) ∙ is.same ∙ front_line is.blanks is.label is.more)
+      ∙ ap (drop (length (front is.blanks is.label)))
+      (sym (append_assoc (front is.blanks is.label) body r) ∙ ap (λ (u : List ℕ). u ++ r) (sym whole) ∙ is.same
+      ∙ front_line is.blanks is.label is.more)
       ∙ drop-append_seam (front is.blanks is.label) is.more
 
   ends : begins is_line_end (body ++ s) ≡ true
@@ -184,7 +219,9 @@ plain_text b c d x r h =
     (subst (λ (n : ℕ). NowdocText 60 (n ∷ d ∷ x) r) (sym (mark_same 60 c refl two))
     (subst (λ (n : ℕ). NowdocText 60 (60 ∷ n ∷ x) r) (sym (mark_same 60 d refl three)) (plain x r nowdoc)))
 
-binary_text : (b c d e : ℕ) (x r : List ℕ) → (nat_eq 98 (lower b) && (nat_eq 60 (lower c) && (nat_eq 60 (lower d) && (nat_eq 60 (lower e) && is_nowdoc x r)))) ≡ true → NowdocText b (c ∷ d ∷ e ∷ x) r
+binary_text : (b c d e : ℕ) (x r : List ℕ) → (nat_eq 98 (lower b)
+    && (nat_eq 60 (lower c) && (nat_eq 60 (lower d) && (nat_eq 60 (lower e) && is_nowdoc x r)))) ≡ true
+    → NowdocText b (c ∷ d ∷ e ∷ x) r
 binary_text b c d e x r h =
     let (first, h1) = and_parts (nat_eq 98 (lower b)) (nat_eq 60 (lower c) && (nat_eq 60 (lower d) && (nat_eq 60 (lower e) && is_nowdoc x r))) h in
     let (one, h2) = and_parts (nat_eq 60 (lower c)) (nat_eq 60 (lower d) && (nat_eq 60 (lower e) && is_nowdoc x r)) h1 in
@@ -257,7 +294,8 @@ double_b b (c ∷ a) r e h =
     quoted_b b 34 a refl one (subst (λ (n : ℕ). in_quotes b (n ∷ a) ≡ false) (mark_same 34 c refl two) e)
 
 -- one of six rows, of which four are out
-one_row : {A : Type 0} (s t u v w x : Bool) → (s ≡ true → ⊥) → (t ≡ true → ⊥) → (u ≡ true → ⊥) → (v ≡ true → ⊥) → (w ≡ true → A) → (x ≡ true → A) → (s || (t || (u || (v || (w || (x || false)))))) ≡ true → A
+one_row : {A : Type 0} (s t u v w x : Bool) → (s ≡ true → ⊥) → (t ≡ true → ⊥) → (u ≡ true → ⊥) → (v ≡ true → ⊥)
+    → (w ≡ true → A) → (x ≡ true → A) → (s || (t || (u || (v || (w || (x || false)))))) ≡ true → A
 one_row true t u v w x f g i j k l h = absurd (f refl)
 one_row false true u v w x f g i j k l h = absurd (g refl)
 one_row false false true v w x f g i j k l h = absurd (i refl)
@@ -272,7 +310,9 @@ is_text _ = false
 
 pub nowdoc_text : (b : ℕ) (a r : List ℕ) → in_quotes b a ≡ false → IsLongest V74 code (b ∷ a ++ r) Text (suc (length a)) → NowdocText b a r
 nowdoc_text b a r e h =
-    one_row (Meets (codes "'") (UpTo Simple) b a r) (Meets (codes "b'") (UpTo Simple) b a r) (Meets (codes "\"") (UpTo Closed) b a r) (Meets (codes "b\"") (UpTo Closed) b a r) (Meets (codes "<<<") NowdocRest b a r) (Meets (codes "b<<<") NowdocRest b a r)
+    one_row (Meets (codes "'") (UpTo Simple) b a r) (Meets (codes "b'") (UpTo Simple) b a r)
+    (Meets (codes "\"") (UpTo Closed) b a r) (Meets (codes "b\"") (UpTo Closed) b a r)
+    (Meets (codes "<<<") NowdocRest b a r) (Meets (codes "b<<<") NowdocRest b a r)
     (simple_case b a r e) (simple_b b a r e) (double_case b a r e) (double_b b a r e) (plain_case b a r) (binary_case b a r)
     (longest_meets is_text V74 code (b ∷ a) r Text refl h)
 
@@ -289,7 +329,8 @@ text_stays (plain x r h) s stops =
 text_stays (binary b x r low h) s stops =
     let is = counted x r s h stops in
     let size : 4 + length x ≡ suc (suc (suc (suc (length x)))) = omega arith in
-    longest_of V74 code (b ∷ 60 ∷ 60 ∷ 60 ∷ x ++ s) Text (suc (suc (suc (suc (length x))))) (binary_scan b (x ++ s) (length x) low is.begins_ is.shape_ is.len ∙ ap (found Text) size)
+    longest_of V74 code (b ∷ 60 ∷ 60 ∷ 60 ∷ x ++ s) Text (suc (suc (suc (suc (length x)))))
+    (binary_scan b (x ++ s) (length x) low is.begins_ is.shape_ is.len ∙ ap (found Text) size)
 
 pub nowdocs_stay : NowdocsStay
 nowdocs_stay b a r s e stops h = text_stays (nowdoc_text b a r e h) s stops

@@ -9,7 +9,23 @@ use Rattle.php_relexing.specs.Pieces.{ends_dollar, escape_last}
 use Rattle.php_relexing.proofs.Bools.{and_false}
 use Rattle.written_tokens.specs.tiles.Goes.{Goes, same, brace, escaped, is_trivia}
 use Rattle.written_tokens.specs.tiles.Becomes.{Becomes, gap_behind}
-use Rattle.written_tokens.specs.texts.TextRows.{Key, bare, minus, begins_dollar_brace, begins_var_name, TextRow, quote_end, piece, escaped_piece, variable, with_offset, with_property, curly, dollar_name, dollar_row}
+use Rattle.written_tokens.specs.texts.TextRows.{
+  Key,
+  bare,
+  minus,
+  begins_dollar_brace,
+  begins_var_name,
+  TextRow,
+  quote_end,
+  piece,
+  escaped_piece,
+  variable,
+  with_offset,
+  with_property,
+  curly,
+  dollar_name,
+  dollar_row,
+}
 use Rattle.written_tokens.proofs.texts.QuotedTokens.{is_unit}
 
 -- A quoted text behind its opening token, with the tiles behind it: the source's, and the written ones.
@@ -149,7 +165,9 @@ head_of (by_row {ts} needs stops xs ys h become row) = head_at DollarBrace 36 (1
 untight : (tight gap : Bool) (ts us : List Tile) → Goes false gap ts us → Goes (tight && false) gap ts us
 untight tight gap ts us g = subst (λ (t : Bool). Goes t gap ts us) (sym (and_false tight)) g
 
-key_goes : {ks : List Tile} → Key ks → (tight gap : Bool) (ts us : List Tile) → ((tight gap : Bool) → Goes tight gap ts us) → Goes tight gap (ks ++ tile Op 93 [] ∷ ts) (ks ++ tile Op 93 [] ∷ us)
+key_goes : {ks : List Tile} → Key ks → (tight gap : Bool) (ts us : List Tile)
+    → ((tight gap : Bool) → Goes tight gap ts us) → Goes tight gap (ks ++ tile Op 93 [] ∷ ts)
+    (ks ++ tile Op 93 [] ∷ us)
 key_goes (bare kind b a h) tight gap ts us g = same kind b a (same Op 93 [] (g _ _))
 key_goes (minus kind b a h) tight gap ts us g = same Op 45 [] (same kind b a (same Op 93 [] (g _ _)))
 

@@ -1,5 +1,33 @@
 -- The tokens that open quoted texts, before the written bytes.
-use Rattle.std.proofs.Common.{◌≡◌, ℕ, suc, ◌+◌, Bool, true, false, not, ◌&&◌, ◌||◌, nat_eq, nat_lt, List, [], ◌∷◌, ◌++◌, length, codes, Option, Some, None, refl, sym, ap, ◌∙◌, subst, arith}
+use Rattle.std.proofs.Common.{
+  ◌≡◌,
+  ℕ,
+  suc,
+  ◌+◌,
+  Bool,
+  true,
+  false,
+  not,
+  ◌&&◌,
+  ◌||◌,
+  nat_eq,
+  nat_lt,
+  List,
+  [],
+  ◌∷◌,
+  ◌++◌,
+  length,
+  codes,
+  Option,
+  Some,
+  None,
+  refl,
+  sym,
+  ap,
+  ◌∙◌,
+  subst,
+  arith,
+}
 use Rattle.std.proofs.lemmas.Bool.{and_parts, eqb-true}
 use Rattle.std.proofs.lemmas.Bool.Decides.{nat_tests}
 use Rattle.php_tree.specs.declared.version.Version.TheVariants.{V74}
@@ -93,7 +121,8 @@ closed_end First u h = refl
 closed_end Plain u h = refl
 closed_end Escaped u h = absurd cc
 
-closed_over : (s : State) (x u : List ℕ) → is_run (Body Double) [] s x (34 ∷ u) ≡ true → is_escaped (state_behind Double s x) ≡ false → is_some (until_len Closed s (x ++ 34 ∷ u)) ≡ true
+closed_over : (s : State) (x u : List ℕ) → is_run (Body Double) [] s x (34 ∷ u) ≡ true
+    → is_escaped (state_behind Double s x) ≡ false → is_some (until_len Closed s (x ++ 34 ∷ u)) ≡ true
 closed_over s [] u h e = closed_end s u e
 closed_over First (b ∷ x) u h e =
     let (here, more) = and_parts (in_piece Double [] First b (x ++ 34 ∷ u)) (is_run (Body Double) [] (moved (Body Double) First b) x (34 ∷ u)) h in
@@ -122,7 +151,9 @@ no_quote b a (c ∷ u) h e = by_test (nat_eq c 34) refl
     by_test : (t : Bool) → nat_eq c 34 ≡ t → t ≡ false
     by_test false p = refl
     by_test true p =
-        let here : IsLongest V74 (quoted Double [] false) (b ∷ a ++ 34 ∷ u) Piece (suc (length a)) = subst (λ (x : ℕ). IsLongest V74 (quoted Double [] false) (b ∷ a ++ x ∷ u) Piece (suc (length a))) (eqb-true c 34 p) h in
+        let here : IsLongest V74 (quoted Double [] false) (b ∷ a ++ 34 ∷ u) Piece (suc (length a)) =
+        subst (λ (x : ℕ). IsLongest V74 (quoted Double [] false) (b ∷ a ++ x ∷ u) Piece (suc (length a)))
+        (eqb-true c 34 p) h in
         let clash : true ≡ false = sym (closed_piece b a u here) ∙ subst (λ (x : ℕ). Unclosed (b ∷ a ++ x ∷ u)) (eqb-true c 34 p) e in
         cc
 
@@ -178,11 +209,13 @@ quote_text b a r h =
     case_of b a (nat_eq 34 (lower b) && (is_empty a && true)) (led lower (codes "b\"") (is_tail [] (When Anything)) (b ∷ a) r)
     (plain_case b a) (binary_case b a r) (longest_meets is_quote V74 code (b ∷ a) r Quote refl h)
 
-pub quote_by : (b : ℕ) (a r s : List ℕ) → QuoteText b a → (Unclosed r → Unclosed s) → IsLongest V74 code (b ∷ a ++ r) Quote (suc (length a)) → IsLongest V74 code (b ∷ a ++ s) Quote (suc (length a))
+pub quote_by : (b : ℕ) (a r s : List ℕ) → QuoteText b a → (Unclosed r → Unclosed s)
+    → IsLongest V74 code (b ∷ a ++ r) Quote (suc (length a)) → IsLongest V74 code (b ∷ a ++ s) Quote (suc (length a))
 quote_by b a r s plain f h = quote_of s (f (of_quote r h))
 quote_by b a r s (binary c is) f h = binary_of c s is (f (of_binary c r is h))
 
-pub quote_stays : (b : ℕ) (a : List ℕ) (t : Bool) (r s : List ℕ) → Seam Double [] false t r s → IsLongest V74 code (b ∷ a ++ r) Quote (suc (length a)) → IsLongest V74 code (b ∷ a ++ s) Quote (suc (length a))
+pub quote_stays : (b : ℕ) (a : List ℕ) (t : Bool) (r s : List ℕ) → Seam Double [] false t r s
+    → IsLongest V74 code (b ∷ a ++ r) Quote (suc (length a)) → IsLongest V74 code (b ∷ a ++ s) Quote (suc (length a))
 quote_stays b a t r s seam h = quote_by b a r s (quote_text b a r h) (unclosed seam) h
 
 abbrev is_back : Kind → Bool
@@ -192,7 +225,9 @@ is_back _ = false
 back_is : (s : List ℕ) → IsLongest V74 code (96 ∷ s) Backtick 1
 back_is s = longest_of V74 code (96 ∷ s) Backtick 1 refl
 
-pub back_stays : (b : ℕ) (a : List ℕ) (t : Bool) (r s : List ℕ) → Seam Back [] false t r s → IsLongest V74 code (b ∷ a ++ r) Backtick (suc (length a)) → IsLongest V74 code (b ∷ a ++ s) Backtick (suc (length a))
+pub back_stays : (b : ℕ) (a : List ℕ) (t : Bool) (r s : List ℕ) → Seam Back [] false t r s
+    → IsLongest V74 code (b ∷ a ++ r) Backtick (suc (length a))
+    → IsLongest V74 code (b ∷ a ++ s) Backtick (suc (length a))
 back_stays b a t r s seam h =
     let (first, more) = and_parts (nat_eq 96 (lower b)) (is_empty a && true) (or_none _ (longest_meets is_back V74 code (b ∷ a) r Backtick refl h)) in
     subst (λ (x : ℕ). IsLongest V74 code (x ∷ a ++ s) Backtick (suc (length a))) (sym (mark_same 96 b refl first))

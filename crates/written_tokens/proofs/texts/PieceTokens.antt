@@ -45,20 +45,26 @@ heredoc_state s t l h =
     ap (state_behind Here s) l.same ∙ state_last Here s l.front l.byte in
     whole ∙ at_front (is_line_end l.byte) (state_behind Here s l.front) l.byte (ap is_escaped (sym whole) ∙ h) ∙ ap from_line (sym l.line)
 
-plain_same : (st : State) (fresh : Bool) (c : ℕ) (bs : List ℕ) → is_escaped st ≡ false → (in_piece Double [] st c bs ≡ in_piece Double [] (from_line fresh) c bs) × (in_piece Back [] st c bs ≡ in_piece Back [] (from_line fresh) c bs)
+plain_same : (st : State) (fresh : Bool) (c : ℕ) (bs : List ℕ) → is_escaped st ≡ false
+    → (in_piece Double [] st c bs ≡ in_piece Double [] (from_line fresh) c bs)
+    × (in_piece Back [] st c bs ≡ in_piece Back [] (from_line fresh) c bs)
 plain_same Escaped fresh c bs h = absurd cc
 plain_same First true c bs h = (refl, refl)
 plain_same First false c bs h = (refl, refl)
 plain_same Plain true c bs h = (refl, refl)
 plain_same Plain false c bs h = (refl, refl)
 
-unlabelled : (label : List ℕ) (st : State) (c : ℕ) (bs : List ℕ) → (in_piece Double label st c bs ≡ in_piece Double [] st c bs) × (in_piece Back label st c bs ≡ in_piece Back [] st c bs)
+unlabelled : (label : List ℕ) (st : State) (c : ℕ) (bs : List ℕ)
+    → (in_piece Double label st c bs ≡ in_piece Double [] st c bs)
+    × (in_piece Back label st c bs ≡ in_piece Back [] st c bs)
 unlabelled label First c bs = (refl, refl)
 unlabelled label Plain c bs = (refl, refl)
 unlabelled label Escaped c bs = (refl, refl)
 
 -- behind a piece the state tells no more than whether a line begins
-front_same : (mark : Mark) (label : List ℕ) (s : State) (b : ℕ) (a : List ℕ) (c : ℕ) (bs : List ℕ) → is_escaped (state_behind mark s (b ∷ a)) ≡ false → in_piece mark label (state_behind mark s (b ∷ a)) c bs ≡ in_piece mark label (from_line (ends_line (b ∷ a))) c bs
+front_same : (mark : Mark) (label : List ℕ) (s : State) (b : ℕ) (a : List ℕ) (c : ℕ) (bs : List ℕ)
+    → is_escaped (state_behind mark s (b ∷ a)) ≡ false → in_piece mark label (state_behind mark s (b ∷ a)) c bs ≡
+    in_piece mark label (from_line (ends_line (b ∷ a))) c bs
 front_same Double label s b a c bs h =
     let st = state_behind Double s (b ∷ a) in
     let to = from_line (ends_line (b ∷ a)) in
@@ -74,14 +80,18 @@ none_inside true n h = absurd (omega arith)
 none_inside false n h = refl
 
 -- no piece stands directly behind a piece
-pub two_pieces : (mark : Mark) (label : List ℕ) (fresh : Bool) (b : ℕ) (a : List ℕ) (c : ℕ) (e r : List ℕ) → IsLongest V74 (quoted mark label fresh) (b ∷ a ++ (c ∷ e ++ r)) Piece (suc (length a)) → IsLongest V74 (quoted mark label (ends_line (b ∷ a))) (c ∷ e ++ r) Piece (suc (length e)) → ⊥
+pub two_pieces : (mark : Mark) (label : List ℕ) (fresh : Bool) (b : ℕ) (a : List ℕ) (c : ℕ) (e r : List ℕ)
+    → IsLongest V74 (quoted mark label fresh) (b ∷ a ++ (c ∷ e ++ r)) Piece (suc (length a))
+    → IsLongest V74 (quoted mark label (ends_line (b ∷ a))) (c ∷ e ++ r) Piece (suc (length e)) → ⊥
 two_pieces mark label fresh b a c e r h k =
     let one = piece_of V74 mark label fresh (b ∷ a) (c ∷ e ++ r) h in
     let two = piece_of V74 mark label (ends_line (b ∷ a)) (c ∷ e) r k in
     let st = state_behind mark (from_line fresh) (b ∷ a) in
     let plain = not_escaped mark label st c (e ++ r) one.stops in
     let out : in_piece mark label st c (e ++ r) ≡ false = none_inside (in_piece mark label st c (e ++ r)) (piece_len mark label (moved (Body mark) st c) (e ++ r)) one.stops in
-    let goes : in_piece mark label (from_line (ends_line (b ∷ a))) c (e ++ r) ≡ true = (and_parts (in_piece mark label (from_line (ends_line (b ∷ a))) c (e ++ r)) (is_run (Body mark) label (moved (Body mark) (from_line (ends_line (b ∷ a))) c) e r) two.run).0 in
+    let goes : in_piece mark label (from_line (ends_line (b ∷ a))) c (e ++ r) ≡ true =
+    (and_parts (in_piece mark label (from_line (ends_line (b ∷ a))) c (e ++ r))
+    (is_run (Body mark) label (moved (Body mark) (from_line (ends_line (b ∷ a))) c) e r) two.run).0 in
     let clash : true ≡ false = sym goes ∙ sym (front_same mark label (from_line fresh) b a c (e ++ r) plain) ∙ out in
     cc
 
@@ -105,9 +115,13 @@ bare_run mark label s (b ∷ c ∷ x) r h run =
     let (here, more) = and_parts (in_piece mark label s b (c ∷ x ++ 123 ∷ r)) (is_run (Body mark) label (moved (Body mark) s b) (c ∷ x) (123 ∷ r)) run in
     bare_run mark label (moved (Body mark) s b) (c ∷ x) r (subst (λ (t : Bool). ends_dollar t (c ∷ x) ≡ true) (sym (moved_escaped mark s b)) h) more
 
-pub no_bare : (mark : Mark) (label : List ℕ) (fresh : Bool) (b : ℕ) (a r : List ℕ) → IsLongest V74 (quoted mark label fresh) (b ∷ a ++ 123 ∷ r) Piece (suc (length a)) → ends_dollar false (b ∷ a) ≡ false
+pub no_bare : (mark : Mark) (label : List ℕ) (fresh : Bool) (b : ℕ) (a r : List ℕ)
+    → IsLongest V74 (quoted mark label fresh) (b ∷ a ++ 123 ∷ r) Piece (suc (length a))
+    → ends_dollar false (b ∷ a) ≡ false
 no_bare mark label fresh b a r h = by_test (ends_dollar false (b ∷ a)) refl
   where
     by_test : (t : Bool) → ends_dollar false (b ∷ a) ≡ t → t ≡ false
     by_test false p = refl
-    by_test true p = absurd (bare_run mark label (from_line fresh) (b ∷ a) r (subst (λ (t : Bool). ends_dollar t (b ∷ a) ≡ true) (sym (line_state fresh)) p) (piece_of V74 mark label fresh (b ∷ a) (123 ∷ r) h).run)
+    by_test true p = absurd (bare_run mark label (from_line fresh) (b ∷ a) r
+        (subst (λ (t : Bool). ends_dollar t (b ∷ a) ≡ true) (sym (line_state fresh)) p)
+        (piece_of V74 mark label fresh (b ∷ a) (123 ∷ r) h).run)

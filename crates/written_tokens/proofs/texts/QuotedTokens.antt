@@ -1,5 +1,36 @@
 -- What the tokens of a quoted text are, and what stands behind them.
-use Rattle.std.proofs.Common.{◌≡◌, ℕ, suc, ◌-◌, ◌≤◌, Bool, true, false, cond, ◌&&◌, ◌||◌, nat_eq, List, [], ◌∷◌, ◌++◌, length, take, drop, Option, Some, None, refl, sym, ap, ◌∙◌, subst, append_assoc, slice_index, arith}
+use Rattle.std.proofs.Common.{
+  ◌≡◌,
+  ℕ,
+  suc,
+  ◌-◌,
+  ◌≤◌,
+  Bool,
+  true,
+  false,
+  cond,
+  ◌&&◌,
+  ◌||◌,
+  nat_eq,
+  List,
+  [],
+  ◌∷◌,
+  ◌++◌,
+  length,
+  take,
+  drop,
+  Option,
+  Some,
+  None,
+  refl,
+  sym,
+  ap,
+  ◌∙◌,
+  subst,
+  append_assoc,
+  slice_index,
+  arith,
+}
 use Rattle.std.proofs.lemmas.Bool.{and_parts}
 use Rattle.std.proofs.lemmas.List.{length-append}
 use Rattle.std.proofs.Math.Seq.{take-append_seam, drop-append_seam, get_or-append_seam}
@@ -63,7 +94,8 @@ last_of b a = let (x, e, same) = last_split b a in last_at x e (b ∷ a) same
 length_more : (a : List ℕ) (c : ℕ) → length (a ++ c ∷ []) ≡ suc (length a)
 length_more a c = let l = length-append a (c ∷ []) in omega arith
 
-pub more_none : (m : Mode) (b : ℕ) (a : List ℕ) (c : ℕ) (r : List ℕ) (kind : Kind) → IsLongest V74 m (b ∷ a ++ c ∷ r) kind (suc (length a)) → kind_of V74 m (b ∷ a ++ c ∷ []) r ≡ None
+pub more_none : (m : Mode) (b : ℕ) (a : List ℕ) (c : ℕ) (r : List ℕ) (kind : Kind)
+    → IsLongest V74 m (b ∷ a ++ c ∷ r) kind (suc (length a)) → kind_of V74 m (b ∷ a ++ c ∷ []) r ≡ None
 more_none m b a c r kind h =
     subst (λ (u : List ℕ). kind_of V74 m (b ∷ a ++ c ∷ []) u ≡ None) (drop-append_seam (a ++ c ∷ []) r)
     (subst (λ (u : List ℕ). kind_of V74 m (b ∷ u) (drop (length (a ++ c ∷ [])) ((a ++ c ∷ []) ++ r)) ≡ None) (take-append_seam (a ++ c ∷ []) r)
@@ -120,19 +152,24 @@ abbrev is_variable : Kind → Bool
 is_variable Variable = true
 is_variable _ = false
 
-variable_meets : (mark : Mark) (label : List ℕ) (fresh : Bool) (b : ℕ) (a r : List ℕ) → IsLongest V74 (quoted mark label fresh) (b ∷ a ++ r) Variable (suc (length a)) → (nat_eq 36 (lower b) && some_run Labels label First a r || false) ≡ true
+variable_meets : (mark : Mark) (label : List ℕ) (fresh : Bool) (b : ℕ) (a r : List ℕ)
+    → IsLongest V74 (quoted mark label fresh) (b ∷ a ++ r) Variable (suc (length a))
+    → (nat_eq 36 (lower b) && some_run Labels label First a r || false) ≡ true
 variable_meets Double label fresh b a r h = longest_meets is_variable V74 (quoted Double label fresh) (b ∷ a) r Variable refl h
 variable_meets Back label fresh b a r h = longest_meets is_variable V74 (quoted Back label fresh) (b ∷ a) r Variable refl h
 variable_meets Here label true b a r h = longest_meets is_variable V74 (quoted Here label true) (b ∷ a) r Variable refl h
 variable_meets Here label false b a r h = longest_meets is_variable V74 (quoted Here label false) (b ∷ a) r Variable refl h
 
-variable_ends : (mark : Mark) (label : List ℕ) (fresh : Bool) (b : ℕ) (a r : List ℕ) → nat_eq 36 (lower b) ≡ true → is_label a ≡ true → IsLongest V74 (quoted mark label fresh) (b ∷ a ++ r) Variable (suc (length a)) → begins is_label_byte r ≡ false
+variable_ends : (mark : Mark) (label : List ℕ) (fresh : Bool) (b : ℕ) (a r : List ℕ) → nat_eq 36 (lower b) ≡ true
+    → is_label a ≡ true → IsLongest V74 (quoted mark label fresh) (b ∷ a ++ r) Variable (suc (length a))
+    → begins is_label_byte r ≡ false
 variable_ends mark label fresh b a [] first h l = refl
 variable_ends mark label fresh b a (c ∷ r) first h l =
     let none = (row_none (nat_eq 36 (lower b) && some_run Labels label First (a ++ c ∷ []) r) Variable _ (more_none (quoted mark label fresh) b a c r Variable l)).0 in
     label_stops label a c r h (sym (ap (λ (t : Bool). t && some_run Labels label First (a ++ c ∷ []) r) first) ∙ none)
 
-pub variable_text : (mark : Mark) (label : List ℕ) (fresh : Bool) (b : ℕ) (a r : List ℕ) → IsLongest V74 (quoted mark label fresh) (b ∷ a ++ r) Variable (suc (length a)) → VariableText b a r
+pub variable_text : (mark : Mark) (label : List ℕ) (fresh : Bool) (b : ℕ) (a r : List ℕ)
+    → IsLongest V74 (quoted mark label fresh) (b ∷ a ++ r) Variable (suc (length a)) → VariableText b a r
 variable_text mark label fresh b a r h =
     let (first, more) = and_parts (nat_eq 36 (lower b)) (some_run Labels label First a r) (or_none _ (variable_meets mark label fresh b a r h)) in
     let is = label_of_run label a r more in

@@ -76,7 +76,9 @@ module _ (mark : Mark) (label : List ℕ) (fresh : Bool) (labelled : is_labelled
       let l = last_of b a in
       subst (λ (u : List ℕ). Even (u ++ r) (u ++ s)) (sym l.same) (even_line l.front l.byte r s (line_of (b ∷ a) l h))
 
-  at_label : (r s : List ℕ) → mark ≡ Here → ends_line (b ∷ a) ≡ true → ends_heredoc label s ≡ true → IsLongest V74 (quoted mark label fresh) (b ∷ a ++ r) Piece (suc (length a)) → IsLongest V74 (quoted mark label fresh) (b ∷ a ++ s) Piece (suc (length a))
+  at_label : (r s : List ℕ) → mark ≡ Here → ends_line (b ∷ a) ≡ true → ends_heredoc label s ≡ true
+      → IsLongest V74 (quoted mark label fresh) (b ∷ a ++ r) Piece (suc (length a))
+      → IsLongest V74 (quoted mark label fresh) (b ∷ a ++ s) Piece (suc (length a))
   at_label r s here line ends h =
       let l = last_of b a in
       subst (λ (m : Mark). IsLongest V74 (quoted m label fresh) (b ∷ a ++ s) Piece (suc (length a))) (sym here)
@@ -128,14 +130,16 @@ escaped_feed f b c [] e h k =
     ap (λ (x : ℕ). nat_eq x 10) dollar ∙ ap (begins_by 10) k
 escaped_feed f b c (x ∷ a) e h k = ap (begins_by 10) k
 
-module _ (mark : Mark) (label : List ℕ) (fresh : Bool) (labelled : is_labelled mark label ≡ true) (b c : ℕ) (a e : List ℕ) (bare : ends_dollar false (b ∷ a) ≡ true) (same : escape_last (b ∷ a) ≡ c ∷ e) where
+module _ (mark : Mark) (label : List ℕ) (fresh : Bool) (labelled : is_labelled mark label ≡ true) (b c : ℕ)
+    (a e : List ℕ) (bare : ends_dollar false (b ∷ a) ≡ true) (same : escape_last (b ∷ a) ≡ c ∷ e) where
   pub record EscapedStays (r s : List ℕ) : Type 0 where
     pub longest : IsLongest V74 (quoted mark label fresh) (c ∷ e ++ s) Piece (suc (length e))
     pub even : Even (b ∷ a ++ r) (c ∷ e ++ s)
     pub quote : begins_by 34 r ≡ begins_by 34 s
     pub feed : nat_eq b 10 ≡ nat_eq c 10
 
-  pub escaped_stays : (now : Bool) {t : Bool} {r s : List ℕ} → Seam mark label now t r s → t ≡ true → IsLongest V74 (quoted mark label fresh) (b ∷ a ++ r) Piece (suc (length a)) → EscapedStays r s
+  pub escaped_stays : (now : Bool) {t : Bool} {r s : List ℕ} → Seam mark label now t r s → t ≡ true
+      → IsLongest V74 (quoted mark label fresh) (b ∷ a ++ r) Piece (suc (length a)) → EscapedStays r s
   escaped_stays now (dollar x y r s p q) t h = absurd cc
   escaped_stays now (curly r s p q) t h = absurd cc
   escaped_stays now (curled r s) t h = record {

@@ -25,7 +25,9 @@ first_of (step {stack = k} kind b a ts h p) = record {
 pub first : (k : Stack) (kind : Kind) (b : ℕ) (a : List ℕ) (ts : List Tile) → Steps V74 k (tile kind b a ∷ ts) → First k kind b a ts
 first k kind b a ts h = first_of h
 
-pub step_by : (k : Stack) (kind : Kind) (b : ℕ) (a : List ℕ) (ts : List Tile) → IsLongest V74 k.top (b ∷ a ++ joined ts) kind (suc (length a)) → Steps V74 (turned_by (turn_of V74 k.top kind (b ∷ a) (joined ts)) k) ts → Steps V74 k (tile kind b a ∷ ts)
+pub step_by : (k : Stack) (kind : Kind) (b : ℕ) (a : List ℕ) (ts : List Tile)
+    → IsLongest V74 k.top (b ∷ a ++ joined ts) kind (suc (length a))
+    → Steps V74 (turned_by (turn_of V74 k.top kind (b ∷ a) (joined ts)) k) ts → Steps V74 k (tile kind b a ∷ ts)
 step_by k kind b a ts h p = step kind b a ts h (subst (λ (x : Stack). Steps V74 x ts) (sym (passes_join.turns V74 k kind b a (joined ts))) p)
 
 -- ---- directly behind `${`
@@ -41,7 +43,9 @@ same_turn (enter property under) below depth = refl
 same_turn leave below depth = refl
 
 -- what begins with no name steps on as code
-pub named_steps : (below : List Mode) (depth : ℕ) (kind : Kind) (b : ℕ) (a : List ℕ) (ts : List Tile) → is_var_name kind ≡ false → Steps V74 (stack_of named below depth) (tile kind b a ∷ ts) → Steps V74 (stack_of code below depth) (tile kind b a ∷ ts)
+pub named_steps : (below : List Mode) (depth : ℕ) (kind : Kind) (b : ℕ) (a : List ℕ) (ts : List Tile)
+    → is_var_name kind ≡ false → Steps V74 (stack_of named below depth) (tile kind b a ∷ ts)
+    → Steps V74 (stack_of code below depth) (tile kind b a ∷ ts)
 named_steps below depth kind b a ts h steps =
     let at = first (stack_of named below depth) kind b a ts steps in
     step_by (stack_of code below depth) kind b a ts

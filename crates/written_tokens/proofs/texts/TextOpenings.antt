@@ -2,7 +2,38 @@
 use Rattle.std.proofs.Common.{◌≡◌, ℕ, suc, Bool, true, false, ◌&&◌, List, [], ◌∷◌, ◌++◌, length, refl, sym, subst}
 use Rattle.php_tree.specs.declared.version.Version.TheVariants.{V74}
 use Rattle.php_spellings.specs.declared.table.Kind.{Kind}
-use Rattle.php_spellings.specs.declared.table.Kind.TheVariants.{Space, Comment, Tag, OpenEcho, InlineHtml, Variable, Word, Label, Keyword, Name, Decimal, Octal, Hexadecimal, Binary, Digits, Float, Text, Quote, Backtick, HeredocStart, Cast, Op, AttributeOpen, Semi, Close, Piece, CurlyOpen, DollarBrace, VarName, QuotedEnd}
+use Rattle.php_spellings.specs.declared.table.Kind.TheVariants.{
+  Space,
+  Comment,
+  Tag,
+  OpenEcho,
+  InlineHtml,
+  Variable,
+  Word,
+  Label,
+  Keyword,
+  Name,
+  Decimal,
+  Octal,
+  Hexadecimal,
+  Binary,
+  Digits,
+  Float,
+  Text,
+  Quote,
+  Backtick,
+  HeredocStart,
+  Cast,
+  Op,
+  AttributeOpen,
+  Semi,
+  Close,
+  Piece,
+  CurlyOpen,
+  DollarBrace,
+  VarName,
+  QuotedEnd,
+}
 use Rattle.php_spellings.specs.declared.table.Mark.{Mark}
 use Rattle.php_spellings.specs.declared.table.Mark.TheVariants.{Double, Back, Here}
 use Rattle.php_lexer.specs.Modes.{Mode, code, quoted, Turn, enter, code_turn, label_of, IsLongest}
@@ -29,7 +60,8 @@ pub record Opens (kind : Kind) (b : ℕ) (a : List ℕ) (mark : Mark) (label : L
   pub turn : code_turn kind (b ∷ a) ≡ enter (quoted mark label fresh) code
   pub stops : stops_cast kind ≡ true
   pub labelled : (r : List ℕ) → IsLongest V74 code (b ∷ a ++ r) kind (suc (length a)) → is_labelled mark label ≡ true
-  pub stays : (t : Bool) (r s : List ℕ) → Seam mark label fresh t r s → IsLongest V74 code (b ∷ a ++ r) kind (suc (length a)) → IsLongest V74 code (b ∷ a ++ s) kind (suc (length a))
+  pub stays : (t : Bool) (r s : List ℕ) → Seam mark label fresh t r s
+      → IsLongest V74 code (b ∷ a ++ r) kind (suc (length a)) → IsLongest V74 code (b ∷ a ++ s) kind (suc (length a))
 
 module _ (kind : Kind) (b : ℕ) (a : List ℕ) (mark : Mark) (label : List ℕ) (fresh : Bool) (opens : Opens kind b a mark label fresh) (ts us : List Tile) (row : TextRow ts us) where
   tight_row : (rest after : List Tile) (tight gap : Bool) → Goes (tight && false) (gap_behind gap ts) rest after → Goes false false rest after
@@ -40,23 +72,34 @@ module _ (kind : Kind) (b : ℕ) (a : List ℕ) (mark : Mark) (label : List ℕ)
   loose_row : (rest after : List Tile) (gap : Bool) → Goes false (gap_behind gap ts) rest after → Goes false false rest after
   loose_row rest after gap g = subst (λ (t : Bool). Goes false t rest after) (row_gap row gap) g
 
-  goes : (tight gap : Bool) (rest after : List Tile) → Goes (tight && false) (gap_behind gap (tile kind b a ∷ ts)) rest after → Goes tight gap ((tile kind b a ∷ ts) ++ rest) ((tile kind b a ∷ us) ++ after)
+  goes : (tight gap : Bool) (rest after : List Tile) → Goes (tight && false) (gap_behind gap (tile kind b a ∷ ts))
+      rest after → Goes tight gap ((tile kind b a ∷ ts) ++ rest) ((tile kind b a ∷ us) ++ after)
   goes tight gap rest after g = same kind b a (row_goes (open_row rest after row) (tight_row rest after tight (is_trivia kind) g) _ _)
 
-  inside : (below : List Mode) (depth : ℕ) (x : List Tile) → Steps V74 (turned_by (code_turn kind (b ∷ a)) (stack_of code below depth)) x → Steps V74 (stack_of (quoted mark label fresh) (code ∷ below) (suc depth)) x
+  inside : (below : List Mode) (depth : ℕ) (x : List Tile) → Steps V74
+      (turned_by (code_turn kind (b ∷ a)) (stack_of code below depth)) x
+      → Steps V74 (stack_of (quoted mark label fresh) (code ∷ below) (suc depth)) x
   inside below depth x h = subst (λ (t : Turn). Steps V74 (turned_by t (stack_of code below depth)) x) opens.turn h
 
-  outside : (below : List Mode) (depth : ℕ) (x : List Tile) → Steps V74 (stack_of (quoted mark label fresh) (code ∷ below) (suc depth)) x → Steps V74 (turned_by (code_turn kind (b ∷ a)) (stack_of code below depth)) x
+  outside : (below : List Mode) (depth : ℕ) (x : List Tile) → Steps V74
+      (stack_of (quoted mark label fresh) (code ∷ below) (suc depth)) x
+      → Steps V74 (turned_by (code_turn kind (b ∷ a)) (stack_of code below depth)) x
   outside below depth x h = subst (λ (t : Turn). Steps V74 (turned_by t (stack_of code below depth)) x) (sym opens.turn) h
 
   source : (below : List Mode) (depth : ℕ) (rest : List Tile) → Steps V74 (stack_of code below depth) ((tile kind b a ∷ ts) ++ rest) → Steps V74 (stack_of code below depth) rest
   source below depth rest h =
       row_leaves rest [] (open_row rest [] row) mark label fresh below depth (inside below depth (ts ++ rest) (first (stack_of code below depth) kind b a (ts ++ rest) h).more)
 
-  written : (gap : Bool) (below over : List Mode) (depth deep : ℕ) (rest after : List Tile) → Goes false (gap_behind gap (tile kind b a ∷ ts)) rest after → Steps V74 (stack_of code below depth) ((tile kind b a ∷ ts) ++ rest) → Steps V74 (stack_of code over deep) after → Steps V74 (stack_of code over deep) ((tile kind b a ∷ us) ++ after)
+  written : (gap : Bool) (below over : List Mode) (depth deep : ℕ) (rest after : List Tile)
+      → Goes false (gap_behind gap (tile kind b a ∷ ts)) rest after
+      → Steps V74 (stack_of code below depth) ((tile kind b a ∷ ts) ++ rest)
+      → Steps V74 (stack_of code over deep) after → Steps V74 (stack_of code over deep)
+      ((tile kind b a ∷ us) ++ after)
   written gap below over depth deep rest after g h more =
       let at = first (stack_of code below depth) kind b a (ts ++ rest) h in
-      let text = row_written rest after below over depth deep (loose_row rest after (is_trivia kind) g) more (open_row rest after row) mark label fresh (opens.labelled (joined (ts ++ rest)) at.longest) (inside below depth (ts ++ rest) at.more) in
+      let text = row_written rest after below over depth deep (loose_row rest after (is_trivia kind) g) more
+      (open_row rest after row) mark label fresh (opens.labelled (joined (ts ++ rest)) at.longest)
+      (inside below depth (ts ++ rest) at.more) in
       step_by (stack_of code over deep) kind b a (us ++ after)
       (opens.stays (begins_dollar_brace (ts ++ rest)) (joined (ts ++ rest)) (joined (us ++ after)) text.seam at.longest)
       (outside over deep (us ++ after) text.steps)

@@ -38,14 +38,18 @@ In mark label fresh below depth = stack_of (quoted mark label fresh) (code ∷ b
 abbrev Code : Mark → List ℕ → List Mode → ℕ → Stack
 Code mark label below depth = stack_of code (quoted mark label false ∷ code ∷ below) (suc depth)
 
-shut_source : (mark : Mark) (label : List ℕ) (below : List Mode) (depth : ℕ) (ts : List Tile) → Steps V74 (Code mark label below depth) (tile Op 125 [] ∷ ts) → Steps V74 (In mark label false below depth) ts
+shut_source : (mark : Mark) (label : List ℕ) (below : List Mode) (depth : ℕ) (ts : List Tile)
+    → Steps V74 (Code mark label below depth) (tile Op 125 [] ∷ ts) → Steps V74 (In mark label false below depth) ts
 shut_source mark label below depth ts h = (first (Code mark label below depth) Op 125 [] ts h).more
 
-shut_written : (mark : Mark) (label : List ℕ) (over : List Mode) (deep : ℕ) (us : List Tile) → Steps V74 (In mark label false over deep) us → Steps V74 (Code mark label over deep) (tile Op 125 [] ∷ us)
+shut_written : (mark : Mark) (label : List ℕ) (over : List Mode) (deep : ℕ) (us : List Tile)
+    → Steps V74 (In mark label false over deep) us → Steps V74 (Code mark label over deep) (tile Op 125 [] ∷ us)
 shut_written mark label over deep us h = step_by (Code mark label over deep) Op 125 [] us (marks_are_tokens.end_brace V74 (joined us)) h
 
 -- code that one `}` closes in the source, and two of them in the written text
-deeper_written : (mark : Mark) (label : List ℕ) (over : List Mode) (deep : ℕ) (us : List Tile) → Steps V74 (In mark label false over deep) us → Steps V74 (stack_of code (code ∷ quoted mark label false ∷ code ∷ over) (suc deep)) (tile Op 125 [] ∷ tile Op 125 [] ∷ us)
+deeper_written : (mark : Mark) (label : List ℕ) (over : List Mode) (deep : ℕ) (us : List Tile)
+    → Steps V74 (In mark label false over deep) us → Steps V74
+    (stack_of code (code ∷ quoted mark label false ∷ code ∷ over) (suc deep)) (tile Op 125 [] ∷ tile Op 125 [] ∷ us)
 deeper_written mark label over deep us h =
     step_by (stack_of code (code ∷ quoted mark label false ∷ code ∷ over) (suc deep)) Op 125 [] (tile Op 125 [] ∷ us) (marks_are_tokens.end_brace V74 (125 ∷ joined us))
     (shut_written mark label over deep us h)
@@ -74,14 +78,18 @@ not_name VarName b a xs h = absurd cc
 not_name _ b a xs h = refl
 
 -- a row directly behind `${` steps on as code
-row_source : (below : List Mode) (depth : ℕ) (xs ts : List Tile) → begins_var_name xs ≡ false → Steps V74 (stack_of named below depth) (xs ++ tile Op 125 [] ∷ ts) → Steps V74 (stack_of code below depth) (xs ++ tile Op 125 [] ∷ ts)
+row_source : (below : List Mode) (depth : ℕ) (xs ts : List Tile) → begins_var_name xs ≡ false
+    → Steps V74 (stack_of named below depth) (xs ++ tile Op 125 [] ∷ ts)
+    → Steps V74 (stack_of code below depth) (xs ++ tile Op 125 [] ∷ ts)
 row_source below depth [] ts h steps = named_steps below depth Op 125 [] ts refl steps
 row_source below depth (tile kind b a ∷ xs) ts h steps = named_steps below depth kind b a (xs ++ tile Op 125 [] ∷ ts) (not_name kind b a xs h) steps
 
 -- ---- the source
 
 module _ (rest after : List Tile) where
-  pub row_leaves : {ts us : List Tile} → OpenRow rest after ts us → (mark : Mark) (label : List ℕ) (fresh : Bool) (below : List Mode) (depth : ℕ) → Steps V74 (In mark label fresh below depth) ts → Steps V74 (stack_of code below depth) rest
+  pub row_leaves : {ts us : List Tile} → OpenRow rest after ts us
+      → (mark : Mark) (label : List ℕ) (fresh : Bool) (below : List Mode) (depth : ℕ)
+      → Steps V74 (In mark label fresh below depth) ts → Steps V74 (stack_of code below depth) rest
   row_leaves (ends b a) mark label fresh below depth h = (first (In mark label fresh below depth) QuotedEnd b a rest h).more
   row_leaves (kept {ts} b a bare row) mark label fresh below depth h =
       row_leaves row mark label (ends_line (b ∷ a)) below depth (first (In mark label fresh below depth) Piece b a ts h).more
@@ -128,16 +136,25 @@ dollar_seam mark label fresh b (c ∷ l) r s t text =
 
 module _ (rest after : List Tile) (below over : List Mode) (depth deep : ℕ) (go : Goes false false rest after) (more : Steps V74 (stack_of code over deep) after) where
   -- the closing token
-  ending : (mark : Mark) (label : List ℕ) (fresh : Bool) → is_labelled mark label ≡ true → (b : ℕ) (a : List ℕ) → IsLongest V74 (quoted mark label fresh) (b ∷ a ++ joined rest) QuotedEnd (suc (length a)) → IsLongest V74 (quoted mark label fresh) (b ∷ a ++ joined after) QuotedEnd (suc (length a)) × Seam mark label fresh false (b ∷ a ++ joined rest) (b ∷ a ++ joined after)
+  ending : (mark : Mark) (label : List ℕ) (fresh : Bool) → is_labelled mark label ≡ true → (b : ℕ) (a : List ℕ)
+      → IsLongest V74 (quoted mark label fresh) (b ∷ a ++ joined rest) QuotedEnd (suc (length a))
+      → IsLongest V74 (quoted mark label fresh) (b ∷ a ++ joined after) QuotedEnd (suc (length a))
+      × Seam mark label fresh false (b ∷ a ++ joined rest) (b ∷ a ++ joined after)
   ending Double label fresh labelled b a h =
       let is = double_end label fresh b a (joined rest) h in
-      subst (λ (x : ℕ). IsLongest V74 (quoted Double label fresh) (x ∷ a ++ joined after) QuotedEnd (suc (length a)) × Seam Double label fresh false (x ∷ a ++ joined rest) (x ∷ a ++ joined after)) (sym is.byte)
-      (subst (λ (u : List ℕ). IsLongest V74 (quoted Double label fresh) (34 ∷ u ++ joined after) QuotedEnd (suc (length u)) × Seam Double label fresh false (34 ∷ u ++ joined rest) (34 ∷ u ++ joined after)) (sym is.empty)
+      subst (λ (x : ℕ). IsLongest V74 (quoted Double label fresh) (x ∷ a ++ joined after) QuotedEnd (suc (length a))
+      × Seam Double label fresh false (x ∷ a ++ joined rest) (x ∷ a ++ joined after)) (sym is.byte)
+      (subst (λ (u : List ℕ). IsLongest V74 (quoted Double label fresh) (34 ∷ u ++ joined after) QuotedEnd
+      (suc (length u)) × Seam Double label fresh false (34 ∷ u ++ joined rest) (34 ∷ u ++ joined after))
+      (sym is.empty)
       (braces_open.double V74 label fresh (joined after), seams.closed (joined rest) (joined after) refl))
   ending Back label fresh labelled b a h =
       let is = back_end label fresh b a (joined rest) h in
-      subst (λ (x : ℕ). IsLongest V74 (quoted Back label fresh) (x ∷ a ++ joined after) QuotedEnd (suc (length a)) × Seam Back label fresh false (x ∷ a ++ joined rest) (x ∷ a ++ joined after)) (sym is.byte)
-      (subst (λ (u : List ℕ). IsLongest V74 (quoted Back label fresh) (96 ∷ u ++ joined after) QuotedEnd (suc (length u)) × Seam Back label fresh false (96 ∷ u ++ joined rest) (96 ∷ u ++ joined after)) (sym is.empty)
+      subst (λ (x : ℕ). IsLongest V74 (quoted Back label fresh) (x ∷ a ++ joined after) QuotedEnd (suc (length a))
+      × Seam Back label fresh false (x ∷ a ++ joined rest) (x ∷ a ++ joined after)) (sym is.byte)
+      (subst (λ (u : List ℕ). IsLongest V74 (quoted Back label fresh) (96 ∷ u ++ joined after) QuotedEnd
+      (suc (length u)) × Seam Back label fresh false (96 ∷ u ++ joined rest) (96 ∷ u ++ joined after))
+      (sym is.empty)
       (braces_open.back V74 label fresh (joined after), seams.closed (joined rest) (joined after) refl))
   ending Here label false labelled b a h = absurd (no_end label b a (joined rest) h)
   ending Here label true labelled b a h =
@@ -145,7 +162,9 @@ module _ (rest after : List Tile) (below over : List Mode) (depth deep : ℕ) (g
       let there = heredoc_ends_stay V74 V74 label (b ∷ a) (joined rest) (joined after) labelled stops h in
       (there, seams.label_ends b a (joined rest) (joined after) refl refl (heredoc_end label b a (joined after) there).line)
 
-  pub row_written : {ts us : List Tile} → OpenRow rest after ts us → (mark : Mark) (label : List ℕ) (fresh : Bool) → is_labelled mark label ≡ true → Steps V74 (In mark label fresh below depth) ts → Written mark label fresh over deep ts us
+  pub row_written : {ts us : List Tile} → OpenRow rest after ts us → (mark : Mark) (label : List ℕ) (fresh : Bool)
+      → is_labelled mark label ≡ true → Steps V74 (In mark label fresh below depth) ts
+      → Written mark label fresh over deep ts us
   row_written (ends b a) mark label fresh labelled h =
       let at = ending mark label fresh labelled b a (first (In mark label fresh below depth) QuotedEnd b a rest h).longest in
       record { steps = step_by (In mark label fresh over deep) QuotedEnd b a after at.0 more; seam = at.1 }
@@ -162,7 +181,8 @@ module _ (rest after : List Tile) (below over : List Mode) (depth deep : ℕ) (g
       let ih = row_written row mark label (ends_line (b ∷ a)) labelled at.more in
       let is = escaped_stays mark label fresh labelled b c a e bare k (ends_line (b ∷ a)) ih.seam next at.longest in
       record {
-        steps = step_by (In mark label fresh over deep) Piece c e us is.longest (subst (λ (t : Bool). Steps V74 (In mark label t over deep) us) (line_same b a c e bare k) ih.steps);
+        steps = step_by (In mark label fresh over deep) Piece c e us is.longest
+            (subst (λ (t : Bool). Steps V74 (In mark label t over deep) us) (line_same b a c e bare k) ih.steps);
         seam = seams.pieces b c a e (joined ts) (joined us) at.longest is.longest is.even is.quote is.feed;
       }
   row_written (simple {ts} {us} b a row) mark label fresh labelled h =
@@ -199,8 +219,10 @@ module _ (rest after : List Tile) (below over : List Mode) (depth deep : ℕ) (g
       let inner = become.written false low high (suc depth) (suc deep) (tile Op 125 [] ∷ ts) (tile Op 125 [] ∷ us) go_on at.more (shut_written mark label over deep us ih.steps) in
       let begin = first_stays 36 ys (tile Op 125 [] ∷ us) dollar in
       record {
-        steps = step_by (In mark label fresh over deep) CurlyOpen 123 [] (ys ++ tile Op 125 [] ∷ us) (braces_open.curly V74 mark label fresh (joined (ys ++ tile Op 125 [] ∷ us)) labelled begin) inner;
-        seam = seams.curly (joined (xs ++ tile Op 125 [] ∷ ts)) (joined (ys ++ tile Op 125 [] ∷ us)) (curly_next mark label fresh (joined (xs ++ tile Op 125 [] ∷ ts)) at.longest) begin;
+        steps = step_by (In mark label fresh over deep) CurlyOpen 123 [] (ys ++ tile Op 125 [] ∷ us)
+            (braces_open.curly V74 mark label fresh (joined (ys ++ tile Op 125 [] ∷ us)) labelled begin) inner;
+        seam = seams.curly (joined (xs ++ tile Op 125 [] ∷ ts)) (joined (ys ++ tile Op 125 [] ∷ us))
+            (curly_next mark label fresh (joined (xs ++ tile Op 125 [] ∷ ts)) at.longest) begin;
       }
   row_written (by_name {ts} {us} needs stops b a xs ys become row) mark label fresh labelled h =
       let low = quoted mark label false ∷ code ∷ below in
@@ -210,12 +232,18 @@ module _ (rest after : List Tile) (below over : List Mode) (depth deep : ℕ) (g
       let at = first (In mark label fresh below depth) DollarBrace 36 (123 ∷ []) (tile VarName b a ∷ old) h in
       let name = first (stack_of named low (suc depth)) VarName b a old at.more in
       let ih = row_written row mark label false labelled (shut_source mark label below depth ts (become.source low (suc depth) (tile Op 125 [] ∷ ts) name.more)) in
-      let inner = become.written false low high (suc depth) (suc deep) (tile Op 125 [] ∷ ts) (tile Op 125 [] ∷ us) (same Op 125 [] (row_goes row go _ _)) name.more (shut_written mark label over deep us ih.steps) in
-      let stop = goes_no_label (become.goes false false (tile Op 125 [] ∷ ts) (tile Op 125 [] ∷ us) (same Op 125 [] (row_goes row go _ _))) (no_label_is (joined old) (name_ends b a (joined old) name.longest)) in
+      let inner = become.written false low high (suc depth) (suc deep) (tile Op 125 [] ∷ ts) (tile Op 125 [] ∷ us)
+      (same Op 125 [] (row_goes row go _ _)) name.more (shut_written mark label over deep us ih.steps) in
+      let stop = goes_no_label (become.goes false false (tile Op 125 [] ∷ ts) (tile Op 125 [] ∷ us)
+      (same Op 125 [] (row_goes row go _ _))) (no_label_is (joined old) (name_ends b a (joined old) name.longest))
+      in
       record {
         steps =
-            step_by (In mark label fresh over deep) CurlyOpen 123 [] (tile Variable 36 (b ∷ a) ∷ new) (braces_open.curly V74 mark label fresh (joined (tile Variable 36 (b ∷ a) ∷ new)) labelled refl)
-            (step_by (Code mark label over deep) Variable 36 (b ∷ a) new (variables_are_tokens V74 (b ∷ a) (joined new) (named_is_code.name V74 (b ∷ a) (joined old) name.longest) (label_not (joined new) stop)) inner);
+            step_by (In mark label fresh over deep) CurlyOpen 123 [] (tile Variable 36 (b ∷ a) ∷ new)
+            (braces_open.curly V74 mark label fresh (joined (tile Variable 36 (b ∷ a) ∷ new)) labelled refl)
+            (step_by (Code mark label over deep) Variable 36 (b ∷ a) new
+            (variables_are_tokens V74 (b ∷ a) (joined new)
+            (named_is_code.name V74 (b ∷ a) (joined old) name.longest) (label_not (joined new) stop)) inner);
         seam = seams.curled (joined (tile VarName b a ∷ old)) (b ∷ a ++ joined new);
       }
   row_written (by_row {ts} {us} needs stops xs ys none become row) mark label fresh labelled h =
@@ -227,10 +255,12 @@ module _ (rest after : List Tile) (below over : List Mode) (depth deep : ℕ) (g
       let code_steps = row_source low (suc depth) xs ts none at.more in
       let ih = row_written row mark label false labelled (shut_source mark label below depth ts (become.source low (suc depth) (tile Op 125 [] ∷ ts) code_steps)) in
       let go_on = same Op 125 [] (put Op 125 [] refl refl) in
-      let inner = become.written false low high (suc depth) (suc deep) (tile Op 125 [] ∷ ts) (tile Op 125 [] ∷ tile Op 125 [] ∷ us) go_on code_steps (deeper_written mark label over deep us ih.steps) in
+      let inner = become.written false low high (suc depth) (suc deep) (tile Op 125 [] ∷ ts)
+      (tile Op 125 [] ∷ tile Op 125 [] ∷ us) go_on code_steps (deeper_written mark label over deep us ih.steps) in
       record {
         steps =
-            step_by (In mark label fresh over deep) CurlyOpen 123 [] (tile Op 36 [] ∷ tile Op 123 [] ∷ new) (braces_open.curly V74 mark label fresh (36 ∷ 123 ∷ joined new) labelled refl)
+            step_by (In mark label fresh over deep) CurlyOpen 123 [] (tile Op 36 [] ∷ tile Op 123 [] ∷ new)
+            (braces_open.curly V74 mark label fresh (36 ∷ 123 ∷ joined new) labelled refl)
             (step_by (Code mark label over deep) Op 36 [] (tile Op 123 [] ∷ new) (marks_are_tokens.dollar V74 (joined new))
             (step_by (Code mark label over deep) Op 123 [] new (marks_are_tokens.brace V74 (joined new)) inner));
         seam = seams.curled (joined old) (123 ∷ joined new);

@@ -2,7 +2,38 @@
 use Rattle.std.proofs.Common.{◌≡◌, ℕ, suc, Bool, true, false, cond, List, [], ◌∷◌, ◌++◌, length, refl, sym, ◌∙◌, subst}
 use Rattle.php_tree.specs.declared.version.Version.TheVariants.{V74}
 use Rattle.php_spellings.specs.declared.table.Kind.{Kind}
-use Rattle.php_spellings.specs.declared.table.Kind.TheVariants.{Space, Comment, Tag, OpenEcho, InlineHtml, Variable, Word, Label, Keyword, Name, Decimal, Octal, Hexadecimal, Binary, Digits, Float, Text, Quote, Backtick, HeredocStart, Cast, Op, AttributeOpen, Semi, Close, Piece, CurlyOpen, DollarBrace, VarName, QuotedEnd}
+use Rattle.php_spellings.specs.declared.table.Kind.TheVariants.{
+  Space,
+  Comment,
+  Tag,
+  OpenEcho,
+  InlineHtml,
+  Variable,
+  Word,
+  Label,
+  Keyword,
+  Name,
+  Decimal,
+  Octal,
+  Hexadecimal,
+  Binary,
+  Digits,
+  Float,
+  Text,
+  Quote,
+  Backtick,
+  HeredocStart,
+  Cast,
+  Op,
+  AttributeOpen,
+  Semi,
+  Close,
+  Piece,
+  CurlyOpen,
+  DollarBrace,
+  VarName,
+  QuotedEnd,
+}
 use Rattle.php_spellings.specs.declared.table.Mark.{Mark}
 use Rattle.php_spellings.specs.Bytes.{is_letter, begins_by}
 use Rattle.php_lexer.specs.Modes.{Mode, quoted, offset, property, Turn, stay, enter, begins_arrow, part_turn, turn_of, IsLongest}
@@ -33,7 +64,9 @@ module _ (m : Mode) (k : Stack) (kind : Kind) (b : ℕ) (a : List ℕ) (ts : Lis
   no_arrow stack top h =
       no_property kind b a (joined ts) unit (subst (λ (n : Mode). IsLongest V74 n (b ∷ a ++ joined ts) kind (suc (length a))) (sym top) (first stack kind b a ts h).longest)
 
-  turn_by : (t u : Bool) → begins_by 91 (b ∷ a ++ joined ts) ≡ t → Steps V74 (turned_by (cond t (enter offset m) (cond u (enter property m) (stay m))) k) (tile kind b a ∷ ts) → cond t (enter offset m) (cond u (enter property m) (stay m)) ≡ stay m
+  turn_by : (t u : Bool) → begins_by 91 (b ∷ a ++ joined ts) ≡ t
+      → Steps V74 (turned_by (cond t (enter offset m) (cond u (enter property m) (stay m))) k) (tile kind b a ∷ ts)
+      → cond t (enter offset m) (cond u (enter property m) (stay m)) ≡ stay m
   turn_by true u e h = absurd (no_square (turned_by (enter offset m) k) refl e h)
   turn_by false true e h = absurd (no_arrow (turned_by (enter property m) k) refl h)
   turn_by false false e h = refl
@@ -61,7 +94,8 @@ module _ (mark : Mark) (label : List ℕ) (fresh : Bool) where
     pub turn : part_turn V74 (quoted mark label false) (joined ts) ≡ stay (quoted mark label false)
     pub more : Steps V74 (Next below depth) ts
 
-  pub alone_source : (below : List Mode) (depth : ℕ) (b : ℕ) (a : List ℕ) (ts : List Tile) → Head ts → Steps V74 (In below depth) (tile Variable b a ∷ ts) → Alone below depth b a ts
+  pub alone_source : (below : List Mode) (depth : ℕ) (b : ℕ) (a : List ℕ) (ts : List Tile) → Head ts
+      → Steps V74 (In below depth) (tile Variable b a ∷ ts) → Alone below depth b a ts
   alone_source below depth b a ts head h =
       let at = first (In below depth) Variable b a ts h in
       let turn = alone (quoted mark label false) (In below depth) ts head at.more in
@@ -72,10 +106,13 @@ module _ (mark : Mark) (label : List ℕ) (fresh : Bool) where
       }
 
   -- and what is written there
-  pub alone_written : is_labelled mark label ≡ true → (below over : List Mode) (depth deep : ℕ) (b : ℕ) (a : List ℕ) (ts us : List Tile) → Alone below depth b a ts → Even (joined ts) (joined us) → Steps V74 (Next over deep) us → Steps V74 (In over deep) (tile Variable b a ∷ us)
+  pub alone_written : is_labelled mark label ≡ true → (below over : List Mode) (depth deep : ℕ) (b : ℕ) (a : List ℕ)
+      (ts us : List Tile) → Alone below depth b a ts → Even (joined ts) (joined us) → Steps V74 (Next over deep) us
+      → Steps V74 (In over deep) (tile Variable b a ∷ us)
   alone_written labelled below over depth deep b a ts us source even written =
       let text = variable_text mark label fresh b a (joined ts) source.longest in
-      let turn : part_turn V74 (quoted mark label false) (joined us) ≡ stay (quoted mark label false) = sym (even_turn (quoted mark label false) (joined ts) (joined us) even) ∙ source.turn in
+      let turn : part_turn V74 (quoted mark label false) (joined us) ≡ stay (quoted mark label false) =
+      sym (even_turn (quoted mark label false) (joined ts) (joined us) even) ∙ source.turn in
       step_by (In over deep) Variable b a us
       (text_variables_stay V74 V74 mark label fresh b a (joined ts) (joined us) labelled (sym (even_label even) ∙ text.ends) source.longest)
       (subst (λ (t : Turn). Steps V74 (turned_by t (In over deep)) us) (sym turn) written)
@@ -124,22 +161,29 @@ module _ (m : Mode) where
   shut_written : (over : List Mode) (deep : ℕ) (us : List Tile) → Steps V74 (stack_of m over deep) us → Steps V74 (Off over deep) (tile Op 93 [] ∷ us)
   shut_written over deep us h = step_by (Off over deep) Op 93 [] us (simple_parts_stay.ending V74 (joined us)) h
 
-  bare_source : (below : List Mode) (depth : ℕ) (kind : Kind) (b : ℕ) (a : List ℕ) (ts : List Tile) → is_op kind ≡ false → Steps V74 (Off below depth) (tile kind b a ∷ tile Op 93 [] ∷ ts) → Steps V74 (stack_of m below depth) ts
+  bare_source : (below : List Mode) (depth : ℕ) (kind : Kind) (b : ℕ) (a : List ℕ) (ts : List Tile)
+      → is_op kind ≡ false → Steps V74 (Off below depth) (tile kind b a ∷ tile Op 93 [] ∷ ts)
+      → Steps V74 (stack_of m below depth) ts
   bare_source below depth kind b a ts k h =
       let at = first (Off below depth) kind b a (tile Op 93 [] ∷ ts) h in
       shut_source below depth ts (subst (λ (t : Turn). Steps V74 (turned_by t (Off below depth)) (tile Op 93 [] ∷ ts)) (stays_in kind (b ∷ a) (93 ∷ joined ts) k) at.more)
 
-  bare_written : (below over : List Mode) (depth deep : ℕ) (kind : Kind) (b : ℕ) (a : List ℕ) (ts us : List Tile) → is_op kind ≡ false → Steps V74 (Off below depth) (tile kind b a ∷ tile Op 93 [] ∷ ts) → Steps V74 (stack_of m over deep) us → Steps V74 (Off over deep) (tile kind b a ∷ tile Op 93 [] ∷ us)
+  bare_written : (below over : List Mode) (depth deep : ℕ) (kind : Kind) (b : ℕ) (a : List ℕ) (ts us : List Tile)
+      → is_op kind ≡ false → Steps V74 (Off below depth) (tile kind b a ∷ tile Op 93 [] ∷ ts)
+      → Steps V74 (stack_of m over deep) us → Steps V74 (Off over deep) (tile kind b a ∷ tile Op 93 [] ∷ us)
   bare_written below over depth deep kind b a ts us k h written =
       let at = first (Off below depth) kind b a (tile Op 93 [] ∷ ts) h in
       step_by (Off over deep) kind b a (tile Op 93 [] ∷ us) (offsets_stay V74 V74 kind b a (joined ts) (joined us) at.longest)
       (subst (λ (t : Turn). Steps V74 (turned_by t (Off over deep)) (tile Op 93 [] ∷ us)) (sym (stays_in kind (b ∷ a) (93 ∷ joined us) k)) (shut_written over deep us written))
 
-  key_source : {ks : List Tile} → Key ks → (below : List Mode) (depth : ℕ) (ts : List Tile) → Steps V74 (Off below depth) (ks ++ tile Op 93 [] ∷ ts) → Steps V74 (stack_of m below depth) ts
+  key_source : {ks : List Tile} → Key ks → (below : List Mode) (depth : ℕ) (ts : List Tile)
+      → Steps V74 (Off below depth) (ks ++ tile Op 93 [] ∷ ts) → Steps V74 (stack_of m below depth) ts
   key_source (bare kind b a k) below depth ts h = bare_source below depth kind b a ts k h
   key_source (minus kind b a k) below depth ts h = bare_source below depth kind b a ts k (first (Off below depth) Op 45 [] (tile kind b a ∷ tile Op 93 [] ∷ ts) h).more
 
-  key_written : {ks : List Tile} → Key ks → (below over : List Mode) (depth deep : ℕ) (ts us : List Tile) → Steps V74 (Off below depth) (ks ++ tile Op 93 [] ∷ ts) → Steps V74 (stack_of m over deep) us → Steps V74 (Off over deep) (ks ++ tile Op 93 [] ∷ us)
+  key_written : {ks : List Tile} → Key ks → (below over : List Mode) (depth deep : ℕ) (ts us : List Tile)
+      → Steps V74 (Off below depth) (ks ++ tile Op 93 [] ∷ ts) → Steps V74 (stack_of m over deep) us
+      → Steps V74 (Off over deep) (ks ++ tile Op 93 [] ∷ us)
   key_written (bare kind b a k) below over depth deep ts us h written = bare_written below over depth deep kind b a ts us k h written
   key_written (minus kind b a k) below over depth deep ts us h written =
       let at = first (Off below depth) Op 45 [] (tile kind b a ∷ tile Op 93 [] ∷ ts) h in
@@ -154,14 +198,21 @@ module _ (mark : Mark) (label : List ℕ) (fresh : Bool) where
   Then below depth = stack_of (quoted mark label false) below depth
 
   -- behind `[` of a simple offset
-  inside : (below : List Mode) (depth : ℕ) (b : ℕ) (a : List ℕ) (ks : List Tile) → Steps V74 (At below depth) (tile Variable b a ∷ tile Op 91 [] ∷ ks) → Steps V74 (Off (quoted mark label false) below depth) ks
+  inside : (below : List Mode) (depth : ℕ) (b : ℕ) (a : List ℕ) (ks : List Tile)
+      → Steps V74 (At below depth) (tile Variable b a ∷ tile Op 91 [] ∷ ks)
+      → Steps V74 (Off (quoted mark label false) below depth) ks
   inside below depth b a ks h =
       (first (Off (quoted mark label false) below depth) Op 91 [] ks (first (At below depth) Variable b a (tile Op 91 [] ∷ ks) h).more).more
 
-  pub offset_source : (below : List Mode) (depth : ℕ) (b : ℕ) (a : List ℕ) (ks ts : List Tile) → Key ks → Steps V74 (At below depth) (tile Variable b a ∷ tile Op 91 [] ∷ ks ++ tile Op 93 [] ∷ ts) → Steps V74 (Then below depth) ts
+  pub offset_source : (below : List Mode) (depth : ℕ) (b : ℕ) (a : List ℕ) (ks ts : List Tile) → Key ks
+      → Steps V74 (At below depth) (tile Variable b a ∷ tile Op 91 [] ∷ ks ++ tile Op 93 [] ∷ ts)
+      → Steps V74 (Then below depth) ts
   offset_source below depth b a ks ts key h = key_source (quoted mark label false) key below depth ts (inside below depth b a (ks ++ tile Op 93 [] ∷ ts) h)
 
-  pub offset_written : is_labelled mark label ≡ true → (below over : List Mode) (depth deep : ℕ) (b : ℕ) (a : List ℕ) (ks ts us : List Tile) → Key ks → Steps V74 (At below depth) (tile Variable b a ∷ tile Op 91 [] ∷ ks ++ tile Op 93 [] ∷ ts) → Steps V74 (Then over deep) us → Steps V74 (At over deep) (tile Variable b a ∷ tile Op 91 [] ∷ ks ++ tile Op 93 [] ∷ us)
+  pub offset_written : is_labelled mark label ≡ true → (below over : List Mode) (depth deep : ℕ) (b : ℕ) (a : List ℕ)
+      (ks ts us : List Tile) → Key ks → Steps V74 (At below depth)
+      (tile Variable b a ∷ tile Op 91 [] ∷ ks ++ tile Op 93 [] ∷ ts) → Steps V74 (Then over deep) us
+      → Steps V74 (At over deep) (tile Variable b a ∷ tile Op 91 [] ∷ ks ++ tile Op 93 [] ∷ us)
   offset_written labelled below over depth deep b a ks ts us key h written =
       let m = quoted mark label false in
       let old = tile Op 91 [] ∷ ks ++ tile Op 93 [] ∷ ts in
@@ -187,7 +238,10 @@ module _ (mark : Mark) (label : List ℕ) (fresh : Bool) where
     abbrev Tail : List Tile
     Tail = tile Label c e ∷ ts
 
-    fetched_by : (t : Bool) → is_letter c ≡ t → IsLongest V74 (quoted mark label fresh) (b ∷ a ++ (45 ∷ 62 ∷ c ∷ e ++ joined ts)) Variable (suc (length a)) → Steps V74 (turned_by (cond t (enter property (quoted mark label false)) (stay (quoted mark label false))) (At below depth)) (tile Op 45 (62 ∷ []) ∷ Tail) → Fetched below depth b a c e ts
+    fetched_by : (t : Bool) → is_letter c ≡ t → IsLongest V74 (quoted mark label fresh)
+        (b ∷ a ++ (45 ∷ 62 ∷ c ∷ e ++ joined ts)) Variable (suc (length a))
+        → Steps V74 (turned_by (cond t (enter property (quoted mark label false)) (stay (quoted mark label false)))
+        (At below depth)) (tile Op 45 (62 ∷ []) ∷ Tail) → Fetched below depth b a c e ts
     fetched_by false p l h = absurd (no_op mark label false 45 (62 ∷ []) (joined Tail) (first (Then below depth) Op 45 (62 ∷ []) Tail h).longest)
     fetched_by true p l h =
         let arrow = first (Prop below depth) Op 45 (62 ∷ []) Tail h in
@@ -199,7 +253,10 @@ module _ (mark : Mark) (label : List ℕ) (fresh : Bool) where
         let at = first (At below depth) Variable b a (tile Op 45 (62 ∷ []) ∷ Tail) h in
         fetched_by (is_letter c) refl at.longest at.more
 
-  pub fetched_written : is_labelled mark label ≡ true → (below over : List Mode) (depth deep : ℕ) (b : ℕ) (a : List ℕ) (c : ℕ) (e : List ℕ) (ts us : List Tile) → Fetched below depth b a c e ts → Even (joined ts) (joined us) → Steps V74 (Then over deep) us → Steps V74 (At over deep) (tile Variable b a ∷ tile Op 45 (62 ∷ []) ∷ tile Label c e ∷ us)
+  pub fetched_written : is_labelled mark label ≡ true → (below over : List Mode) (depth deep : ℕ) (b : ℕ) (a : List ℕ)
+      (c : ℕ) (e : List ℕ) (ts us : List Tile) → Fetched below depth b a c e ts → Even (joined ts) (joined us)
+      → Steps V74 (Then over deep) us → Steps V74 (At over deep)
+      (tile Variable b a ∷ tile Op 45 (62 ∷ []) ∷ tile Label c e ∷ us)
   fetched_written labelled below over depth deep b a c e ts us source even written =
       let m = quoted mark label false in
       let stops = sym (even_label even) ∙ property_ends c e (joined ts) source.longest in

@@ -35,7 +35,9 @@ Coded (tile kind b a ∷ ts) = IsLongest V74 code (b ∷ a ++ joined ts) kind (s
 no_stop : {A : Type 0} (kind : Kind) → stops_cast kind ≡ true → stops_cast kind ≡ false → A
 no_stop kind h e = absurd (let clash : true ≡ false = sym h ∙ e in cc)
 
-coded_by : (below : List Mode) (depth : ℕ) (kind : Kind) (b : ℕ) (a : List ℕ) (ts : List Tile) → Stand kind → Steps V74 (stack_of code below depth) (tile kind b a ∷ ts) → stops_cast kind ≡ false → Steps V74 (stack_of code below depth) ts
+coded_by : (below : List Mode) (depth : ℕ) (kind : Kind) (b : ℕ) (a : List ℕ) (ts : List Tile) → Stand kind
+    → Steps V74 (stack_of code below depth) (tile kind b a ∷ ts) → stops_cast kind ≡ false
+    → Steps V74 (stack_of code below depth) ts
 coded_by below depth Space b a ts space h e = steps_behind (stack_of code below depth) (stack_of code below depth) Space b a ts refl h
 coded_by below depth Word b a ts word h e = steps_behind (stack_of code below depth) (stack_of code below depth) Word b a ts refl h
 coded_by below depth Keyword b a ts keyword h e = steps_behind (stack_of code below depth) (stack_of code below depth) Keyword b a ts refl h
@@ -121,7 +123,10 @@ y_letter b e = letter_round b (small_letter 121 b refl e)
 plain_end : (b : ℕ) (bs : List ℕ) → is_blank_byte b ≡ false → ends_cast (b ∷ bs) ≡ nat_eq b 41
 plain_end b bs e = rw e refl
 
-ends_by : (kind : Kind) (b : ℕ) (a : List ℕ) (ts : List Tile) → Stand kind → IsLongest V74 code (b ∷ a ++ joined ts) kind (suc (length a)) → (stops_cast kind ≡ false → ends_cast (joined ts) ≡ ends_ahead ts) → ends_cast (b ∷ a ++ joined ts) ≡ ends_ahead (tile kind b a ∷ ts)
+ends_by : (kind : Kind) (b : ℕ) (a : List ℕ) (ts : List Tile) → Stand kind
+    → IsLongest V74 code (b ∷ a ++ joined ts) kind (suc (length a))
+    → (stops_cast kind ≡ false → ends_cast (joined ts) ≡ ends_ahead ts)
+    → ends_cast (b ∷ a ++ joined ts) ≡ ends_ahead (tile kind b a ∷ ts)
 ends_by Space b a ts space l ih = blanks_end (b ∷ a) (joined ts) (space_all b a (joined ts) l) ∙ ap (λ (y : Bool). all_blank (b ∷ a) && y) (ih refl)
 ends_by Word b a ts word l ih = plain_end b (a ++ joined ts) (space_blank b (not_space b a (joined ts) Word refl l)) ∙ letter_round b (word_letter b a (joined ts) l)
 ends_by Keyword b a ts keyword l ih = plain_end b (a ++ joined ts) (space_blank b (not_space b a (joined ts) Keyword refl l)) ∙ y_letter b (keyword_y b a (joined ts) l)
@@ -151,7 +156,8 @@ goes_ends (b ∷ x) h = rw (label_letter b h) refl
 plain_cast : (b : ℕ) (bs : List ℕ) → is_blank_byte b ≡ false → begins_cast (b ∷ bs) ≡ (begins_type (b ∷ bs) && goes_cast bs)
 plain_cast b bs e = rw e refl
 
-word_cast : (b : ℕ) (a x : List ℕ) (t : Bool) → begins_type (b ∷ a) ≡ t → all_label (b ∷ a) ≡ true → begins is_label_byte x ≡ false → (begins_type (b ∷ a ++ x) && goes_cast (a ++ x)) ≡ (t && ends_cast x)
+word_cast : (b : ℕ) (a x : List ℕ) (t : Bool) → begins_type (b ∷ a) ≡ t → all_label (b ∷ a) ≡ true
+    → begins is_label_byte x ≡ false → (begins_type (b ∷ a ++ x) && goes_cast (a ++ x)) ≡ (t && ends_cast x)
 word_cast b a x false e h k = rw (type_same (b ∷ a) x k, e) refl
 word_cast b a x true e h k =
     let letters = (and_parts (is_letter b) (all_letters a) (type_letters (b ∷ a) h e)).1 in
@@ -165,7 +171,10 @@ letter_label b a h =
 no_type_cast : (b : ℕ) (bs : List ℕ) → is_blank_byte b ≡ false → begins_type (b ∷ bs) ≡ false → begins_cast (b ∷ bs) ≡ false
 no_type_cast b bs e f = rw (e, f) refl
 
-cast_by : (kind : Kind) (b : ℕ) (a : List ℕ) (ts : List Tile) → Stand kind → IsLongest V74 code (b ∷ a ++ joined ts) kind (suc (length a)) → (stops_cast kind ≡ false → Coded ts) → (stops_cast kind ≡ false → begins_cast (joined ts) ≡ cast_ahead ts) → begins_cast (b ∷ a ++ joined ts) ≡ cast_ahead (tile kind b a ∷ ts)
+cast_by : (kind : Kind) (b : ℕ) (a : List ℕ) (ts : List Tile) → Stand kind
+    → IsLongest V74 code (b ∷ a ++ joined ts) kind (suc (length a)) → (stops_cast kind ≡ false → Coded ts)
+    → (stops_cast kind ≡ false → begins_cast (joined ts) ≡ cast_ahead ts)
+    → begins_cast (b ∷ a ++ joined ts) ≡ cast_ahead (tile kind b a ∷ ts)
 cast_by Space b a ts space l more ih = blanks_cast (b ∷ a) (joined ts) (space_all b a (joined ts) l) ∙ ap (λ (y : Bool). all_blank (b ∷ a) && y) (ih refl)
 cast_by Word b a ts word l more ih =
     plain_cast b (a ++ joined ts) (space_blank b (not_space b a (joined ts) Word refl l))
@@ -209,7 +218,9 @@ mark_ends kind c e us m h = mark_kind (λ (k : Kind). ends_ahead (tile k c e ∷
 still_tight : (tight : Bool) → tight ≡ true → (tight && not false) ≡ true
 still_tight tight t = rw t refl
 
-ends_same : (tight : Bool) (kind : Kind) (b : ℕ) (a : List ℕ) (ts us : List Tile) → Stand kind → tight ≡ true → ((tight && not (stops_cast kind)) ≡ true → ends_ahead ts ≡ false → ends_ahead us ≡ false) → ends_ahead (tile kind b a ∷ ts) ≡ false → ends_ahead (tile kind b a ∷ us) ≡ false
+ends_same : (tight : Bool) (kind : Kind) (b : ℕ) (a : List ℕ) (ts us : List Tile) → Stand kind → tight ≡ true
+    → ((tight && not (stops_cast kind)) ≡ true → ends_ahead ts ≡ false → ends_ahead us ≡ false)
+    → ends_ahead (tile kind b a ∷ ts) ≡ false → ends_ahead (tile kind b a ∷ us) ≡ false
 ends_same tight Space b a ts us space t ih h = and_same (all_blank (b ∷ a)) (ends_ahead ts) (ends_ahead us) (ih (still_tight tight t)) h
 ends_same tight Word b a ts us word t ih h = refl
 ends_same tight Keyword b a ts us keyword t ih h = refl
@@ -227,7 +238,10 @@ ends_goes (escaped b c a e d l) t h =
 mark_casts : (kind : Kind) (c : ℕ) (e : List ℕ) (us : List Tile) → is_mark kind ≡ true → cast_ahead (tile kind c e ∷ us) ≡ false
 mark_casts kind c e us m = mark_kind (λ (k : Kind). cast_ahead (tile k c e ∷ us) ≡ false) (and_false (begins_type (c ∷ e))) (and_false (begins_type (c ∷ e))) kind m
 
-casts_same : (tight : Bool) (kind : Kind) (b : ℕ) (a : List ℕ) (ts us : List Tile) → Stand kind → tight ≡ true → ((tight && not (stops_cast kind)) ≡ true → (ends_ahead ts ≡ false → ends_ahead us ≡ false) × (cast_ahead ts ≡ false → cast_ahead us ≡ false)) → cast_ahead (tile kind b a ∷ ts) ≡ false → cast_ahead (tile kind b a ∷ us) ≡ false
+casts_same : (tight : Bool) (kind : Kind) (b : ℕ) (a : List ℕ) (ts us : List Tile) → Stand kind → tight ≡ true
+    → ((tight && not (stops_cast kind)) ≡ true → (ends_ahead ts ≡ false → ends_ahead us ≡ false)
+    × (cast_ahead ts ≡ false → cast_ahead us ≡ false)) → cast_ahead (tile kind b a ∷ ts) ≡ false
+    → cast_ahead (tile kind b a ∷ us) ≡ false
 casts_same tight Space b a ts us space t ih h = and_same (all_blank (b ∷ a)) (cast_ahead ts) (cast_ahead us) (ih (still_tight tight t)).1 h
 casts_same tight Word b a ts us word t ih h = and_same (begins_type (b ∷ a)) (ends_ahead ts) (ends_ahead us) (ih (still_tight tight t)).0 h
 casts_same tight Keyword b a ts us keyword t ih h = and_false (begins_type (b ∷ a))
@@ -247,7 +261,9 @@ casts_go (escaped b c a e d l) t h = and_false (begins_type (c ∷ e))
 stop_round : (b : ℕ) → not (nat_eq b 41) ≡ true → nat_eq b 41 ≡ false
 stop_round b h = not_it (nat_eq b 41) h
 
-uncast_ends_by : (kind : Kind) (b : ℕ) (a : List ℕ) (ts rest : List Tile) → Stand kind → (is_uncast ts ≡ true → ends_ahead (ts ++ rest) ≡ false) → is_uncast (tile kind b a ∷ ts) ≡ true → ends_ahead (tile kind b a ∷ ts ++ rest) ≡ false
+uncast_ends_by : (kind : Kind) (b : ℕ) (a : List ℕ) (ts rest : List Tile) → Stand kind
+    → (is_uncast ts ≡ true → ends_ahead (ts ++ rest) ≡ false) → is_uncast (tile kind b a ∷ ts) ≡ true
+    → ends_ahead (tile kind b a ∷ ts ++ rest) ≡ false
 uncast_ends_by Space b a ts rest space ih h = rw (ih h) (and_false (all_blank (b ∷ a)))
 uncast_ends_by Word b a ts rest word ih h = refl
 uncast_ends_by Keyword b a ts rest keyword ih h = refl
@@ -259,7 +275,9 @@ uncast_ends : (ts rest : List Tile) → is_uncast ts ≡ true → ends_ahead (ts
 uncast_ends [] rest h = absurd cc
 uncast_ends (tile kind b a ∷ ts) rest h = uncast_ends_by kind b a ts rest (stand kind) (uncast_ends ts rest) h
 
-uncast_by : (kind : Kind) (b : ℕ) (a : List ℕ) (ts rest : List Tile) → Stand kind → (is_uncast ts ≡ true → cast_ahead (ts ++ rest) ≡ false) → is_uncast (tile kind b a ∷ ts) ≡ true → cast_ahead (tile kind b a ∷ ts ++ rest) ≡ false
+uncast_by : (kind : Kind) (b : ℕ) (a : List ℕ) (ts rest : List Tile) → Stand kind
+    → (is_uncast ts ≡ true → cast_ahead (ts ++ rest) ≡ false) → is_uncast (tile kind b a ∷ ts) ≡ true
+    → cast_ahead (tile kind b a ∷ ts ++ rest) ≡ false
 uncast_by Space b a ts rest space ih h = rw (ih h) (and_false (all_blank (b ∷ a)))
 uncast_by Word b a ts rest word ih h = rw (uncast_ends ts rest h) (and_false (begins_type (b ∷ a)))
 uncast_by Keyword b a ts rest keyword ih h = and_false (begins_type (b ∷ a))

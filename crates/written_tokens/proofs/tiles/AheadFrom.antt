@@ -41,7 +41,10 @@ plain_comes b bs e = rw e refl
 no_from_y : (b : ℕ) (bs : List ℕ) → lower b ≡ 121 → word_alone (codes "from") (b ∷ bs) ≡ false
 no_from_y b bs e = rw e refl
 
-comes_by : (kind : Kind) (b : ℕ) (a : List ℕ) (ts : List Tile) → Stand kind → IsLongest V74 code (b ∷ a ++ joined ts) kind (suc (length a)) → (stops_cast kind ≡ false → comes_from (joined ts) ≡ comes_ahead ts) → comes_from (b ∷ a ++ joined ts) ≡ comes_ahead (tile kind b a ∷ ts)
+comes_by : (kind : Kind) (b : ℕ) (a : List ℕ) (ts : List Tile) → Stand kind
+    → IsLongest V74 code (b ∷ a ++ joined ts) kind (suc (length a))
+    → (stops_cast kind ≡ false → comes_from (joined ts) ≡ comes_ahead ts)
+    → comes_from (b ∷ a ++ joined ts) ≡ comes_ahead (tile kind b a ∷ ts)
 comes_by Space b a ts space l ih = spaces_come (b ∷ a) (joined ts) (space_all b a (joined ts) l) ∙ ih refl
 comes_by Word b a ts word l ih =
     plain_comes b (a ++ joined ts) (not_space b a (joined ts) Word refl l)
@@ -61,7 +64,9 @@ comes_is (tile kind b a ∷ ts) h = comes_by kind b a ts (stand kind) h.0 (λ e.
 mark_comes : (kind : Kind) (c : ℕ) (e : List ℕ) (us : List Tile) → is_mark kind ≡ true → comes_ahead (tile kind c e ∷ us) ≡ false
 mark_comes kind c e us m = mark_kind (λ (k : Kind). comes_ahead (tile k c e ∷ us) ≡ false) refl refl kind m
 
-comes_same : (kind : Kind) (b : ℕ) (a : List ℕ) (ts us : List Tile) → Stand kind → (comes_ahead ts ≡ false → comes_ahead us ≡ false) → comes_ahead (tile kind b a ∷ ts) ≡ false → comes_ahead (tile kind b a ∷ us) ≡ false
+comes_same : (kind : Kind) (b : ℕ) (a : List ℕ) (ts us : List Tile) → Stand kind
+    → (comes_ahead ts ≡ false → comes_ahead us ≡ false) → comes_ahead (tile kind b a ∷ ts) ≡ false
+    → comes_ahead (tile kind b a ∷ us) ≡ false
 comes_same Space b a ts us space ih h = ih h
 comes_same Word b a ts us word ih h = h
 comes_same Keyword b a ts us keyword ih h = refl

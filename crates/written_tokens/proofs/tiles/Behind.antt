@@ -79,7 +79,9 @@ empty_and true [] c = refl
 empty_and true (b ∷ a) c = refl
 empty_and false a c = refl
 
-word_longer : (b c : ℕ) (a r : List ℕ) → is_letter b ≡ true → all_label a ≡ true → is_label_byte c ≡ true → ((is_letter b && is_run Labels [] Plain (a ++ c ∷ []) r) && not ((nat_eq (lower b) 98 && is_empty (a ++ c ∷ [])) && begins_text r)) ≡ true
+word_longer : (b c : ℕ) (a r : List ℕ) → is_letter b ≡ true → all_label a ≡ true → is_label_byte c ≡ true
+    → ((is_letter b && is_run Labels [] Plain (a ++ c ∷ []) r)
+    && not ((nat_eq (lower b) 98 && is_empty (a ++ c ∷ [])) && begins_text r)) ≡ true
 word_longer b c a r h k e = rw (h, run_labels a c r k e, empty_and (nat_eq (lower b) 98) a c) refl
 
 pub word_behind : (b : ℕ) (a r : List ℕ) → IsLongest V74 code (b ∷ a ++ r) Word (suc (length a)) → begins is_label_byte r ≡ false
@@ -160,7 +162,9 @@ alone_ends b (c ∷ d ∷ f ∷ g ∷ t) r h k =
     by_three false false true e f = cc
     by_three false false false e f = cc
 
-plain_ends : (b : ℕ) (t r : List ℕ) → (is_until From Plain t r ≡ true → begins is_label_byte r ≡ false) → (x y : Bool) → word_alone (codes "from") (b ∷ t ++ r) ≡ y → (not (not (x || y)) && is_until From (cond x Plain Escaped) t r) ≡ true → begins is_label_byte r ≡ false
+plain_ends : (b : ℕ) (t r : List ℕ) → (is_until From Plain t r ≡ true → begins is_label_byte r ≡ false) → (x y : Bool)
+    → word_alone (codes "from") (b ∷ t ++ r) ≡ y → (not (not (x || y)) && is_until From (cond x Plain Escaped) t r) ≡
+    true → begins is_label_byte r ≡ false
 plain_ends b t r ih true y e h = ih h
 plain_ends b t r ih false true e h = alone_ends b t r h e
 plain_ends b t r ih false false e h = absurd cc

@@ -1,5 +1,35 @@
 -- What the source's comments of one line and its marks say of the bytes behind them.
-use Rattle.std.proofs.Common.{◌≡◌, ℕ, suc, ◌+◌, Bool, true, false, cond, not, ◌&&◌, ◌||◌, nat_eq, nat_le, nat_lt, List, [], ◌∷◌, ◌++◌, length, drop, Some, None, inl, inr, refl, sym, ◌∙◌, subst, arith}
+use Rattle.std.proofs.Common.{
+  ◌≡◌,
+  ℕ,
+  suc,
+  ◌+◌,
+  Bool,
+  true,
+  false,
+  cond,
+  not,
+  ◌&&◌,
+  ◌||◌,
+  nat_eq,
+  nat_le,
+  nat_lt,
+  List,
+  [],
+  ◌∷◌,
+  ◌++◌,
+  length,
+  drop,
+  Some,
+  None,
+  inl,
+  inr,
+  refl,
+  sym,
+  ◌∙◌,
+  subst,
+  arith,
+}
 use Rattle.std.proofs.lemmas.Bool.{and_parts, eqb-true}
 use Rattle.std.proofs.lemmas.Bool.Decides.{nat_tests}
 use Rattle.php_tree.specs.declared.version.Version.TheVariants.{V74}
@@ -49,7 +79,9 @@ line_ends st (b ∷ a) r h = line_ends Plain a r (step_by (in_line b (a ++ r)) (
 
 hash_ends : (a r : List ℕ) → IsLongest V74 code (35 ∷ a ++ r) Comment (suc (length a)) → stops_line r ≡ true
 hash_ends a r h =
-    let size : 1 + run_len Line [] First (a ++ r) ≡ suc (length a) = found_length Comment Comment (1 + run_len Line [] First (a ++ r)) (suc (length a)) (scan_of V74 code (35 ∷ a ++ r) Comment (suc (length a)) h) in
+    let size : 1 + run_len Line [] First (a ++ r) ≡ suc (length a) =
+    found_length Comment Comment (1 + run_len Line [] First (a ++ r)) (suc (length a))
+    (scan_of V74 code (35 ∷ a ++ r) Comment (suc (length a)) h) in
     line_ends First a r (omega arith)
 
 not_less : (n : ℕ) → nat_lt (2 + n) 1 ≡ false
@@ -60,7 +92,9 @@ slash_scan bs = rw (not_less (run_len Line [] First bs)) refl
 
 slash_line : (a r : List ℕ) → IsLongest V74 code (47 ∷ 47 ∷ a ++ r) Comment (suc (suc (length a))) → stops_line r ≡ true
 slash_line a r h =
-    let size : 2 + run_len Line [] First (a ++ r) ≡ suc (suc (length a)) = found_length Comment Comment (2 + run_len Line [] First (a ++ r)) (suc (suc (length a))) (sym (slash_scan (a ++ r)) ∙ scan_of V74 code (47 ∷ 47 ∷ a ++ r) Comment (suc (suc (length a))) h) in
+    let size : 2 + run_len Line [] First (a ++ r) ≡ suc (suc (length a)) =
+    found_length Comment Comment (2 + run_len Line [] First (a ++ r)) (suc (suc (length a)))
+    (sym (slash_scan (a ++ r)) ∙ scan_of V74 code (47 ∷ 47 ∷ a ++ r) Comment (suc (suc (length a))) h) in
     line_ends First a r (omega arith)
 
 same_byte : (c y : ℕ) → c ≡ y → nat_eq c y ≡ true
@@ -111,7 +145,8 @@ question_behind kind (c ∷ r) h = by_case (nat_eq c 62) refl
         absurd (let none : kind_of V74 code (63 ∷ 62 ∷ []) r ≡ None = longer_none 63 62 [] r kind there in cc)
 
 -- the byte behind isn't this one
-not_next : (y b c : ℕ) (a r : List ℕ) (kind : Kind) → (IsLongest V74 code (b ∷ a ++ y ∷ r) kind (suc (length a)) → ⊥) → IsLongest V74 code (b ∷ a ++ c ∷ r) kind (suc (length a)) → nat_eq c y ≡ false
+not_next : (y b c : ℕ) (a r : List ℕ) (kind : Kind) → (IsLongest V74 code (b ∷ a ++ y ∷ r) kind (suc (length a)) → ⊥)
+    → IsLongest V74 code (b ∷ a ++ c ∷ r) kind (suc (length a)) → nat_eq c y ≡ false
 not_next y b c a r kind f h = by_case (nat_eq c y) refl
   where
     by_case : (x : Bool) → nat_eq c y ≡ x → x ≡ false

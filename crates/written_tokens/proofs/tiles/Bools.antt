@@ -27,7 +27,8 @@ never true x h = absurd cc
 never false x h = absurd cc
 
 -- a disjunction of seven
-pub out_of : (P : Type 0) (a b c d e f g : Bool) → (a ≡ true → P) → (b ≡ true → P) → (c ≡ true → P) → (d ≡ true → P) → (e ≡ true → P) → (f ≡ true → P) → (g ≡ true → P) → (a || b || c || d || e || f || g) ≡ true → P
+pub out_of : (P : Type 0) (a b c d e f g : Bool) → (a ≡ true → P) → (b ≡ true → P) → (c ≡ true → P) → (d ≡ true → P)
+    → (e ≡ true → P) → (f ≡ true → P) → (g ≡ true → P) → (a || b || c || d || e || f || g) ≡ true → P
 out_of P true b c d e f g k l m n o p q h = k refl
 out_of P false true c d e f g k l m n o p q h = l refl
 out_of P false false true d e f g k l m n o p q h = m refl

@@ -31,7 +31,9 @@ token_or false = refl
 
 module _ (needs stops : Bool) (ts us : List Tile) (f : Becomes needs stops code code ts us) where
   -- the source between braces
-  inner_source : (below : List Mode) (depth : ℕ) (rest : List Tile) → Steps V74 (stack_of code below depth) (tile Op 123 [] ∷ ts ++ tile Op 125 [] ∷ rest) → Steps V74 (stack_of code (code ∷ below) depth) (ts ++ tile Op 125 [] ∷ rest)
+  inner_source : (below : List Mode) (depth : ℕ) (rest : List Tile)
+      → Steps V74 (stack_of code below depth) (tile Op 123 [] ∷ ts ++ tile Op 125 [] ∷ rest)
+      → Steps V74 (stack_of code (code ∷ below) depth) (ts ++ tile Op 125 [] ∷ rest)
   inner_source below depth rest h =
       steps_behind (stack_of code below depth) (stack_of code (code ∷ below) depth) Op 123 [] (ts ++ tile Op 125 [] ∷ rest) refl h
 
@@ -43,7 +45,9 @@ module _ (needs stops : Bool) (ts us : List Tile) (f : Becomes needs stops code 
 
   -- ---- braces that stay
 
-  goes_kept : (tight gap : Bool) (rest after : List Tile) → Goes (tight && not true) (gap_behind gap (between 123 125 ts)) rest after → Goes tight gap (between 123 125 ts ++ rest) (between 123 125 us ++ after)
+  goes_kept : (tight gap : Bool) (rest after : List Tile) → Goes (tight && not true)
+      (gap_behind gap (between 123 125 ts)) rest after → Goes tight gap (between 123 125 ts ++ rest)
+      (between 123 125 us ++ after)
   goes_kept tight gap rest after h =
       let last : Goes false false rest after =
       tighter (tight && not true) false (λ e. absurd cc) (subst (λ (x : Bool). Goes (tight && not true) x rest after) (no_gap gap 123 125 ts) h) in
@@ -53,7 +57,10 @@ module _ (needs stops : Bool) (ts us : List Tile) (f : Becomes needs stops code 
       (subst (λ (x : List Tile). Goes tight gap (tile Op 123 [] ∷ ts ++ tile Op 125 [] ∷ rest) x) (sym (between_before 123 125 us after))
       (same Op 123 [] (f.goes (tight && not true) false (tile Op 125 [] ∷ rest) (tile Op 125 [] ∷ after) close)))
 
-  written_kept : (gap : Bool) (below over : List Mode) (depth deep : ℕ) (rest after : List Tile) → Goes false (gap_behind gap (between 123 125 ts)) rest after → Steps V74 (stack_of code below depth) (between 123 125 ts ++ rest) → Steps V74 (stack_of code over deep) after → Steps V74 (stack_of code over deep) (between 123 125 us ++ after)
+  written_kept : (gap : Bool) (below over : List Mode) (depth deep : ℕ) (rest after : List Tile)
+      → Goes false (gap_behind gap (between 123 125 ts)) rest after
+      → Steps V74 (stack_of code below depth) (between 123 125 ts ++ rest) → Steps V74 (stack_of code over deep) after
+      → Steps V74 (stack_of code over deep) (between 123 125 us ++ after)
   written_kept gap below over depth deep rest after h s w =
       let whole = subst (λ (x : List Tile). Steps V74 (stack_of code below depth) x) (between_before 123 125 ts rest) s in
       let last : Goes false false rest after = subst (λ (x : Bool). Goes false x rest after) (no_gap gap 123 125 ts) h in
@@ -64,17 +71,23 @@ module _ (needs stops : Bool) (ts us : List Tile) (f : Becomes needs stops code 
       let inner : Steps V74 (stack_of code (code ∷ over) deep) (us ++ tile Op 125 [] ∷ after) =
       f.written false (code ∷ below) (code ∷ over) depth deep (tile Op 125 [] ∷ rest) (tile Op 125 [] ∷ after) close (inner_source below depth rest whole) shut in
       subst (λ (x : List Tile). Steps V74 (stack_of code over deep) x) (sym (between_before 123 125 us after))
-      (stepped (stack_of code over deep) (stack_of code (code ∷ over) deep) Op 123 [] (us ++ tile Op 125 [] ∷ after) (marks_are_tokens.brace V74 (joined (us ++ tile Op 125 [] ∷ after))) refl inner)
+      (stepped (stack_of code over deep) (stack_of code (code ∷ over) deep) Op 123 [] (us ++ tile Op 125 [] ∷ after)
+      (marks_are_tokens.brace V74 (joined (us ++ tile Op 125 [] ∷ after))) refl inner)
 
   kept : Becomes false true code code (between 123 125 ts) (between 123 125 us)
   kept = record { goes = goes_kept; source = source_so; written = written_kept }
 
   -- ---- braces that become brackets
 
-  goes_squared : (tight gap : Bool) (rest after : List Tile) → Goes (tight && not true) (gap_behind gap (between 123 125 ts)) rest after → Goes tight gap (between 123 125 ts ++ rest) (between 91 93 us ++ after)
+  goes_squared : (tight gap : Bool) (rest after : List Tile)
+      → Goes (tight && not true) (gap_behind gap (between 123 125 ts)) rest after
+      → Goes tight gap (between 123 125 ts ++ rest) (between 91 93 us ++ after)
   goes_squared tight gap rest after h = put Op 91 [] refl (token_or gap)
 
-  written_squared : (gap : Bool) (below over : List Mode) (depth deep : ℕ) (rest after : List Tile) → Goes false (gap_behind gap (between 123 125 ts)) rest after → Steps V74 (stack_of code below depth) (between 123 125 ts ++ rest) → Steps V74 (stack_of code over deep) after → Steps V74 (stack_of code over deep) (between 91 93 us ++ after)
+  written_squared : (gap : Bool) (below over : List Mode) (depth deep : ℕ) (rest after : List Tile)
+      → Goes false (gap_behind gap (between 123 125 ts)) rest after
+      → Steps V74 (stack_of code below depth) (between 123 125 ts ++ rest) → Steps V74 (stack_of code over deep) after
+      → Steps V74 (stack_of code over deep) (between 91 93 us ++ after)
   written_squared gap below over depth deep rest after h s w =
       let whole = subst (λ (x : List Tile). Steps V74 (stack_of code below depth) x) (between_before 123 125 ts rest) s in
       let close : Goes needs (gap_behind false ts) (tile Op 125 [] ∷ rest) (tile Op 93 [] ∷ after) = put Op 93 [] refl (token_or (gap_behind false ts)) in
@@ -83,7 +96,8 @@ module _ (needs stops : Bool) (ts us : List Tile) (f : Becomes needs stops code 
       let inner : Steps V74 (stack_of code over deep) (us ++ tile Op 93 [] ∷ after) =
       f.written false (code ∷ below) over depth deep (tile Op 125 [] ∷ rest) (tile Op 93 [] ∷ after) close (inner_source below depth rest whole) shut in
       subst (λ (x : List Tile). Steps V74 (stack_of code over deep) x) (sym (between_before 91 93 us after))
-      (stepped (stack_of code over deep) (stack_of code over deep) Op 91 [] (us ++ tile Op 93 [] ∷ after) (marks_are_tokens.square V74 (joined (us ++ tile Op 93 [] ∷ after))) refl inner)
+      (stepped (stack_of code over deep) (stack_of code over deep) Op 91 [] (us ++ tile Op 93 [] ∷ after)
+      (marks_are_tokens.square V74 (joined (us ++ tile Op 93 [] ∷ after))) refl inner)
 
   squared : Becomes false true code code (between 123 125 ts) (between 91 93 us)
   squared = record { goes = goes_squared; source = source_so; written = written_squared }

@@ -25,7 +25,10 @@ use Rattle.written_tokens.proofs.tiles.Stepping.{stepped, longest_in, steps_behi
 
 -- ---- `(float)`
 
-float_written : (b : ℕ) (a : List ℕ) (gap : Bool) (below over : List Mode) (depth deep : ℕ) (rest after : List Tile) → Goes false false rest after → Steps V74 (stack_of code below depth) (tile Cast b a ∷ rest) → Steps V74 (stack_of code over deep) after → Steps V74 (stack_of code over deep) (tile Cast 40 (codes "float)") ∷ after)
+float_written : (b : ℕ) (a : List ℕ) (gap : Bool) (below over : List Mode) (depth deep : ℕ) (rest after : List Tile)
+    → Goes false false rest after → Steps V74 (stack_of code below depth) (tile Cast b a ∷ rest)
+    → Steps V74 (stack_of code over deep) after → Steps V74 (stack_of code over deep)
+    (tile Cast 40 (codes "float)") ∷ after)
 float_written b a gap below over depth deep rest after h s w =
     stepped (stack_of code over deep) (stack_of code over deep) Cast 40 (codes "float)") after (marks_are_tokens.float V74 (joined after)) refl w
 
@@ -38,7 +41,9 @@ casts_become_float b a = record {
 
 -- ---- `(null)`
 
-trivia_next : (below : List Mode) (depth : ℕ) (kind : Kind) (b : ℕ) (a : List ℕ) (rest : List Tile) → is_trivia kind ≡ true → Steps V74 (stack_of code below depth) (tile kind b a ∷ rest) → Steps V74 (stack_of code below depth) rest
+trivia_next : (below : List Mode) (depth : ℕ) (kind : Kind) (b : ℕ) (a : List ℕ) (rest : List Tile)
+    → is_trivia kind ≡ true → Steps V74 (stack_of code below depth) (tile kind b a ∷ rest)
+    → Steps V74 (stack_of code below depth) rest
 trivia_next below depth kind b a rest h =
     trivia_kind (λ (k : Kind). Steps V74 (stack_of code below depth) (tile k b a ∷ rest) → Steps V74 (stack_of code below depth) rest)
     (λ s. steps_behind (stack_of code below depth) (stack_of code below depth) Space b a rest refl s)
@@ -46,23 +51,28 @@ trivia_next below depth kind b a rest h =
     (λ s. steps_behind (stack_of code below depth) (stack_of code below depth) Tag b a rest refl s)
     kind h
 
-trivia_pass : (below : List Mode) (depth : ℕ) (gap rest : List Tile) → all_trivia gap ≡ true → Steps V74 (stack_of code below depth) (gap ++ rest) → Steps V74 (stack_of code below depth) rest
+trivia_pass : (below : List Mode) (depth : ℕ) (gap rest : List Tile) → all_trivia gap ≡ true
+    → Steps V74 (stack_of code below depth) (gap ++ rest) → Steps V74 (stack_of code below depth) rest
 trivia_pass below depth [] rest h s = s
 trivia_pass below depth (tile kind b a ∷ gap) rest h s =
     let (here, more) = and_parts (is_trivia kind) (all_trivia gap) h in
     trivia_pass below depth gap rest more (trivia_next below depth kind b a (gap ++ rest) here s)
 
-null_source : (b c : ℕ) (a e : List ℕ) (gap : List Tile) → all_trivia gap ≡ true → (below : List Mode) (depth : ℕ) (rest : List Tile) → Steps V74 (stack_of code below depth) (tile Cast b a ∷ (gap ++ tile Variable c e ∷ []) ++ rest) → Steps V74 (stack_of code below depth) rest
+null_source : (b c : ℕ) (a e : List ℕ) (gap : List Tile) → all_trivia gap ≡ true
+    → (below : List Mode) (depth : ℕ) (rest : List Tile) → Steps V74 (stack_of code below depth)
+    (tile Cast b a ∷ (gap ++ tile Variable c e ∷ []) ++ rest) → Steps V74 (stack_of code below depth) rest
 null_source b c a e gap h below depth rest s =
     let behind = steps_behind (stack_of code below depth) (stack_of code below depth) Cast b a ((gap ++ tile Variable c e ∷ []) ++ rest) refl s in
     let regrouped = subst (λ (x : List Tile). Steps V74 (stack_of code below depth) x) (append_assoc gap (tile Variable c e ∷ []) rest) behind in
     steps_behind (stack_of code below depth) (stack_of code below depth) Variable c e rest refl (trivia_pass below depth gap (tile Variable c e ∷ rest) h regrouped)
 
-null_steps : (over : List Mode) (deep : ℕ) (after : List Tile) → Steps V74 (stack_of code over deep) after → Steps V74 (stack_of code over deep) (tile Op 40 [] ∷ tile Word 110 (codes "ull") ∷ tile Op 41 [] ∷ after)
+null_steps : (over : List Mode) (deep : ℕ) (after : List Tile) → Steps V74 (stack_of code over deep) after
+    → Steps V74 (stack_of code over deep) (tile Op 40 [] ∷ tile Word 110 (codes "ull") ∷ tile Op 41 [] ∷ after)
 null_steps over deep after w =
     let last = stepped (stack_of code over deep) (stack_of code over deep) Op 41 [] after (marks_are_tokens.closing V74 (joined after)) refl w in
     let middle = stepped (stack_of code over deep) (stack_of code over deep) Word 110 (codes "ull") (tile Op 41 [] ∷ after) (null_is_written.null V74 (joined after)) refl last in
-    stepped (stack_of code over deep) (stack_of code over deep) Op 40 [] (tile Word 110 (codes "ull") ∷ tile Op 41 [] ∷ after) (null_is_written.opening V74 (joined after)) refl middle
+    stepped (stack_of code over deep) (stack_of code over deep) Op 40 []
+    (tile Word 110 (codes "ull") ∷ tile Op 41 [] ∷ after) (null_is_written.opening V74 (joined after)) refl middle
 
 pub casts_become_null : CastsBecomeNull
 casts_become_null b c a e gap h = record {
@@ -80,15 +90,21 @@ first_plain (b ∷ bs) = refl
 hash_scan : (bs : List ℕ) → scan V74 code (35 ∷ bs) ≡ found Comment (1 + run_len Line [] First bs)
 hash_scan bs = refl
 
-hash_longest : (a r s : List ℕ) → stops_line s ≡ true → IsLongest V74 code (35 ∷ a ++ r) Comment (suc (length a)) → IsLongest V74 code (35 ∷ 32 ∷ a ++ s) Comment (suc (suc (length a)))
+hash_longest : (a r s : List ℕ) → stops_line s ≡ true → IsLongest V74 code (35 ∷ a ++ r) Comment (suc (length a))
+    → IsLongest V74 code (35 ∷ 32 ∷ a ++ s) Comment (suc (suc (length a)))
 hash_longest a r s stop h =
-    let old : 1 + run_len Line [] First (a ++ r) ≡ suc (length a) = found_length Comment Comment (1 + run_len Line [] First (a ++ r)) (suc (length a)) (sym (hash_scan (a ++ r)) ∙ scan_of V74 code (35 ∷ a ++ r) Comment (suc (length a)) h) in
+    let old : 1 + run_len Line [] First (a ++ r) ≡ suc (length a) =
+    found_length Comment Comment (1 + run_len Line [] First (a ++ r)) (suc (length a))
+    (sym (hash_scan (a ++ r)) ∙ scan_of V74 code (35 ∷ a ++ r) Comment (suc (length a)) h) in
     let new : run_len Line [] First (a ++ s) ≡ length a = line_stays a r s First stop (omega arith) in
     let plain : run_len Line [] Plain (a ++ s) ≡ length a = sym (first_plain (a ++ s)) ∙ new in
     let size : 1 + run_len Line [] First (32 ∷ a ++ s) ≡ suc (suc (length a)) = rw plain (omega arith) in
     longest_of V74 code (35 ∷ 32 ∷ a ++ s) Comment (suc (suc (length a))) (hash_scan (32 ∷ a ++ s) ∙ ap (found Comment) size)
 
-hash_written : (a : List ℕ) (gap : Bool) (below over : List Mode) (depth deep : ℕ) (rest after : List Tile) → Goes false true rest after → Steps V74 (stack_of code below depth) (tile Comment 35 a ∷ rest) → Steps V74 (stack_of code over deep) after → Steps V74 (stack_of code over deep) (tile Comment 35 (32 ∷ a) ∷ after)
+hash_written : (a : List ℕ) (gap : Bool) (below over : List Mode) (depth deep : ℕ) (rest after : List Tile)
+    → Goes false true rest after → Steps V74 (stack_of code below depth) (tile Comment 35 a ∷ rest)
+    → Steps V74 (stack_of code over deep) after → Steps V74 (stack_of code over deep)
+    (tile Comment 35 (32 ∷ a) ∷ after)
 hash_written a gap below over depth deep rest after h s w =
     let l = longest_in (stack_of code below depth) Comment 35 a rest s in
     let behind = steps_behind (stack_of code below depth) (stack_of code below depth) Comment 35 a rest refl s in

@@ -4,7 +4,38 @@ use Rattle.std.proofs.lemmas.Bool.{and_parts, eqb-true}
 use Rattle.std.proofs.lemmas.Bool.Decides.{nat_tests}
 use Rattle.php_tree.specs.declared.version.Version.TheVariants.{V74}
 use Rattle.php_spellings.specs.declared.table.Kind.{Kind}
-use Rattle.php_spellings.specs.declared.table.Kind.TheVariants.{Space, Comment, Tag, OpenEcho, InlineHtml, Variable, Word, Label, Keyword, Name, Decimal, Octal, Hexadecimal, Binary, Digits, Float, Text, Quote, Backtick, HeredocStart, Cast, Op, AttributeOpen, Semi, Close, Piece, CurlyOpen, DollarBrace, VarName, QuotedEnd}
+use Rattle.php_spellings.specs.declared.table.Kind.TheVariants.{
+  Space,
+  Comment,
+  Tag,
+  OpenEcho,
+  InlineHtml,
+  Variable,
+  Word,
+  Label,
+  Keyword,
+  Name,
+  Decimal,
+  Octal,
+  Hexadecimal,
+  Binary,
+  Digits,
+  Float,
+  Text,
+  Quote,
+  Backtick,
+  HeredocStart,
+  Cast,
+  Op,
+  AttributeOpen,
+  Semi,
+  Close,
+  Piece,
+  CurlyOpen,
+  DollarBrace,
+  VarName,
+  QuotedEnd,
+}
 use Rattle.php_spellings.specs.Bytes.{is_line_end, is_space, is_letter, is_label_byte, is_empty, lower, begins, begins_by}
 use Rattle.php_lexer.specs.RulesCode.{code_rows}
 use Rattle.php_lexer.specs.Modes.{code, IsLongest}
@@ -23,7 +54,19 @@ use Rattle.written_tokens.proofs.tokens.Stays.{code_stays}
 use Rattle.written_tokens.specs.tiles.Goes.{is_trivia}
 use Rattle.written_tokens.specs.tiles.Going.{puts_none}
 use Rattle.written_tokens.specs.tiles.CodeTokens.{is_plain, is_opening}
-use Rattle.written_tokens.proofs.tiles.Behind.{space_behind, word_behind, keyword_behind, line_behind, question_behind, slash_behind, less_one, shift_behind, most_behind, end_alone, end_return}
+use Rattle.written_tokens.proofs.tiles.Behind.{
+  space_behind,
+  word_behind,
+  keyword_behind,
+  line_behind,
+  question_behind,
+  slash_behind,
+  less_one,
+  shift_behind,
+  most_behind,
+  end_alone,
+  end_return,
+}
 use Rattle.written_tokens.proofs.tiles.Bools.{or_left, or_right}
 use Rattle.written_tokens.proofs.tiles.Docs.{shift_stays, b_behind, b_stays}
 use Rattle.written_tokens.proofs.tiles.Onward.{Onward}
@@ -70,7 +113,9 @@ not_label_byte y z e h = by_case (nat_eq z y) refl
 
 lower_mark : (y z : ℕ) → nat_eq z y ≡ false → (t : Bool) → nat_eq y (lower z) ≡ t → ((x : ℕ) → nat_eq y (lower x) ≡ true → x ≡ y) → t ≡ false
 lower_mark y z e false f g = refl
-lower_mark y z e true f g = absurd (let same_z : nat_eq z z ≡ false = subst (λ (w : ℕ). nat_eq z w ≡ false) (sym (g z f)) e in let own : nat_eq z z ≡ true = own_eq z in let clash : true ≡ false = sym own ∙ same_z in cc)
+lower_mark y z e true f g = absurd (let same_z : nat_eq z z ≡ false =
+    subst (λ (w : ℕ). nat_eq z w ≡ false) (sym (g z f)) e in let own : nat_eq z z ≡ true = own_eq z
+    in let clash : true ≡ false = sym own ∙ same_z in cc)
   where
     own_eq : (n : ℕ) → nat_eq n n ≡ true
     own_eq n = grind (arith, nat_tests)
@@ -86,7 +131,8 @@ b_tight b z bs letter e h =
     let bytes = b_plain b letter in
     rw (bytes.0, bytes.1.0, bytes.1.1, e, p, q, r) refl
   where
-    b_plain : (b : ℕ) → is_letter b ≡ true → ((nat_eq b 39 || nat_eq b 34 || nat_eq b 47 || nat_eq b 40 || nat_eq b 60 || nat_eq b 35) ≡ false) × ((is_space b ≡ false) × (nat_eq b 63 ≡ false))
+    b_plain : (b : ℕ) → is_letter b ≡ true → ((nat_eq b 39 || nat_eq b 34 || nat_eq b 47 || nat_eq b 40 || nat_eq b 60
+        || nat_eq b 35) ≡ false) × ((is_space b ≡ false) × (nat_eq b 63 ≡ false))
     b_plain b h = (grind (arith, nat_tests), (grind (arith, nat_tests), grind (arith, nat_tests)))
 
 -- ---- `?>`
@@ -184,7 +230,8 @@ module _ (tight gap : Bool) (r s : List ℕ) (on : GoesOn tight gap r s) where
   opening_cast [] t l = on.cast t (openings_are_uncast.none V74 r l)
   opening_cast (c ∷ a) t l = absurd (let none = longest_meets is_op V74 code (40 ∷ c ∷ a) r Op refl l in cc)
 
-  not_first : (p : ℕ → Bool) (x : Bool) → (not (p 35 || p 40 || p 41 || p 91 || p 92 || p 93 || p 123 || p 125)) ≡ true → p 32 ≡ false → (x || not (begins p r)) ≡ true → (x || not (begins p s)) ≡ true
+  not_first : (p : ℕ → Bool) (x : Bool) → (not (p 35 || p 40 || p 41 || p 91 || p 92 || p 93 || p 123 || p 125)) ≡
+      true → p 32 ≡ false → (x || not (begins p r)) ≡ true → (x || not (begins p s)) ≡ true
   not_first p true out blank h = refl
   not_first p false out blank h = to_not (begins p s) (on.first p out blank (not_it (begins p r) h))
 

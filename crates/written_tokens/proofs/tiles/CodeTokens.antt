@@ -2,7 +2,38 @@
 use Rattle.std.proofs.Common.{◌≡◌, ℕ, suc, Bool, true, List, ◌∷◌, ◌++◌, length, refl, subst}
 use Rattle.php_tree.specs.declared.version.Version.TheVariants.{V74}
 use Rattle.php_spellings.specs.declared.table.Kind.{Kind}
-use Rattle.php_spellings.specs.declared.table.Kind.TheVariants.{Space, Comment, Tag, OpenEcho, InlineHtml, Variable, Word, Label, Keyword, Name, Decimal, Octal, Hexadecimal, Binary, Digits, Float, Text, Quote, Backtick, HeredocStart, Cast, Op, AttributeOpen, Semi, Close, Piece, CurlyOpen, DollarBrace, VarName, QuotedEnd}
+use Rattle.php_spellings.specs.declared.table.Kind.TheVariants.{
+  Space,
+  Comment,
+  Tag,
+  OpenEcho,
+  InlineHtml,
+  Variable,
+  Word,
+  Label,
+  Keyword,
+  Name,
+  Decimal,
+  Octal,
+  Hexadecimal,
+  Binary,
+  Digits,
+  Float,
+  Text,
+  Quote,
+  Backtick,
+  HeredocStart,
+  Cast,
+  Op,
+  AttributeOpen,
+  Semi,
+  Close,
+  Piece,
+  CurlyOpen,
+  DollarBrace,
+  VarName,
+  QuotedEnd,
+}
 use Rattle.php_spellings.specs.Bytes.{is_space}
 use Rattle.php_lexer.specs.Modes.{Mode, code, IsLongest}
 use Rattle.php_relexing.specs.Tiles.{Tile, tile, joined}
@@ -75,19 +106,29 @@ module _ (below over : List Mode) (depth deep : ℕ) (rest after : List Tile) wh
   abbrev New : Kind → ℕ → List ℕ → Type 0
   New kind b a = IsLongest V74 code (b ∷ a ++ joined after) kind (suc (length a))
 
-  kept_by : (kind : Kind) (b : ℕ) (a : List ℕ) → Behind kind → is_plain kind b a ≡ true → Goes (is_opening kind b) (is_trivia kind) rest after → Old kind b a → Steps V74 (stack_of (mode_behind kind) below depth) rest → Steps V74 (stack_of (mode_behind kind) over deep) after → New kind b a
+  kept_by : (kind : Kind) (b : ℕ) (a : List ℕ) → Behind kind → is_plain kind b a ≡ true
+      → Goes (is_opening kind b) (is_trivia kind) rest after → Old kind b a
+      → Steps V74 (stack_of (mode_behind kind) below depth) rest
+      → Steps V74 (stack_of (mode_behind kind) over deep) after → New kind b a
   kept_by Close b a closed h g l s w = close_kept (joined rest) (joined after) (bytes_alike g) (λ p out blank k. first_stays p out g k) b a l
   kept_by kind b a (coded e) h g l s w =
       let old : Coded rest = code_tiles.coded below depth rest (subst (λ (m : Mode). Steps V74 (stack_of m below depth) rest) e s) in
       let new : Coded after = code_tiles.coded over deep after (subst (λ (m : Mode). Steps V74 (stack_of m over deep) after) e w) in
       kept (is_opening kind b) (is_trivia kind) (joined rest) (joined after) (goes_so (is_opening kind b) (is_trivia kind) rest after old new g) kind b a h (λ t. t) (λ t. t) l
 
-token_source : (kind : Kind) (b : ℕ) (a : List ℕ) → is_plain kind b a ≡ true → (below : List Mode) (depth : ℕ) (rest : List Tile) → Steps V74 (stack_of code below depth) (tile kind b a ∷ rest) → Steps V74 (stack_of (mode_behind kind) below depth) rest
+token_source : (kind : Kind) (b : ℕ) (a : List ℕ) → is_plain kind b a ≡ true
+    → (below : List Mode) (depth : ℕ) (rest : List Tile) → Steps V74 (stack_of code below depth)
+    (tile kind b a ∷ rest) → Steps V74 (stack_of (mode_behind kind) below depth) rest
 token_source kind b a h below depth rest s = steps_behind (stack_of code below depth) (stack_of (mode_behind kind) below depth) kind b a rest (plain_turn kind b a below depth h) s
 
-token_written : (kind : Kind) (b : ℕ) (a : List ℕ) → is_plain kind b a ≡ true → (gap : Bool) (below over : List Mode) (depth deep : ℕ) (rest after : List Tile) → Goes (is_opening kind b) (is_trivia kind) rest after → Steps V74 (stack_of code below depth) (tile kind b a ∷ rest) → Steps V74 (stack_of (mode_behind kind) over deep) after → Steps V74 (stack_of code over deep) (tile kind b a ∷ after)
+token_written : (kind : Kind) (b : ℕ) (a : List ℕ) → is_plain kind b a ≡ true
+    → (gap : Bool) (below over : List Mode) (depth deep : ℕ) (rest after : List Tile)
+    → Goes (is_opening kind b) (is_trivia kind) rest after → Steps V74 (stack_of code below depth)
+    (tile kind b a ∷ rest) → Steps V74 (stack_of (mode_behind kind) over deep) after
+    → Steps V74 (stack_of code over deep) (tile kind b a ∷ after)
 token_written kind b a h gap below over depth deep rest after g s w =
-    let new = kept_by below over depth deep rest after kind b a (behind kind) h g (longest_in (stack_of code below depth) kind b a rest s) (token_source kind b a h below depth rest s) w in
+    let new = kept_by below over depth deep rest after kind b a (behind kind) h g
+    (longest_in (stack_of code below depth) kind b a rest s) (token_source kind b a h below depth rest s) w in
     stepped (stack_of code over deep) (stack_of (mode_behind kind) over deep) kind b a after new (plain_turn kind b a over deep h) w
 
 pub code_tokens_become : CodeTokensBecome

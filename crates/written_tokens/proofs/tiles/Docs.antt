@@ -29,7 +29,8 @@ none_is (Some n) h = absurd cc
 
 -- ---- `<<`
 
-doc_scan : (bs : List ℕ) → begins_nowdoc bs ≡ false → scan V74 code (60 ∷ 60 ∷ 60 ∷ bs) ≡ longer HeredocStart (add_to 3 (shape_len shape.HeredocLine Begin bs)) (longer Op (Some 1) (Some (Op, 2)))
+doc_scan : (bs : List ℕ) → begins_nowdoc bs ≡ false → scan V74 code (60 ∷ 60 ∷ 60 ∷ bs) ≡ longer HeredocStart
+    (add_to 3 (shape_len shape.HeredocLine Begin bs)) (longer Op (Some 1) (Some (Op, 2)))
 doc_scan bs h = rw h refl
 
 abbrev op_found : Option (Kind × ℕ) → Bool
@@ -98,11 +99,13 @@ doc_found (Some n) h = absurd (let clash : false ≡ true = rw (one_less n) at h
 pub record Alone (b : ℕ) : Type 0 where
   letter : is_letter b ≡ true
   end_ : scan_by [] letter_rows (b ∷ []) ≡ found Word 1
-  other : (c : ℕ) (s : List ℕ) → is_label_byte c ≡ false → nat_eq c 39 ≡ false → nat_eq 39 (lower c) ≡ false → nat_eq 34 (lower c) ≡ false → nat_eq 60 (lower c) ≡ false → scan_by [] letter_rows (b ∷ c ∷ s) ≡ found Word 1
+  other : (c : ℕ) (s : List ℕ) → is_label_byte c ≡ false → nat_eq c 39 ≡ false → nat_eq 39 (lower c) ≡ false
+      → nat_eq 34 (lower c) ≡ false → nat_eq 60 (lower c) ≡ false → scan_by [] letter_rows (b ∷ c ∷ s) ≡ found Word 1
   less : (s : List ℕ) → begins_by 60 s ≡ false → scan_by [] letter_rows (b ∷ 60 ∷ s) ≡ found Word 1
   shift : (s : List ℕ) → begins_by 60 s ≡ false → scan_by [] letter_rows (b ∷ 60 ∷ 60 ∷ s) ≡ found Word 1
   doc : (s : List ℕ) → begins_nowdoc s ≡ false → shape_len shape.HeredocLine Begin s ≡ None → scan_by [] letter_rows (b ∷ 60 ∷ 60 ∷ 60 ∷ s) ≡ found Word 1
-  row : (s : List ℕ) → begins_nowdoc s ≡ false → scan_by [] letter_rows (b ∷ 60 ∷ 60 ∷ 60 ∷ s) ≡ longer Word (Some 1) (longer HeredocStart (add_to 4 (shape_len shape.HeredocLine Begin s)) None)
+  row : (s : List ℕ) → begins_nowdoc s ≡ false → scan_by [] letter_rows (b ∷ 60 ∷ 60 ∷ 60 ∷ s) ≡ longer Word (Some 1)
+      (longer HeredocStart (add_to 4 (shape_len shape.HeredocLine Begin s)) None)
   single : (r : List ℕ) → IsLongest V74 code (b ∷ 39 ∷ r) Word 1 → ⊥
   double : (r : List ℕ) → IsLongest V74 code (b ∷ 34 ∷ r) Word 1 → ⊥
   nowdoc : (r : List ℕ) → IsLongest V74 code (b ∷ 60 ∷ 60 ∷ 60 ∷ r) Word 1 → begins_nowdoc r ≡ false
@@ -179,7 +182,8 @@ drop_three (c ∷ d ∷ []) = refl
 drop_three (c ∷ d ∷ e ∷ s) = refl
 
 module _ (b : ℕ) (is : Alone b) where
-  b_second : (s : List ℕ) → (begins_by 60 s ≡ true → begins_by 60 (drop 1 s) ≡ true → NoDoc (drop 2 s)) → (x y : Bool) → begins_by 60 s ≡ x → begins_by 60 (drop 1 s) ≡ y → scan_by [] letter_rows (b ∷ 60 ∷ s) ≡ found Word 1
+  b_second : (s : List ℕ) → (begins_by 60 s ≡ true → begins_by 60 (drop 1 s) ≡ true → NoDoc (drop 2 s)) → (x y : Bool)
+      → begins_by 60 s ≡ x → begins_by 60 (drop 1 s) ≡ y → scan_by [] letter_rows (b ∷ 60 ∷ s) ≡ found Word 1
   b_second s f false y e g = is.less s e
   b_second s f true false e g = subst (λ (t : List ℕ). scan_by [] letter_rows (b ∷ 60 ∷ t) ≡ found Word 1) (sym (cut_less s e)) (is.shift (drop 1 s) g)
   b_second s f true true e g =
@@ -188,12 +192,16 @@ module _ (b : ℕ) (is : Alone b) where
       subst (λ (t : List ℕ). scan_by [] letter_rows (b ∷ 60 ∷ t) ≡ found Word 1) (sym whole)
       (is.doc (drop 1 (drop 1 s)) none.nowdoc (none_is (shape_len shape.HeredocLine Begin (drop 1 (drop 1 s))) none.heredoc))
 
-  b_first : (c : ℕ) (s : List ℕ) → is_label_byte c ≡ false → nat_eq c 39 ≡ false → nat_eq c 34 ≡ false → (nat_eq c 60 ≡ true → begins_by 60 s ≡ true → begins_by 60 (drop 1 s) ≡ true → NoDoc (drop 2 s)) → (x : Bool) → nat_eq c 60 ≡ x → scan_by [] letter_rows (b ∷ c ∷ s) ≡ found Word 1
+  b_first : (c : ℕ) (s : List ℕ) → is_label_byte c ≡ false → nat_eq c 39 ≡ false → nat_eq c 34 ≡ false
+      → (nat_eq c 60 ≡ true → begins_by 60 s ≡ true → begins_by 60 (drop 1 s) ≡ true → NoDoc (drop 2 s)) → (x : Bool)
+      → nat_eq c 60 ≡ x → scan_by [] letter_rows (b ∷ c ∷ s) ≡ found Word 1
   b_first c s k p q f false e = is.other c s k p (other_head 39 c refl p) (other_head 34 c refl q) (other_head 60 c refl e)
   b_first c s k p q f true e =
       subst (λ (x : ℕ). scan_by [] letter_rows (b ∷ x ∷ s) ≡ found Word 1) (sym (eqb-true c 60 e)) (b_second s (f e) (begins_by 60 s) (begins_by 60 (drop 1 s)) refl refl)
 
-  b_found : (s : List ℕ) → begins is_label_byte s ≡ false → begins_by 39 s ≡ false → begins_by 34 s ≡ false → (begins_by 60 s ≡ true → begins_by 60 (drop 1 s) ≡ true → begins_by 60 (drop 2 s) ≡ true → NoDoc (drop 3 s)) → scan_by [] letter_rows (b ∷ s) ≡ found Word 1
+  b_found : (s : List ℕ) → begins is_label_byte s ≡ false → begins_by 39 s ≡ false → begins_by 34 s ≡ false
+      → (begins_by 60 s ≡ true → begins_by 60 (drop 1 s) ≡ true → begins_by 60 (drop 2 s) ≡ true → NoDoc (drop 3 s))
+      → scan_by [] letter_rows (b ∷ s) ≡ found Word 1
   b_found [] k p q f = is.end_
   b_found (c ∷ s) k p q f = b_first c s k p q f (nat_eq c 60) refl
 
@@ -221,7 +229,8 @@ module _ (b : ℕ) (is : Alone b) where
   double_behind r h = not_begun 34 r is.double h
 
   -- where `<<<` follows what is written, it follows in the source
-  doc_behind : (r s : List ℕ) → Onward r s → IsLongest V74 code (b ∷ r) Word 1 → begins_by 60 s ≡ true → begins_by 60 (drop 1 s) ≡ true → begins_by 60 (drop 2 s) ≡ true → NoDoc (drop 3 s)
+  doc_behind : (r s : List ℕ) → Onward r s → IsLongest V74 code (b ∷ r) Word 1 → begins_by 60 s ≡ true
+      → begins_by 60 (drop 1 s) ≡ true → begins_by 60 (drop 2 s) ≡ true → NoDoc (drop 3 s)
   doc_behind r s more h e f g =
       let (one, tail) = less_tail more e in
       let (two, next) = less_tail tail f in
@@ -231,7 +240,8 @@ module _ (b : ℕ) (is : Alone b) where
       let old = source_doc (drop 1 (drop 1 (drop 1 r))) (subst (λ (t : List ℕ). IsLongest V74 code (b ∷ t) Word 1) whole h) in
       subst NoDoc (drop_three s) (no_doc last old)
 
-  stays_alone : (r s : List ℕ) → Onward r s → begins is_label_byte s ≡ false → begins_by 39 s ≡ false → begins_by 34 s ≡ false → IsLongest V74 code (b ∷ r) Word 1 → IsLongest V74 code (b ∷ s) Word 1
+  stays_alone : (r s : List ℕ) → Onward r s → begins is_label_byte s ≡ false → begins_by 39 s ≡ false
+      → begins_by 34 s ≡ false → IsLongest V74 code (b ∷ r) Word 1 → IsLongest V74 code (b ∷ s) Word 1
   stays_alone r s more k p q h =
       longest_of V74 code (b ∷ s) Word 1
       (scan_b s ∙ b_found s k p q (doc_behind r s more h))
@@ -240,5 +250,7 @@ pub b_behind : (b : ℕ) (r : List ℕ) → lower b ≡ 98 → IsLongest V74 cod
 b_behind b r e h = (single_behind b (alone b e) r h, double_behind b (alone b e) r h)
 
 -- A word `b` alone stays where neither a label nor a quote follows.
-pub b_stays : (b : ℕ) (r s : List ℕ) → lower b ≡ 98 → Onward r s → begins is_label_byte s ≡ false → begins_by 39 s ≡ false → begins_by 34 s ≡ false → IsLongest V74 code (b ∷ r) Word 1 → IsLongest V74 code (b ∷ s) Word 1
+pub b_stays : (b : ℕ) (r s : List ℕ) → lower b ≡ 98 → Onward r s → begins is_label_byte s ≡ false
+    → begins_by 39 s ≡ false → begins_by 34 s ≡ false → IsLongest V74 code (b ∷ r) Word 1
+    → IsLongest V74 code (b ∷ s) Word 1
 b_stays b r s e more k p q h = stays_alone b (alone b e) r s more k p q h

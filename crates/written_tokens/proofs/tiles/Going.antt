@@ -83,10 +83,12 @@ put_byte P m tight c k l n o p q r h =
     (λ e. subst P (sym (eqb-true c 41 (and_parts (not tight) (nat_eq c 41) e).1)) r)
     (and_parts m (is_put tight c) h).1
 
-pub put_is : (p : ℕ → Bool) (m tight : Bool) (c : ℕ) → p 40 ≡ true → p 91 ≡ true → p 93 ≡ true → p 125 ≡ true → p 92 ≡ true → p 35 ≡ true → p 41 ≡ true → (m && is_put tight c) ≡ true → p c ≡ true
+pub put_is : (p : ℕ → Bool) (m tight : Bool) (c : ℕ) → p 40 ≡ true → p 91 ≡ true → p 93 ≡ true → p 125 ≡ true
+    → p 92 ≡ true → p 35 ≡ true → p 41 ≡ true → (m && is_put tight c) ≡ true → p c ≡ true
 put_is p m tight c = put_byte (λ (x : ℕ). p x ≡ true) m tight c
 
-pub put_isnt : (p : ℕ → Bool) (m tight : Bool) (c : ℕ) → p 40 ≡ false → p 91 ≡ false → p 93 ≡ false → p 125 ≡ false → p 92 ≡ false → p 35 ≡ false → p 41 ≡ false → (m && is_put tight c) ≡ true → p c ≡ false
+pub put_isnt : (p : ℕ → Bool) (m tight : Bool) (c : ℕ) → p 40 ≡ false → p 91 ≡ false → p 93 ≡ false → p 125 ≡ false
+    → p 92 ≡ false → p 35 ≡ false → p 41 ≡ false → (m && is_put tight c) ≡ true → p c ≡ false
 put_isnt p m tight c = put_byte (λ (x : ℕ). p x ≡ false) m tight c
 
 pub escape_alike : (b : ℕ) (a r s : List ℕ) → Alike (b ∷ a ++ r) (escape_last (b ∷ a) ++ s)

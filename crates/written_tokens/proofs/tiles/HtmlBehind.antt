@@ -1,5 +1,32 @@
 -- What the source's tiles of inline HTML say of the bytes behind them.
-use Rattle.std.proofs.Common.{◌≡◌, ℕ, suc, Bool, true, false, not, ◌&&◌, ◌||◌, nat_eq, List, [], ◌∷◌, ◌++◌, length, drop, codes, inl, inr, refl, sym, ap, ◌∙◌, subst, append_assoc, arith}
+use Rattle.std.proofs.Common.{
+  ◌≡◌,
+  ℕ,
+  suc,
+  Bool,
+  true,
+  false,
+  not,
+  ◌&&◌,
+  ◌||◌,
+  nat_eq,
+  List,
+  [],
+  ◌∷◌,
+  ◌++◌,
+  length,
+  drop,
+  codes,
+  inl,
+  inr,
+  refl,
+  sym,
+  ap,
+  ◌∙◌,
+  subst,
+  append_assoc,
+  arith,
+}
 use Rattle.std.proofs.lemmas.Bool.{and_parts, eqb-true}
 use Rattle.std.proofs.lemmas.Bool.Decides.{nat_tests}
 use Rattle.php_tree.specs.declared.version.Version.TheVariants.{V74}
@@ -91,7 +118,9 @@ or_first true y e = refl
 or_first false y e = absurd cc
 
 last_tag : (y : List ℕ) → starts_word (codes "?php") y ≡ true → is_empty (drop 4 y) ≡ true → begins_tag y ≡ true
-last_tag y e f = or_last (starts_word (codes "?=") y) (starts_word (codes "?php") y) (is_empty (drop 4 y) || begins is_space (drop 4 y)) e (or_first (is_empty (drop 4 y)) (begins is_space (drop 4 y)) f)
+last_tag y e f = or_last (starts_word (codes "?=") y) (starts_word (codes "?php") y)
+    (is_empty (drop 4 y) || begins is_space (drop 4 y)) e
+    (or_first (is_empty (drop 4 y)) (begins is_space (drop 4 y)) f)
 
 anything : List ℕ → Bool
 anything bs = true
@@ -237,7 +266,8 @@ feed_longer b a r e l =
     (none_meets is_only_tag (b ∷ a ++ 10 ∷ []) r html_rows (longer_in html b 10 a r Tag l)) in
     opposite _ (led_feed (codes "<?php\r") (b ∷ a) r (λ bs. true) e) none
 
-return_behind : (b : ℕ) (a r : List ℕ) → led lower (codes "<?php\r") (no_more (λ bs. true)) (b ∷ a) r ≡ true → IsLongest V74 html (b ∷ a ++ r) Tag (suc (length a)) → begins_by 10 r ≡ false
+return_behind : (b : ℕ) (a r : List ℕ) → led lower (codes "<?php\r") (no_more (λ bs. true)) (b ∷ a) r ≡ true
+    → IsLongest V74 html (b ∷ a ++ r) Tag (suc (length a)) → begins_by 10 r ≡ false
 return_behind b a [] e l = refl
 return_behind b a (c ∷ r) e l = by_case (nat_eq c 10) refl
   where

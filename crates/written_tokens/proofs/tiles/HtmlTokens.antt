@@ -2,7 +2,38 @@
 use Rattle.std.proofs.Common.{◌≡◌, ℕ, suc, Bool, true, false, not, ◌&&◌, ◌||◌, nat_eq, List, [], ◌∷◌, ◌++◌, length, inl, inr, refl, sym, ap, subst}
 use Rattle.php_tree.specs.declared.version.Version.TheVariants.{V74}
 use Rattle.php_spellings.specs.declared.table.Kind.{Kind}
-use Rattle.php_spellings.specs.declared.table.Kind.TheVariants.{Space, Comment, Tag, OpenEcho, InlineHtml, Variable, Word, Label, Keyword, Name, Decimal, Octal, Hexadecimal, Binary, Digits, Float, Text, Quote, Backtick, HeredocStart, Cast, Op, AttributeOpen, Semi, Close, Piece, CurlyOpen, DollarBrace, VarName, QuotedEnd}
+use Rattle.php_spellings.specs.declared.table.Kind.TheVariants.{
+  Space,
+  Comment,
+  Tag,
+  OpenEcho,
+  InlineHtml,
+  Variable,
+  Word,
+  Label,
+  Keyword,
+  Name,
+  Decimal,
+  Octal,
+  Hexadecimal,
+  Binary,
+  Digits,
+  Float,
+  Text,
+  Quote,
+  Backtick,
+  HeredocStart,
+  Cast,
+  Op,
+  AttributeOpen,
+  Semi,
+  Close,
+  Piece,
+  CurlyOpen,
+  DollarBrace,
+  VarName,
+  QuotedEnd,
+}
 use Rattle.php_spellings.specs.Bytes.{begins_by}
 use Rattle.php_lexer.specs.Tails.{begins_tag}
 use Rattle.php_lexer.specs.RulesCode.{html_rows}
@@ -83,7 +114,9 @@ no_bytes (tile kind b a ∷ ts) h = absurd (byte_none b (a ++ joined ts) h)
 
 -- ---- inline HTML
 
-inline_stay : (b : ℕ) (a : List ℕ) (c : ℕ) (r s : List ℕ) → c ≡ 60 → begins_tag s ≡ true → IsLongest V74 html (b ∷ a ++ c ∷ r) InlineHtml (suc (length a)) → IsLongest V74 html (b ∷ a ++ c ∷ s) InlineHtml (suc (length a))
+inline_stay : (b : ℕ) (a : List ℕ) (c : ℕ) (r s : List ℕ) → c ≡ 60 → begins_tag s ≡ true
+    → IsLongest V74 html (b ∷ a ++ c ∷ r) InlineHtml (suc (length a))
+    → IsLongest V74 html (b ∷ a ++ c ∷ s) InlineHtml (suc (length a))
 inline_stay b a c r s e h l =
     subst (λ (x : ℕ). IsLongest V74 html (b ∷ a ++ x ∷ s) InlineHtml (suc (length a))) (sym e)
     (html_stays.inline V74 V74 (b ∷ a) r s h (subst (λ (x : ℕ). IsLongest V74 html (b ∷ a ++ x ∷ r) InlineHtml (suc (length a))) e l))
@@ -95,7 +128,9 @@ module _ (b : ℕ) (a : List ℕ) (below over : List Mode) (depth deep : ℕ) wh
   abbrev Inline : List Tile → Type 0
   Inline ts = IsLongest V74 html (b ∷ a ++ joined ts) InlineHtml (suc (length a))
 
-  inline_by : (kind : Kind) (c : ℕ) (e : List ℕ) (ts us : List Tile) → HtmlKind kind → Inline (tile kind c e ∷ ts) → Steps V74 (stack_of html below depth) (tile kind c e ∷ ts) → Steps V74 (stack_of html over deep) (tile kind c e ∷ us) → Inline (tile kind c e ∷ us)
+  inline_by : (kind : Kind) (c : ℕ) (e : List ℕ) (ts us : List Tile) → HtmlKind kind → Inline (tile kind c e ∷ ts)
+      → Steps V74 (stack_of html below depth) (tile kind c e ∷ ts)
+      → Steps V74 (stack_of html over deep) (tile kind c e ∷ us) → Inline (tile kind c e ∷ us)
   inline_by kind c e ts us (tag t) l s w =
       let opens = tag_opens c e (joined us) kind t (longest_in (stack_of html over deep) kind c e us w) in
       inline_stay b a c (e ++ joined ts) (e ++ joined us) opens.angle opens.tag l
@@ -103,7 +138,8 @@ module _ (b : ℕ) (a : List ℕ) (below over : List Mode) (depth deep : ℕ) wh
       absurd (no_inline c e (joined ts) (inline_behind b a c (e ++ joined ts) l) (longest_in (stack_of html below depth) InlineHtml c e ts s))
   inline_by kind c e ts us (none n) l s w = never kind c e (joined ts) n (longest_in (stack_of html below depth) kind c e ts s)
 
-  pub inline_so : {tight gap : Bool} {ts us : List Tile} → Goes tight gap ts us → Inline ts → Steps V74 (stack_of html below depth) ts → Steps V74 (stack_of html over deep) us → Inline us
+  pub inline_so : {tight gap : Bool} {ts us : List Tile} → Goes tight gap ts us → Inline ts
+      → Steps V74 (stack_of html below depth) ts → Steps V74 (stack_of html over deep) us → Inline us
   inline_so ended l s w = l
   inline_so (same {ts = ts} {us = us} kind c e g) l s w = inline_by kind c e ts us (html_kind kind) l s w
   inline_so (put {tight = tight} {us = us} kind c e p q) l s w =
@@ -146,7 +182,9 @@ module _ (below over : List Mode) (depth deep : ℕ) (rest after : List Tile) wh
       (and_same (ends_return (b ∷ a)) (begins_by 10 (joined rest)) (begins_by 10 (joined after)) (first_stays (λ (x : ℕ). nat_eq x 10) refl g) (tag_behind b a (joined rest) l))
       (λ e. ap joined (goes_none g refl (no_bytes rest e))) l
 
-  kept : (kind : Kind) (b : ℕ) (a : List ℕ) → Goes false (is_trivia kind) rest after → Old kind b a → Steps V74 (stack_of (mode_opened kind) below depth) rest → Steps V74 (stack_of (mode_opened kind) over deep) after → New kind b a
+  kept : (kind : Kind) (b : ℕ) (a : List ℕ) → Goes false (is_trivia kind) rest after → Old kind b a
+      → Steps V74 (stack_of (mode_opened kind) below depth) rest
+      → Steps V74 (stack_of (mode_opened kind) over deep) after → New kind b a
   kept Space b a g l s w = never Space b a (joined rest) refl l
   kept Comment b a g l s w = never Comment b a (joined rest) refl l
   kept Tag b a g l s w = tag_kept b a g l
@@ -178,10 +216,17 @@ module _ (below over : List Mode) (depth deep : ℕ) (rest after : List Tile) wh
   kept VarName b a g l s w = never VarName b a (joined rest) refl l
   kept QuotedEnd b a g l s w = never QuotedEnd b a (joined rest) refl l
 
-html_source : (kind : Kind) (b : ℕ) (a : List ℕ) (below : List Mode) (depth : ℕ) (rest : List Tile) → Steps V74 (stack_of html below depth) (tile kind b a ∷ rest) → Steps V74 (stack_of (mode_opened kind) below depth) rest
-html_source kind b a below depth rest s = steps_behind (stack_of html below depth) (stack_of (mode_opened kind) below depth) kind b a rest (html_turn kind b a (joined rest) below depth) s
+html_source : (kind : Kind) (b : ℕ) (a : List ℕ) (below : List Mode) (depth : ℕ) (rest : List Tile)
+    → Steps V74 (stack_of html below depth) (tile kind b a ∷ rest)
+    → Steps V74 (stack_of (mode_opened kind) below depth) rest
+html_source kind b a below depth rest s = steps_behind (stack_of html below depth)
+    (stack_of (mode_opened kind) below depth) kind b a rest (html_turn kind b a (joined rest) below depth) s
 
-html_written : (kind : Kind) (b : ℕ) (a : List ℕ) (gap : Bool) (below over : List Mode) (depth deep : ℕ) (rest after : List Tile) → Goes false (is_trivia kind) rest after → Steps V74 (stack_of html below depth) (tile kind b a ∷ rest) → Steps V74 (stack_of (mode_opened kind) over deep) after → Steps V74 (stack_of html over deep) (tile kind b a ∷ after)
+html_written : (kind : Kind) (b : ℕ) (a : List ℕ) (gap : Bool) (below over : List Mode) (depth deep : ℕ)
+    (rest after : List Tile) → Goes false (is_trivia kind) rest after
+    → Steps V74 (stack_of html below depth) (tile kind b a ∷ rest)
+    → Steps V74 (stack_of (mode_opened kind) over deep) after
+    → Steps V74 (stack_of html over deep) (tile kind b a ∷ after)
 html_written kind b a gap below over depth deep rest after g s w =
     let new = kept below over depth deep rest after kind b a g (longest_in (stack_of html below depth) kind b a rest s) (html_source kind b a below depth rest s) w in
     stepped (stack_of html over deep) (stack_of (mode_opened kind) over deep) kind b a after new (html_turn kind b a (joined after) over deep) w

@@ -15,7 +15,8 @@ gap_append gap [] us = refl
 gap_append gap (tile kind b a ∷ ts) us = gap_append (is_trivia kind) ts us
 
 module _ (needs stops need stop : Bool) (m n p : Mode) (ts us ts' us' : List Tile) (f : Becomes needs stops m n ts us) (g : Becomes need stop n p ts' us') where
-  goes_so : (tight gap : Bool) (rest after : List Tile) → Goes (tight && not (stops || stop)) (gap_behind gap (ts ++ ts')) rest after → Goes tight gap ((ts ++ ts') ++ rest) ((us ++ us') ++ after)
+  goes_so : (tight gap : Bool) (rest after : List Tile) → Goes (tight && not (stops || stop))
+      (gap_behind gap (ts ++ ts')) rest after → Goes tight gap ((ts ++ ts') ++ rest) ((us ++ us') ++ after)
   goes_so tight gap rest after h =
       let there : Goes ((tight && not stops) && not stop) (gap_behind (gap_behind gap ts) ts') rest after =
       subst (λ (x : Bool). Goes x (gap_behind (gap_behind gap ts) ts') rest after) (and_not_or tight stops stop)
@@ -29,7 +30,10 @@ module _ (needs stops need stop : Bool) (m n p : Mode) (ts us ts' us' : List Til
       g.source below depth rest
       (f.source below depth (ts' ++ rest) (subst (λ (x : List Tile). Steps V74 (stack_of m below depth) x) (append_assoc ts ts' rest) h))
 
-  written_so : (gap : Bool) (below over : List Mode) (depth deep : ℕ) (rest after : List Tile) → Goes (need || (needs && not stop)) (gap_behind gap (ts ++ ts')) rest after → Steps V74 (stack_of m below depth) ((ts ++ ts') ++ rest) → Steps V74 (stack_of p over deep) after → Steps V74 (stack_of m over deep) ((us ++ us') ++ after)
+  written_so : (gap : Bool) (below over : List Mode) (depth deep : ℕ) (rest after : List Tile)
+      → Goes (need || (needs && not stop)) (gap_behind gap (ts ++ ts')) rest after
+      → Steps V74 (stack_of m below depth) ((ts ++ ts') ++ rest) → Steps V74 (stack_of p over deep) after
+      → Steps V74 (stack_of m over deep) ((us ++ us') ++ after)
   written_so gap below over depth deep rest after h s w =
       let there : Goes (need || (needs && not stop)) (gap_behind (gap_behind gap ts) ts') rest after =
       subst (λ (x : Bool). Goes (need || (needs && not stop)) x rest after) (gap_append gap ts ts') h in

@@ -1,5 +1,34 @@
 -- Words of letters among the bytes, and the tokens of code that a letter or white space begins.
-use Rattle.std.proofs.Common.{◌≡◌, ℕ, suc, Bool, true, false, cond, not, ◌&&◌, ◌||◌, nat_eq, nat_lt, List, [], ◌∷◌, ◌++◌, length, drop, codes, Option, Some, None, refl, sym, ap, ◌∙◌, subst, arith}
+use Rattle.std.proofs.Common.{
+  ◌≡◌,
+  ℕ,
+  suc,
+  Bool,
+  true,
+  false,
+  cond,
+  not,
+  ◌&&◌,
+  ◌||◌,
+  nat_eq,
+  nat_lt,
+  List,
+  [],
+  ◌∷◌,
+  ◌++◌,
+  length,
+  drop,
+  codes,
+  Option,
+  Some,
+  None,
+  refl,
+  sym,
+  ap,
+  ◌∙◌,
+  subst,
+  arith,
+}
 use Rattle.std.proofs.lemmas.Bool.{and_parts, eqb-true}
 use Rattle.std.proofs.lemmas.Bool.Decides.{nat_tests}
 use Rattle.php_tree.specs.declared.version.Version.TheVariants.{V74}
@@ -35,7 +64,9 @@ no_start x w (c ∷ s) small e = by_case (nat_eq x (lower c)) refl
     by_case false p = refl
     by_case true p = absurd (let clash : true ≡ false = sym (small_label x c small p).0 ∙ e in cc)
 
-alone_step : (w t s : List ℕ) (x : Bool) → word_alone w (t ++ s) ≡ word_alone w t → ((x && starts_word w (t ++ s)) && no_label (drop (length w) (t ++ s))) ≡ ((x && starts_word w t) && no_label (drop (length w) t))
+alone_step : (w t s : List ℕ) (x : Bool) → word_alone w (t ++ s) ≡ word_alone w t
+    → ((x && starts_word w (t ++ s)) && no_label (drop (length w) (t ++ s))) ≡
+    ((x && starts_word w t) && no_label (drop (length w) t))
 alone_step w t s true h = h
 alone_step w t s false h = refl
 
@@ -154,16 +185,20 @@ pub letter_kind : (b : ℕ) (bs : List ℕ) (kind : Kind) (n : ℕ) → IsLonges
 letter_kind b bs kind n l h e = sym (ap stops_found (scan_of V74 code (b ∷ bs) kind n l)) ∙ plain_stops b bs h e
 
 -- so does `b` before a letter
-pub b_rows : (b c : ℕ) (bs : List ℕ) → lower b ≡ 98 → nat_eq 39 (lower c) ≡ false → nat_eq 34 (lower c) ≡ false → nat_eq 60 (lower c) ≡ false → scan_by [] letter_rows (b ∷ c ∷ bs) ≡ longer Word (add_to 0 (word_len (b ∷ c ∷ bs))) None
+pub b_rows : (b c : ℕ) (bs : List ℕ) → lower b ≡ 98 → nat_eq 39 (lower c) ≡ false → nat_eq 34 (lower c) ≡ false
+    → nat_eq 60 (lower c) ≡ false → scan_by [] letter_rows (b ∷ c ∷ bs) ≡ longer Word
+    (add_to 0 (word_len (b ∷ c ∷ bs))) None
 b_rows b c bs e p q r = rw (e, p, q, r) refl
 
-b_stops : (b c : ℕ) (bs : List ℕ) → is_letter b ≡ true → lower b ≡ 98 → nat_eq 39 (lower c) ≡ false → nat_eq 34 (lower c) ≡ false → nat_eq 60 (lower c) ≡ false → stops_found (scan V74 code (b ∷ c ∷ bs)) ≡ false
+b_stops : (b c : ℕ) (bs : List ℕ) → is_letter b ≡ true → lower b ≡ 98 → nat_eq 39 (lower c) ≡ false
+    → nat_eq 34 (lower c) ≡ false → nat_eq 60 (lower c) ≡ false → stops_found (scan V74 code (b ∷ c ∷ bs)) ≡ false
 b_stops b c bs h e p q r = ap stops_found (scan_letter b (c ∷ bs) h ∙ b_rows b c bs e p q r) ∙ two_kinds None (add_to 0 (word_len (b ∷ c ∷ bs)))
 
 b_second : (b c : ℕ) (bs : List ℕ) → lower b ≡ 98 → nat_eq 111 (lower c) ≡ false → nat_eq 105 (lower c) ≡ false → begins_type (b ∷ c ∷ bs) ≡ false
 b_second b c bs e p q = rw (e, p, q) refl
 
-apart : (x c : ℕ) → nat_eq x (lower c) ≡ true → nat_eq x 39 ≡ false → nat_eq x 34 ≡ false → nat_eq x 60 ≡ false → (nat_eq 39 (lower c) ≡ false) × ((nat_eq 34 (lower c) ≡ false) × (nat_eq 60 (lower c) ≡ false))
+apart : (x c : ℕ) → nat_eq x (lower c) ≡ true → nat_eq x 39 ≡ false → nat_eq x 34 ≡ false → nat_eq x 60 ≡ false
+    → (nat_eq 39 (lower c) ≡ false) × ((nat_eq 34 (lower c) ≡ false) × (nat_eq 60 (lower c) ≡ false))
 apart x c e p q r =
     let same : x ≡ lower c = eqb-true x (lower c) e in
     (subst (λ (y : ℕ). nat_eq 39 y ≡ false) same (turn 39 p), (subst (λ (y : ℕ). nat_eq 34 y ≡ false) same (turn 34 q), subst (λ (y : ℕ). nat_eq 60 y ≡ false) same (turn 60 r)))
@@ -175,7 +210,8 @@ module _ (b : ℕ) (kind : Kind) (h : is_letter b ≡ true) (stops : stops_cast 
   clash_of : (bs : List ℕ) (n : ℕ) → IsLongest V74 code (b ∷ bs) kind n → stops_found (scan V74 code (b ∷ bs)) ≡ false → ⊥
   clash_of bs n l e = let clash : true ≡ false = sym stops ∙ sym (ap stops_found (scan_of V74 code (b ∷ bs) kind n l)) ∙ e in cc
 
-  b_second_by : (c : ℕ) (bs : List ℕ) (n : ℕ) → lower b ≡ 98 → IsLongest V74 code (b ∷ c ∷ bs) kind n → (x y : Bool) → nat_eq 111 (lower c) ≡ x → nat_eq 105 (lower c) ≡ y → begins_type (b ∷ c ∷ bs) ≡ false
+  b_second_by : (c : ℕ) (bs : List ℕ) (n : ℕ) → lower b ≡ 98 → IsLongest V74 code (b ∷ c ∷ bs) kind n → (x y : Bool)
+      → nat_eq 111 (lower c) ≡ x → nat_eq 105 (lower c) ≡ y → begins_type (b ∷ c ∷ bs) ≡ false
   b_second_by c bs n e l false false p q = b_second b c bs e p q
   b_second_by c bs n e l true y p q = let no = apart 111 c p refl refl refl in absurd (clash_of (c ∷ bs) n l (b_stops b c bs h e no.0 no.1.0 no.1.1))
   b_second_by c bs n e l false true p q = let no = apart 105 c q refl refl refl in absurd (clash_of (c ∷ bs) n l (b_stops b c bs h e no.0 no.1.0 no.1.1))

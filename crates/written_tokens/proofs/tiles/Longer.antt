@@ -1,5 +1,32 @@
 -- A token with one byte more is none, and meets no row.
-use Rattle.std.proofs.Common.{◌≡◌, ℕ, suc, ◌+◌, ◌≤◌, Bool, true, false, cond, ◌||◌, List, [], ◌∷◌, ◌++◌, length, take, drop, Some, None, refl, sym, ap, ◌∙◌, subst, append_assoc, arith}
+use Rattle.std.proofs.Common.{
+  ◌≡◌,
+  ℕ,
+  suc,
+  ◌+◌,
+  ◌≤◌,
+  Bool,
+  true,
+  false,
+  cond,
+  ◌||◌,
+  List,
+  [],
+  ◌∷◌,
+  ◌++◌,
+  length,
+  take,
+  drop,
+  Some,
+  None,
+  refl,
+  sym,
+  ap,
+  ◌∙◌,
+  subst,
+  append_assoc,
+  arith,
+}
 use Rattle.std.proofs.lemmas.List.{length-append}
 use Rattle.std.proofs.Math.Seq.{take-append_seam, drop-append_seam}
 use Rattle.php_tree.specs.declared.version.Version.TheVariants.{V74}
@@ -27,7 +54,10 @@ longer_none b c a r kind h = longer_in code b c a r kind h
 
 -- a text that is no token meets no row
 module _ (is : Kind → Bool) (t r : List ℕ) where
-  none_by : (kind : Kind) (w : List ℕ) (tail : Tail) (rows : List Row) → (kind_by [] rows t r ≡ None → meets [] (picked is rows) t r ≡ false) → (x : Bool) → led lower w (is_tail [] tail) t r ≡ x → cond x (Some kind) (kind_by [] rows t r) ≡ None → (y : Bool) → meets [] (cond y (rule kind w tail ∷ picked is rows) (picked is rows)) t r ≡ false
+  none_by : (kind : Kind) (w : List ℕ) (tail : Tail) (rows : List Row)
+      → (kind_by [] rows t r ≡ None → meets [] (picked is rows) t r ≡ false) → (x : Bool)
+      → led lower w (is_tail [] tail) t r ≡ x → cond x (Some kind) (kind_by [] rows t r) ≡ None → (y : Bool)
+      → meets [] (cond y (rule kind w tail ∷ picked is rows) (picked is rows)) t r ≡ false
   none_by kind w tail rows ih true e h y = absurd cc
   none_by kind w tail rows ih false e h true = rw e (ih h)
   none_by kind w tail rows ih false e h false = ih h

@@ -3,7 +3,28 @@ use Rattle.std.proofs.Common.{◌≡◌, ℕ, suc, ◌+◌, Bool, true, false, c
 use Rattle.std.proofs.lemmas.Bool.{and_parts, eqb-true}
 use Rattle.php_spellings.specs.declared.table.Shape.TheVariants as shape
 use Rattle.php_spellings.specs.declared.table.Spot.{Spot}
-use Rattle.php_spellings.specs.declared.table.Spot.TheVariants.{Begin, Whole, WholeGap, LeadPoint, Point, Part, PartGap, Mark, Sign, Power, PowerGap, FirstLabel, Backslash, LaterLabel, OpenedLabel, QuotedLabel, ClosedLabel, Return, Line, Stuck}
+use Rattle.php_spellings.specs.declared.table.Spot.TheVariants.{
+  Begin,
+  Whole,
+  WholeGap,
+  LeadPoint,
+  Point,
+  Part,
+  PartGap,
+  Mark,
+  Sign,
+  Power,
+  PowerGap,
+  FirstLabel,
+  Backslash,
+  LaterLabel,
+  OpenedLabel,
+  QuotedLabel,
+  ClosedLabel,
+  Return,
+  Line,
+  Stuck,
+}
 use Rattle.php_spellings.specs.Bytes.{is_blank_byte, is_line_end, is_letter, is_label_byte, begins, begins_by, skip_blanks, label_len}
 use Rattle.php_lexer.specs.Heredocs.{begins_nowdoc}
 use Rattle.php_lexer.specs.Shapes.{step, may_end, is_stuck}
@@ -52,7 +73,8 @@ record Bar (c : ℕ) : Type 0 where
   double : nat_eq c 34 ≡ false
   single : nat_eq c 39 ≡ false
 
-none_5 : (c : ℕ) (v w x y z u : Bool) → is_blank_byte c ≡ v → is_line_end c ≡ w → is_label_byte c ≡ x → nat_eq c 34 ≡ y → nat_eq c 39 ≡ z → (not v && (not w && (not x && (not y && (not z && not u))))) ≡ true → Bar c
+none_5 : (c : ℕ) (v w x y z u : Bool) → is_blank_byte c ≡ v → is_line_end c ≡ w → is_label_byte c ≡ x
+    → nat_eq c 34 ≡ y → nat_eq c 39 ≡ z → (not v && (not w && (not x && (not y && (not z && not u))))) ≡ true → Bar c
 none_5 c true w x y z u e f g i j h = absurd cc
 none_5 c false true x y z u e f g i j h = absurd cc
 none_5 c false false true y z u e f g i j h = absurd cc
@@ -119,7 +141,9 @@ bar_stuck Return c h = let ends = left_false (nat_eq c 10) (nat_eq c 13) h.line 
 bar_stuck Line c h = refl
 bar_stuck Stuck c h = refl
 
-bar_by : (spot : Spot) (x : Bool) (o : Option ℕ) (r : List ℕ) → x ≡ true → is_some (cond x (here_len (may_end shape.HeredocLine spot)) o) ≡ true → is_some (shape_len shape.HeredocLine spot r) ≡ true
+bar_by : (spot : Spot) (x : Bool) (o : Option ℕ) (r : List ℕ) → x ≡ true
+    → is_some (cond x (here_len (may_end shape.HeredocLine spot)) o) ≡ true
+    → is_some (shape_len shape.HeredocLine spot r) ≡ true
 bar_by spot true o r e h = may_some spot r (here_may (may_end shape.HeredocLine spot) h)
 bar_by spot false o r e h = absurd cc
 
@@ -145,7 +169,8 @@ space_by Return r s h = may_some Return r refl
 space_by Line r s h = may_some Line r refl
 space_by Stuck r s h = absurd cc
 
-some_by : (x : Bool) (o p e : Option ℕ) → (is_some o ≡ true → is_some p ≡ true) → is_some (cond x e (or_else (add_to 1 o) e)) ≡ true → is_some (cond x e (or_else (add_to 1 p) e)) ≡ true
+some_by : (x : Bool) (o p e : Option ℕ) → (is_some o ≡ true → is_some p ≡ true)
+    → is_some (cond x e (or_else (add_to 1 o) e)) ≡ true → is_some (cond x e (or_else (add_to 1 p) e)) ≡ true
 some_by true o p e f h = h
 some_by false None None e f h = h
 some_by false None (Some n) e f h = refl
@@ -154,10 +179,14 @@ some_by false (Some m) (Some n) e f h = refl
 
 line_found : {r s : List ℕ} → Onward r s → (spot : Spot) → is_some (shape_len shape.HeredocLine spot s) ≡ true → is_some (shape_len shape.HeredocLine spot r) ≡ true
 line_found ended spot h = h
-line_found (barred {r = r} {s = s} c e) spot h = bar_by spot (is_stuck (step shape.HeredocLine spot c)) (or_else (add_to 1 (shape_len shape.HeredocLine (step shape.HeredocLine spot c) s)) (here_len (may_end shape.HeredocLine spot))) r (bar_stuck spot c (bar c e)) h
+line_found (barred {r = r} {s = s} c e) spot h = bar_by spot (is_stuck (step shape.HeredocLine spot c))
+    (or_else (add_to 1 (shape_len shape.HeredocLine (step shape.HeredocLine spot c) s))
+    (here_len (may_end shape.HeredocLine spot))) r (bar_stuck spot c (bar c e)) h
 line_found (spaced {r = r} {s = s}) spot h = space_by spot r s h
 line_found (same {r = r} {s = s} b more) spot h =
-    some_by (is_stuck (step shape.HeredocLine spot b)) (shape_len shape.HeredocLine (step shape.HeredocLine spot b) s) (shape_len shape.HeredocLine (step shape.HeredocLine spot b) r) (here_len (may_end shape.HeredocLine spot)) (line_found more (step shape.HeredocLine spot b)) h
+    some_by (is_stuck (step shape.HeredocLine spot b)) (shape_len shape.HeredocLine (step shape.HeredocLine spot b) s)
+    (shape_len shape.HeredocLine (step shape.HeredocLine spot b) r) (here_len (may_end shape.HeredocLine spot))
+    (line_found more (step shape.HeredocLine spot b)) h
 
 -- ---- the first line of a nowdoc
 
@@ -180,7 +209,8 @@ label_step b s e =
 label_stop : (b : ℕ) (s : List ℕ) → is_label_byte b ≡ false → closes_label (b ∷ s) ≡ (nat_eq b 39 && begins is_line_end s)
 label_stop b s e = rw e refl
 
-label_by : (b : ℕ) (r s : List ℕ) → Onward r s → (closes_label s ≡ true → closes_label r ≡ true) → (x : Bool) → is_label_byte b ≡ x → closes_label (b ∷ s) ≡ true → closes_label (b ∷ r) ≡ true
+label_by : (b : ℕ) (r s : List ℕ) → Onward r s → (closes_label s ≡ true → closes_label r ≡ true) → (x : Bool)
+    → is_label_byte b ≡ x → closes_label (b ∷ s) ≡ true → closes_label (b ∷ r) ≡ true
 label_by b r s more ih true e h = label_step b r e ∙ ih (sym (label_step b s e) ∙ h)
 label_by b r s more ih false e h =
     let (quote, end) = and_parts (nat_eq b 39) (begins is_line_end s) (sym (label_stop b s e) ∙ h) in
@@ -208,7 +238,8 @@ nowdoc_at y =
     && begins_by 39 (drop (label_len (drop 1 y)) (drop 1 y))
     && begins is_line_end (drop (label_len (drop 1 y) + 1) (drop 1 y))
 
-at_by : (q l x y : Bool) (q' l' x' y' : Bool) → (q ≡ true → q' ≡ true) → (l ≡ true → l' ≡ true) → ((x && y) ≡ true → (x' && y') ≡ true) → (q && l && x && y) ≡ true → (q' && l' && x' && y') ≡ true
+at_by : (q l x y : Bool) (q' l' x' y' : Bool) → (q ≡ true → q' ≡ true) → (l ≡ true → l' ≡ true)
+    → ((x && y) ≡ true → (x' && y') ≡ true) → (q && l && x && y) ≡ true → (q' && l' && x' && y') ≡ true
 at_by true true true true q' l' x' y' f g k h =
     let (one, two) = and_parts x' y' (k refl) in
     rw (f refl, g refl, one, two) refl
@@ -217,7 +248,9 @@ at_by true true false y q' l' x' y' f g k h = absurd cc
 at_by true false x y q' l' x' y' f g k h = absurd cc
 at_by false l x y q' l' x' y' f g k h = absurd cc
 
-blank_by : (b : ℕ) (r s : List ℕ) → Onward r s → (nowdoc_at (skip_blanks s) ≡ true → nowdoc_at (skip_blanks r) ≡ true) → (t : Bool) → nowdoc_at (cond t (skip_blanks s) (b ∷ s)) ≡ true → nowdoc_at (cond t (skip_blanks r) (b ∷ r)) ≡ true
+blank_by : (b : ℕ) (r s : List ℕ) → Onward r s → (nowdoc_at (skip_blanks s) ≡ true → nowdoc_at (skip_blanks r) ≡ true)
+    → (t : Bool) → nowdoc_at (cond t (skip_blanks s) (b ∷ s)) ≡ true
+    → nowdoc_at (cond t (skip_blanks r) (b ∷ r)) ≡ true
 blank_by b r s more ih true h = ih h
 blank_by b r s more ih false h =
     at_by (nat_eq b 39) (begins is_letter s) (begins_by 39 (drop (label_len s) s)) (begins is_line_end (drop (label_len s + 1) s))

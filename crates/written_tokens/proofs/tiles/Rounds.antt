@@ -21,7 +21,8 @@ use Rattle.written_tokens.proofs.tiles.Standing.{begins_is}
 use Rattle.written_tokens.proofs.tiles.Stepping.{stepped, longest_in, steps_behind}
 
 -- `(` before what begins no cast
-opening : (over : List Mode) (deep : ℕ) (us : List Tile) → begins_cast (joined us) ≡ false → Steps V74 (stack_of code over deep) us → Steps V74 (stack_of code over deep) (tile Op 40 [] ∷ us)
+opening : (over : List Mode) (deep : ℕ) (us : List Tile) → begins_cast (joined us) ≡ false
+    → Steps V74 (stack_of code over deep) us → Steps V74 (stack_of code over deep) (tile Op 40 [] ∷ us)
 opening over deep us h w =
     stepped (stack_of code over deep) (stack_of code over deep) Op 40 [] us (openings_are_uncast.opens V74 (joined us) h) refl w
 
@@ -30,7 +31,9 @@ closing over deep after w =
     stepped (stack_of code over deep) (stack_of code over deep) Op 41 [] after (marks_are_tokens.closing V74 (joined after)) refl w
 
 module _ (needs stops : Bool) (ts us : List Tile) (f : Becomes needs stops code code ts us) where
-  inner_source : (below : List Mode) (depth : ℕ) (rest : List Tile) → Steps V74 (stack_of code below depth) (tile Op 40 [] ∷ ts ++ tile Op 41 [] ∷ rest) → Steps V74 (stack_of code below depth) (ts ++ tile Op 41 [] ∷ rest)
+  inner_source : (below : List Mode) (depth : ℕ) (rest : List Tile)
+      → Steps V74 (stack_of code below depth) (tile Op 40 [] ∷ ts ++ tile Op 41 [] ∷ rest)
+      → Steps V74 (stack_of code below depth) (ts ++ tile Op 41 [] ∷ rest)
   inner_source below depth rest h = steps_behind (stack_of code below depth) (stack_of code below depth) Op 40 [] (ts ++ tile Op 41 [] ∷ rest) refl h
 
   source_so : (below : List Mode) (depth : ℕ) (rest : List Tile) → Steps V74 (stack_of code below depth) (between 40 41 ts ++ rest) → Steps V74 (stack_of code below depth) rest
@@ -42,7 +45,8 @@ module _ (needs stops : Bool) (ts us : List Tile) (f : Becomes needs stops code 
   close_so : (x gap : Bool) (rest after : List Tile) → Goes false false rest after → Goes x gap (tile Op 41 [] ∷ rest) (tile Op 41 [] ∷ after)
   close_so x gap rest after h = same Op 41 [] (subst (λ (t : Bool). Goes t false rest after) (sym (both_false x)) h)
 
-  goes_so : (tight gap : Bool) (rest after : List Tile) → Goes (tight && not true) (gap_behind gap (between 40 41 ts)) rest after → Goes tight gap (between 40 41 ts ++ rest) (between 40 41 us ++ after)
+  goes_so : (tight gap : Bool) (rest after : List Tile) → Goes (tight && not true) (gap_behind gap (between 40 41 ts))
+      rest after → Goes tight gap (between 40 41 ts ++ rest) (between 40 41 us ++ after)
   goes_so tight gap rest after h =
       let last : Goes false false rest after =
       tighter (tight && not true) false (λ e. absurd cc) (subst (λ (x : Bool). Goes (tight && not true) x rest after) (no_gap gap 40 41 ts) h) in
@@ -51,7 +55,10 @@ module _ (needs stops : Bool) (ts us : List Tile) (f : Becomes needs stops code 
       (same Op 40 []
       (f.goes (tight && not true) false (tile Op 41 [] ∷ rest) (tile Op 41 [] ∷ after) (close_so ((tight && not true) && not stops) (gap_behind false ts) rest after last))))
 
-  written_so : (gap : Bool) (below over : List Mode) (depth deep : ℕ) (rest after : List Tile) → Goes false (gap_behind gap (between 40 41 ts)) rest after → Steps V74 (stack_of code below depth) (between 40 41 ts ++ rest) → Steps V74 (stack_of code over deep) after → Steps V74 (stack_of code over deep) (between 40 41 us ++ after)
+  written_so : (gap : Bool) (below over : List Mode) (depth deep : ℕ) (rest after : List Tile)
+      → Goes false (gap_behind gap (between 40 41 ts)) rest after
+      → Steps V74 (stack_of code below depth) (between 40 41 ts ++ rest) → Steps V74 (stack_of code over deep) after
+      → Steps V74 (stack_of code over deep) (between 40 41 us ++ after)
   written_so gap below over depth deep rest after h s w =
       let whole = subst (λ (x : List Tile). Steps V74 (stack_of code below depth) x) (between_before 40 41 ts rest) s in
       let last : Goes false false rest after = subst (λ (x : Bool). Goes false x rest after) (no_gap gap 40 41 ts) h in
@@ -88,7 +95,9 @@ module _ (ts us : List Tile) (first : begins_token ts ≡ true) (last : gap_behi
   goes_in : (tight gap : Bool) (rest after : List Tile) → Goes (tight && not true) (gap_behind gap ts) rest after → Goes tight gap (ts ++ rest) (between 40 41 us ++ after)
   goes_in tight gap rest after h = put Op 40 [] refl (or_right (not gap) (begins_token (ts ++ rest)) (begins_more ts rest first))
 
-  written_in : (gap : Bool) (below over : List Mode) (depth deep : ℕ) (rest after : List Tile) → Goes false (gap_behind gap ts) rest after → Steps V74 (stack_of code below depth) (ts ++ rest) → Steps V74 (stack_of code over deep) after → Steps V74 (stack_of code over deep) (between 40 41 us ++ after)
+  written_in : (gap : Bool) (below over : List Mode) (depth deep : ℕ) (rest after : List Tile)
+      → Goes false (gap_behind gap ts) rest after → Steps V74 (stack_of code below depth) (ts ++ rest)
+      → Steps V74 (stack_of code over deep) after → Steps V74 (stack_of code over deep) (between 40 41 us ++ after)
   written_in gap below over depth deep rest after h s w =
       let close : Goes false (gap_behind gap ts) rest (tile Op 41 [] ∷ after) = put Op 41 [] refl (gapless_put (gap_behind gap ts) rest (ends_token gap ts first last)) in
       let inner : Steps V74 (stack_of code over deep) (us ++ tile Op 41 [] ∷ after) =

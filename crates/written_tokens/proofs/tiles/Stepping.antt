@@ -2,7 +2,38 @@
 use Rattle.std.proofs.Common.{◌≡◌, ℕ, suc, Bool, true, false, not, ◌||◌, nat_eq, List, [], ◌∷◌, ◌++◌, length, refl, sym, ◌∙◌, subst}
 use Rattle.php_tree.specs.declared.version.Version.TheVariants.{V74}
 use Rattle.php_spellings.specs.declared.table.Kind.{Kind}
-use Rattle.php_spellings.specs.declared.table.Kind.TheVariants.{Space, Comment, Tag, OpenEcho, InlineHtml, Variable, Word, Label, Keyword, Name, Decimal, Octal, Hexadecimal, Binary, Digits, Float, Text, Quote, Backtick, HeredocStart, Cast, Op, AttributeOpen, Semi, Close, Piece, CurlyOpen, DollarBrace, VarName, QuotedEnd}
+use Rattle.php_spellings.specs.declared.table.Kind.TheVariants.{
+  Space,
+  Comment,
+  Tag,
+  OpenEcho,
+  InlineHtml,
+  Variable,
+  Word,
+  Label,
+  Keyword,
+  Name,
+  Decimal,
+  Octal,
+  Hexadecimal,
+  Binary,
+  Digits,
+  Float,
+  Text,
+  Quote,
+  Backtick,
+  HeredocStart,
+  Cast,
+  Op,
+  AttributeOpen,
+  Semi,
+  Close,
+  Piece,
+  CurlyOpen,
+  DollarBrace,
+  VarName,
+  QuotedEnd,
+}
 use Rattle.php_lexer.specs.Modes.{Mode, html, code, turn_of, code_turn, brace_turn, IsLongest}
 use Rattle.php_lexer.specs.Lexed.{Stack, turned_by}
 use Rattle.php_relexing.specs.Tiles.{Tile, tile, joined}
@@ -13,7 +44,9 @@ use Rattle.written_tokens.proofs.tokens.Kept.{opened}
 use Rattle.written_tokens.specs.tiles.CodeTokens.{is_plain, mode_behind, mode_opened}
 
 -- a tile comes before the steps of the modes that it leaves
-pub stepped : (k n : Stack) (kind : Kind) (b : ℕ) (a : List ℕ) (ts : List Tile) → IsLongest V74 k.top (b ∷ a ++ joined ts) kind (suc (length a)) → turned_by (turn_of V74 k.top kind (b ∷ a) (joined ts)) k ≡ n → Steps V74 n ts → Steps V74 k (tile kind b a ∷ ts)
+pub stepped : (k n : Stack) (kind : Kind) (b : ℕ) (a : List ℕ) (ts : List Tile)
+    → IsLongest V74 k.top (b ∷ a ++ joined ts) kind (suc (length a))
+    → turned_by (turn_of V74 k.top kind (b ∷ a) (joined ts)) k ≡ n → Steps V74 n ts → Steps V74 k (tile kind b a ∷ ts)
 stepped k n kind b a ts h e more =
     step kind b a ts h
     (subst (λ (x : Stack). Steps V74 x ts) (sym (passes_join.turns V74 k kind b a (joined ts) ∙ e)) more)
@@ -21,7 +54,8 @@ stepped k n kind b a ts h e more =
 pub longest_in : (k : Stack) (kind : Kind) (b : ℕ) (a : List ℕ) (ts : List Tile) → Steps V74 k (tile kind b a ∷ ts) → IsLongest V74 k.top (b ∷ a ++ joined ts) kind (suc (length a))
 longest_in k kind b a ts h = (opened h).0
 
-pub steps_behind : (k n : Stack) (kind : Kind) (b : ℕ) (a : List ℕ) (ts : List Tile) → turned_by (turn_of V74 k.top kind (b ∷ a) (joined ts)) k ≡ n → Steps V74 k (tile kind b a ∷ ts) → Steps V74 n ts
+pub steps_behind : (k n : Stack) (kind : Kind) (b : ℕ) (a : List ℕ) (ts : List Tile)
+    → turned_by (turn_of V74 k.top kind (b ∷ a) (joined ts)) k ≡ n → Steps V74 k (tile kind b a ∷ ts) → Steps V74 n ts
 steps_behind k n kind b a ts e h =
     subst (λ (x : Stack). Steps V74 x ts) (passes_join.turns V74 k kind b a (joined ts) ∙ e) (opened h).1
 
@@ -32,12 +66,14 @@ not_or true y h = absurd cc
 not_or false true h = absurd cc
 not_or false false h = (refl, refl)
 
-op_stays : (b : ℕ) (a : List ℕ) (below : List Mode) (depth : ℕ) → not (nat_eq b 123 || nat_eq b 125) ≡ true → turned_by (brace_turn (b ∷ a)) (stack_of code below depth) ≡ stack_of code below depth
+op_stays : (b : ℕ) (a : List ℕ) (below : List Mode) (depth : ℕ) → not (nat_eq b 123 || nat_eq b 125) ≡ true
+    → turned_by (brace_turn (b ∷ a)) (stack_of code below depth) ≡ stack_of code below depth
 op_stays b [] below depth h = let (open_, close) = not_or (nat_eq b 123) (nat_eq b 125) h in rw (open_, close) refl
 op_stays b (c ∷ a) below depth h = refl
 
 -- such a tile of code leaves the modes below as they are
-pub plain_turn : (kind : Kind) (b : ℕ) (a : List ℕ) (below : List Mode) (depth : ℕ) → is_plain kind b a ≡ true → turned_by (code_turn kind (b ∷ a)) (stack_of code below depth) ≡ stack_of (mode_behind kind) below depth
+pub plain_turn : (kind : Kind) (b : ℕ) (a : List ℕ) (below : List Mode) (depth : ℕ) → is_plain kind b a ≡ true
+    → turned_by (code_turn kind (b ∷ a)) (stack_of code below depth) ≡ stack_of (mode_behind kind) below depth
 plain_turn Space b a below depth h = refl
 plain_turn Comment b a below depth h = refl
 plain_turn Tag b a below depth h = refl
@@ -71,7 +107,9 @@ plain_turn QuotedEnd b a below depth h = refl
 
 -- ---- inline HTML
 
-pub html_turn : (kind : Kind) (b : ℕ) (a rest : List ℕ) (below : List Mode) (depth : ℕ) → turned_by (turn_of V74 html kind (b ∷ a) rest) (stack_of html below depth) ≡ stack_of (mode_opened kind) below depth
+pub html_turn : (kind : Kind) (b : ℕ) (a rest : List ℕ) (below : List Mode) (depth : ℕ)
+    → turned_by (turn_of V74 html kind (b ∷ a) rest) (stack_of html below depth) ≡ stack_of (mode_opened kind) below
+    depth
 html_turn Space b a rest below depth = refl
 html_turn Comment b a rest below depth = refl
 html_turn Tag b a rest below depth = refl

@@ -1,5 +1,36 @@
 -- Words other than `yield`, before white space and `from`.
-use Rattle.std.proofs.Common.{◌≡◌, ℕ, suc, ◌+◌, Bool, true, false, cond, ◌&&◌, nat_eq, nat_lt, List, [], ◌∷◌, ◌++◌, length, drop, codes, Option, Some, None, ◌⊎◌, inl, inr, refl, sym, ap, ◌∙◌, subst, arith}
+use Rattle.std.proofs.Common.{
+  ◌≡◌,
+  ℕ,
+  suc,
+  ◌+◌,
+  Bool,
+  true,
+  false,
+  cond,
+  ◌&&◌,
+  nat_eq,
+  nat_lt,
+  List,
+  [],
+  ◌∷◌,
+  ◌++◌,
+  length,
+  drop,
+  codes,
+  Option,
+  Some,
+  None,
+  ◌⊎◌,
+  inl,
+  inr,
+  refl,
+  sym,
+  ap,
+  ◌∙◌,
+  subst,
+  arith,
+}
 use Rattle.std.proofs.lemmas.Bool.{and_parts}
 use Rattle.std.proofs.lemmas.Bool.Decides.{nat_tests}
 use Rattle.php_tree.specs.declared.version.Version.TheVariants.{V74}
@@ -63,7 +94,9 @@ alone_rom true true n h = refl
 alone_rom true false n h = absurd cc
 alone_rom false s n h = absurd cc
 
-plain_some : (b : ℕ) (bs : List ℕ) (t u : Bool) → is_space b ≡ t → word_alone (codes "from") (b ∷ bs) ≡ u → (comes_from bs ≡ true → is_some (until_len From Plain bs) ≡ true) → cond t (comes_from bs) u ≡ true → is_some (until_len From Plain (b ∷ bs)) ≡ true
+plain_some : (b : ℕ) (bs : List ℕ) (t u : Bool) → is_space b ≡ t → word_alone (codes "from") (b ∷ bs) ≡ u
+    → (comes_from bs ≡ true → is_some (until_len From Plain bs) ≡ true) → cond t (comes_from bs) u ≡ true
+    → is_some (until_len From Plain (b ∷ bs)) ≡ true
 plain_some b bs true u e f ih h = rw e (more_some (until_len From Plain bs) (ih h))
 plain_some b bs false true e f ih h =
     rw (e, f) (more_some (until_len From Escaped bs) (rom_some bs (alone_rom (nat_eq 102 (lower b)) (starts_word (codes "rom") bs) (no_label (drop 4 (b ∷ bs))) f)))
@@ -100,7 +133,8 @@ record Exact (w a r : List ℕ) : Type 0 where
 exact_more : (x b : ℕ) (w a r : List ℕ) → nat_eq x (lower b) ≡ true → Exact w a r → Exact (x ∷ w) (b ∷ a) r
 exact_more x b w a r e h = record { starts = rw e h.starts; rest = h.rest; size = ap suc h.size }
 
-exact_or : (w a r s : List ℕ) → all_small w ≡ true → all_label a ≡ true → begins is_label_byte s ≡ false → starts_word w (a ++ s) ≡ true → (until_len From First (drop (length w) (a ++ s)) ≡ None) ⊎ Exact w a r
+exact_or : (w a r s : List ℕ) → all_small w ≡ true → all_label a ≡ true → begins is_label_byte s ≡ false
+    → starts_word w (a ++ s) ≡ true → (until_len From First (drop (length w) (a ++ s)) ≡ None) ⊎ Exact w a r
 exact_or [] [] r s small h e g = inr (record { starts = refl; rest = refl; size = refl })
 exact_or [] (b ∷ a) r s small h e g = inl (rw (label_space b (and_parts (is_label_byte b) (all_label a) h).0) refl)
 exact_or (x ∷ w) [] r s small h e g = absurd (past x w s (and_parts (is_small x) (all_small w) small).0 e g)
@@ -119,14 +153,18 @@ exact_or (x ∷ w) (b ∷ a) r s small h e g =
 abbrev keyword_len : ℕ → List ℕ → Option ℕ
 keyword_len b bs = cond (nat_eq 121 (lower b) && starts_word (codes "ield") bs) (add_to 5 (until_len From First (drop 4 bs))) None
 
-word_row : (b : ℕ) (a s : List ℕ) → is_letter b ≡ true → nat_eq (lower b) 98 ≡ false → all_label a ≡ true → begins is_label_byte s ≡ false → longer Word (add_to 0 (word_len (b ∷ a ++ s))) None ≡ found Word (suc (length a))
+word_row : (b : ℕ) (a s : List ℕ) → is_letter b ≡ true → nat_eq (lower b) 98 ≡ false → all_label a ≡ true
+    → begins is_label_byte s ≡ false → longer Word (add_to 0 (word_len (b ∷ a ++ s))) None ≡ found Word
+    (suc (length a))
 word_row b a s h p k e =
     let one : 1 + length a ≡ suc (length a) = omega arith in
     let some : nat_eq (suc (length a)) 0 ≡ false = grind (arith, nat_tests) in
     let none : 0 + suc (length a) ≡ suc (length a) = omega arith in
     rw (h, label_run [] a s k e, one, p, some, none) refl
 
-word_scan : (b : ℕ) (a s : List ℕ) → is_letter b ≡ true → nat_eq (lower b) 98 ≡ false → all_label a ≡ true → begins is_label_byte s ≡ false → scan V74 code (b ∷ a ++ s) ≡ longer Keyword (keyword_len b (a ++ s)) (found Word (suc (length a)))
+word_scan : (b : ℕ) (a s : List ℕ) → is_letter b ≡ true → nat_eq (lower b) 98 ≡ false → all_label a ≡ true
+    → begins is_label_byte s ≡ false → scan V74 code (b ∷ a ++ s) ≡ longer Keyword (keyword_len b (a ++ s))
+    (found Word (suc (length a)))
 word_scan b a s h p k e =
     older_scan b (a ++ s) (letter_hash b h)
     ∙ letter_scan b (a ++ s) h
@@ -148,12 +186,16 @@ no_word_found : (o : Option ℕ) → is_some o ≡ true → is_word_found (longe
 no_word_found None h = absurd cc
 no_word_found (Some n) h = rw (five_more n) refl
 
-module _ (b : ℕ) (a r : List ℕ) (p : nat_eq (lower b) 98 ≡ false) (h : IsLongest V74 code (b ∷ a ++ r) Word (suc (length a))) (letter : is_letter b ≡ true) (labels : all_label a ≡ true) (ends : begins is_label_byte r ≡ false) (from : begins_from r ≡ true) where
+module _ (b : ℕ) (a r : List ℕ) (p : nat_eq (lower b) 98 ≡ false)
+    (h : IsLongest V74 code (b ∷ a ++ r) Word (suc (length a))) (letter : is_letter b ≡ true)
+    (labels : all_label a ≡ true) (ends : begins is_label_byte r ≡ false) (from : begins_from r ≡ true) where
   -- the source's word isn't `yield`
   not_exact : nat_eq 121 (lower b) ≡ true → Exact (codes "ield") a r → ⊥
   not_exact y is =
       let five : suc (length a) ≡ 5 = ap suc is.size in
-      let scanned : found Word (suc (length a)) ≡ longer Keyword (keyword_len b (a ++ r)) (found Word (suc (length a))) = sym (scan_of V74 code (b ∷ a ++ r) Word (suc (length a)) h) ∙ word_scan b a r letter p labels ends in
+      let scanned : found Word (suc (length a)) ≡ longer Keyword (keyword_len b (a ++ r))
+      (found Word (suc (length a))) = sym (scan_of V74 code (b ∷ a ++ r) Word (suc (length a)) h)
+      ∙ word_scan b a r letter p labels ends in
       let len : keyword_len b (a ++ r) ≡ add_to 5 (until_len From First r) = rw (y, is.starts) (ap (λ (x : List ℕ). add_to 5 (until_len From First x)) is.rest) in
       let there : found Word 5 ≡ longer Keyword (add_to 5 (until_len From First r)) (found Word 5) =
       subst (λ (n : ℕ). found Word n ≡ longer Keyword (add_to 5 (until_len From First r)) (found Word n)) five
@@ -161,7 +203,9 @@ module _ (b : ℕ) (a r : List ℕ) (p : nat_eq (lower b) 98 ≡ false) (h : IsL
       let clash : true ≡ false = ap is_word_found there ∙ no_word_found (until_len From First r) (from_some r from) in
       cc
 
-  none_by : (s : List ℕ) → begins is_label_byte s ≡ false → (x y : Bool) → nat_eq 121 (lower b) ≡ x → starts_word (codes "ield") (a ++ s) ≡ y → cond (x && y) (add_to 5 (until_len From First (drop 4 (a ++ s)))) None ≡ None
+  none_by : (s : List ℕ) → begins is_label_byte s ≡ false → (x y : Bool) → nat_eq 121 (lower b) ≡ x
+      → starts_word (codes "ield") (a ++ s) ≡ y → cond (x && y) (add_to 5 (until_len From First (drop 4 (a ++ s))))
+      None ≡ None
   none_by s e false y f g = refl
   none_by s e true false f g = refl
   none_by s e true true f g =
@@ -177,7 +221,9 @@ module _ (b : ℕ) (a r : List ℕ) (p : nat_eq (lower b) 98 ≡ false) (h : IsL
       ∙ ap (λ (o : Option ℕ). longer Keyword o (found Word (suc (length a)))) (none_by s e (nat_eq 121 (lower b)) (starts_word (codes "ield") (a ++ s)) refl refl))
 
 -- A word that begins with no `b` stays before white space and `from`, where these follow it in the source too.
-pub word_from_stays : (b : ℕ) (a r s : List ℕ) → nat_eq (lower b) 98 ≡ false → begins is_label_byte r ≡ false → begins is_label_byte s ≡ false → begins_from r ≡ true → IsLongest V74 code (b ∷ a ++ r) Word (suc (length a)) → IsLongest V74 code (b ∷ a ++ s) Word (suc (length a))
+pub word_from_stays : (b : ℕ) (a r s : List ℕ) → nat_eq (lower b) 98 ≡ false → begins is_label_byte r ≡ false
+    → begins is_label_byte s ≡ false → begins_from r ≡ true → IsLongest V74 code (b ∷ a ++ r) Word (suc (length a))
+    → IsLongest V74 code (b ∷ a ++ s) Word (suc (length a))
 word_from_stays b a r s p old new from h =
     let (letter, labels) = and_parts (is_letter b) (all_label a) (words_are_labels V74 b a r h) in
     kept_word b a r p h letter labels old from s new

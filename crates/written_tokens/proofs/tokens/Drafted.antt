@@ -50,7 +50,9 @@ apart_alone : (t : NewToken) (us : List NewToken) → joins t us ≡ false → b
 apart_alone t [] h = refl
 apart_alone t (u ∷ us) h = rw h refl
 
-front_by : (t u v : NewToken) (us ws : List NewToken) (x : Bool) → before_all t (cond x (one_name u v ∷ us) (u ∷ v ∷ us) ++ ws) ≡ before_all t (cond x (one_name u v ∷ us) (u ∷ v ∷ us)) ++ ws
+front_by : (t u v : NewToken) (us ws : List NewToken) (x : Bool)
+    → before_all t (cond x (one_name u v ∷ us) (u ∷ v ∷ us) ++ ws) ≡ before_all t
+    (cond x (one_name u v ∷ us) (u ∷ v ∷ us)) ++ ws
 front_by t u v us ws true = by_test (is_one t (one_name u v))
   where
     by_test : (y : Bool) → cond y (one_name t (one_name u v) ∷ (us ++ ws)) (t ∷ one_name u v ∷ (us ++ ws)) ≡ cond y (one_name t (one_name u v) ∷ us) (t ∷ one_name u v ∷ us) ++ ws
@@ -78,7 +80,9 @@ whole_append (t ∷ u ∷ ts) us h =
     ∙ front_append t u (all_whole ts) (all_whole us)
 
 -- a draft that begins with a token, or is none
-front_leaf : (t u : NewToken) (d : Draft) (x : Bool) → draft_tokens (cond x (new_leaf (one_name t u) d) (new_leaf t (new_leaf u d))) ≡ cond x (one_name t u ∷ draft_tokens d) (t ∷ u ∷ draft_tokens d)
+front_leaf : (t u : NewToken) (d : Draft) (x : Bool) → draft_tokens
+    (cond x (new_leaf (one_name t u) d) (new_leaf t (new_leaf u d))) ≡ cond x (one_name t u ∷ draft_tokens d)
+    (t ∷ u ∷ draft_tokens d)
 front_leaf t u d true = refl
 front_leaf t u d false = refl
 

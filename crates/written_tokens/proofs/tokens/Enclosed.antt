@@ -24,7 +24,9 @@ module _ (v : Version) (m : Mode) (kind : Kind) (b : ℕ) (a : List ℕ) {x y : 
   turn_moved : (t : Turn) → turn_of v m kind (b ∷ a) x ≡ t → turn_of v m kind (b ∷ a) y ≡ t
   turn_moved t h = subst (λ (u : List ℕ). turn_of v m kind (b ∷ a) u ≡ t) e h
 
-join : {v : Version} {front : List ℕ} {m n : Mode} {ts : List Tile} → Level v front m ts n → (rest : List ℕ) (p : Mode) (us : List Tile) → joined us ++ rest ≡ front → Level v rest n us p → Level v rest m (ts ++ us) p
+join : {v : Version} {front : List ℕ} {m n : Mode} {ts : List Tile} → Level v front m ts n
+    → (rest : List ℕ) (p : Mode) (us : List Tile) → joined us ++ rest ≡ front → Level v rest n us p
+    → Level v rest m (ts ++ us) p
 join none rest p us same more = more
 join (flat {v} {rest = front} {m} {n} to kind b a ts h turn inner) rest p us same more =
     let bytes : joined ts ++ front ≡ joined (ts ++ us) ++ rest = ap (λ (u : List ℕ). joined ts ++ u) (sym same) ∙ whole ts us rest in

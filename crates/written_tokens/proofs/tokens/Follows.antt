@@ -1,5 +1,33 @@
 -- What follows words, `\` and comments in code.
-use Rattle.std.proofs.Common.{◌≡◌, ℕ, suc, ◌+◌, Bool, true, false, cond, ◌&&◌, ◌||◌, nat_eq, List, [], ◌∷◌, ◌++◌, length, take, drop, Option, Some, None, refl, sym, ap, ◌∙◌, subst, arith}
+use Rattle.std.proofs.Common.{
+  ◌≡◌,
+  ℕ,
+  suc,
+  ◌+◌,
+  Bool,
+  true,
+  false,
+  cond,
+  ◌&&◌,
+  ◌||◌,
+  nat_eq,
+  List,
+  [],
+  ◌∷◌,
+  ◌++◌,
+  length,
+  take,
+  drop,
+  Option,
+  Some,
+  None,
+  refl,
+  sym,
+  ap,
+  ◌∙◌,
+  subst,
+  arith,
+}
 use Rattle.std.proofs.lemmas.Bool.{eqb-true, and_parts}
 use Rattle.std.proofs.lemmas.Bool.Decides.{nat_tests}
 use Rattle.std.proofs.lemmas.List.{length-append}
@@ -78,7 +106,8 @@ longer_word b a c rest h e =
     let (first, more) = and_parts (is_letter b) (all_label a) h in
     rw (first, run_of (a ++ c ∷ []) rest (all_more a c more e), some_more a c, and_false (nat_eq (lower b) 98)) refl
 
-word_by : (b : ℕ) (a : List ℕ) (c : ℕ) (r : List ℕ) (t : Bool) → is_label_byte c ≡ t → is_label (b ∷ a) ≡ true → IsLongest V74 code (b ∷ a ++ c ∷ r) Word (suc (length a)) → t ≡ false
+word_by : (b : ℕ) (a : List ℕ) (c : ℕ) (r : List ℕ) (t : Bool) → is_label_byte c ≡ t → is_label (b ∷ a) ≡ true
+    → IsLongest V74 code (b ∷ a ++ c ∷ r) Word (suc (length a)) → t ≡ false
 word_by b a c r false e label h = refl
 word_by b a c r true e label h =
     let n = length a + 1 in
@@ -98,7 +127,9 @@ abbrev goes_on : List ℕ → Bool
 goes_on [] = false
 goes_on (b ∷ bs) = nat_eq b 92 || is_label_byte b && goes_on bs
 
-deeper_by : (b : ℕ) (bs : List ℕ) (x y : Bool) → is_label_byte b ≡ x → nat_eq b 92 ≡ y → (goes_deeper bs ≡ true → goes_on bs ≡ true) → cond x (goes_deeper bs) (y && begins is_letter bs) ≡ true → goes_on (b ∷ bs) ≡ true
+deeper_by : (b : ℕ) (bs : List ℕ) (x y : Bool) → is_label_byte b ≡ x → nat_eq b 92 ≡ y
+    → (goes_deeper bs ≡ true → goes_on bs ≡ true) → cond x (goes_deeper bs) (y && begins is_letter bs) ≡ true
+    → goes_on (b ∷ bs) ≡ true
 deeper_by b bs x true p q ih h = rw q refl
 deeper_by b bs true false p q ih h = rw (q, p, ih h) refl
 deeper_by b bs false false p q ih h = absurd cc
@@ -140,7 +171,8 @@ old_hash : (bs : List ℕ) → scan V74 code (35 ∷ bs) ≡ found Comment (1 + 
 old_hash bs = refl
 
 pub hash_kind : (bs : List ℕ) (kind : Kind) (n : ℕ) → IsLongest V74 code (35 ∷ bs) kind n → Comment ≡ kind
-hash_kind bs kind n h = same_kind V74 code (35 ∷ bs) Comment kind (1 + run_len Line [] First bs) n (longest_of V74 code (35 ∷ bs) Comment (1 + run_len Line [] First bs) (old_hash bs)) h
+hash_kind bs kind n h = same_kind V74 code (35 ∷ bs) Comment kind (1 + run_len Line [] First bs) n
+    (longest_of V74 code (35 ∷ bs) Comment (1 + run_len Line [] First bs) (old_hash bs)) h
 
 new_hash : (bs : List ℕ) → begins_by 91 bs ≡ false → scan V83 code (35 ∷ bs) ≡ found Comment (1 + run_len HashLine [] First bs)
 new_hash [] h = refl
@@ -168,7 +200,9 @@ no_bracket (b ∷ a) s e h = h
 
 pub hash_stays : (a s : List ℕ) → begins_by 91 a ≡ false → IsLongest V74 code (35 ∷ a ++ s) Comment (suc (length a)) → IsLongest V83 code (35 ∷ a ++ s) Comment (suc (length a))
 hash_stays a s first h =
-    let size : 1 + run_len Line [] First (a ++ s) ≡ suc (length a) = found_length Comment Comment (1 + run_len Line [] First (a ++ s)) (suc (length a)) (scan_of V74 code (35 ∷ a ++ s) Comment (suc (length a)) h) in
+    let size : 1 + run_len Line [] First (a ++ s) ≡ suc (length a) =
+    found_length Comment Comment (1 + run_len Line [] First (a ++ s)) (suc (length a))
+    (scan_of V74 code (35 ∷ a ++ s) Comment (suc (length a)) h) in
     let front = no_bracket a s size first in
     let new : 1 + run_len HashLine [] First (a ++ s) ≡ suc (length a) = rw (hash_first (a ++ s) front) size in
     longest_of V83 code (35 ∷ a ++ s) Comment (suc (length a)) (new_hash (a ++ s) front ∙ ap (found Comment) new)

@@ -65,7 +65,8 @@ same_depth top up under low n h =
     ∙ ap (λ (b : Bool). cond b (less_one (cond (is_quoted up) (suc n) n)) (cond (is_quoted up) (suc n) n)) (sym h)
     ∙ back (is_quoted up) n
 
-passed : {v : Version} {rest : List ℕ} {m n : Mode} {ts : List Tile} → Level v rest m ts n → (below : List Mode) (depth : ℕ) → Pass v rest (stack_of m below depth) ts (stack_of n below depth)
+passed : {v : Version} {rest : List ℕ} {m n : Mode} {ts : List Tile} → Level v rest m ts n
+    → (below : List Mode) (depth : ℕ) → Pass v rest (stack_of m below depth) ts (stack_of n below depth)
 passed none below depth = nothing
 passed (flat {v} {rest} {m} {n} to kind b a ts h turn more) below depth =
     then kind b a ts h
@@ -77,7 +78,9 @@ passed (deep {v} {rest} {m} {n} up under low kind b a ts k c e us h turn inner c
     let shut : Pass v rest (stack_of low (under ∷ below) (deeper (effect m (enter up under)) depth)) (tile k c e ∷ us) (stack_of n below depth) =
     then k c e us close
     (subst (λ (t : Turn). Pass v rest (turned_by t (stack_of low (under ∷ below) (deeper (effect m (enter up under)) depth))) us (stack_of n below depth)) (sym out) last) in
-    let whole = passes_join.join v rest (stack_of up (under ∷ below) (deeper (effect m (enter up under)) depth)) (stack_of low (under ∷ below) (deeper (effect m (enter up under)) depth)) (stack_of n below depth) ts (tile k c e ∷ us) (passed inner (under ∷ below) (deeper (effect m (enter up under)) depth)) shut in
+    let whole = passes_join.join v rest (stack_of up (under ∷ below) (deeper (effect m (enter up under)) depth))
+    (stack_of low (under ∷ below) (deeper (effect m (enter up under)) depth)) (stack_of n below depth) ts
+    (tile k c e ∷ us) (passed inner (under ∷ below) (deeper (effect m (enter up under)) depth)) shut in
     then kind b a (ts ++ tile k c e ∷ us) h
     (subst (λ (t : Turn). Pass v rest (turned_by t (stack_of m below depth)) (ts ++ tile k c e ∷ us) (stack_of n below depth)) (sym turn) whole)
 

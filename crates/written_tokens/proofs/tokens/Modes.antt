@@ -3,7 +3,22 @@ use Rattle.std.proofs.Common.{◌≡◌, ℕ, suc, Bool, true, false, cond, not,
 use Rattle.std.proofs.lemmas.Bool.{eqb-true, and_parts}
 use Rattle.php_tree.specs.declared.version.Version.TheVariants.{V74, V83}
 use Rattle.php_spellings.specs.declared.table.Kind.{Kind}
-use Rattle.php_spellings.specs.declared.table.Kind.TheVariants.{InlineHtml, Variable, Word, Name, Label, Quote, Backtick, HeredocStart, Op, Close, Piece, CurlyOpen, DollarBrace, QuotedEnd}
+use Rattle.php_spellings.specs.declared.table.Kind.TheVariants.{
+  InlineHtml,
+  Variable,
+  Word,
+  Name,
+  Label,
+  Quote,
+  Backtick,
+  HeredocStart,
+  Op,
+  Close,
+  Piece,
+  CurlyOpen,
+  DollarBrace,
+  QuotedEnd,
+}
 use Rattle.php_spellings.specs.declared.table.Mark.{Mark}
 use Rattle.php_spellings.specs.declared.table.Mark.TheVariants.{Double, Back, Here}
 use Rattle.php_spellings.specs.Bytes.{begins_by}
@@ -23,7 +38,9 @@ is_variable _ = false
 abbrev pub SameProperty : List ℕ → Type 0
 SameProperty rest = begins_property V83 rest ≡ begins_property V74 rest
 
-quoted_same : (mark : Mark) (label : List ℕ) (kind : Kind) (text rest : List ℕ) → (is_variable kind ≡ true → SameProperty rest) → quoted_turn V83 mark label kind text rest ≡ quoted_turn V74 mark label kind text rest
+quoted_same : (mark : Mark) (label : List ℕ) (kind : Kind) (text rest : List ℕ)
+    → (is_variable kind ≡ true → SameProperty rest) → quoted_turn V83 mark label kind text rest ≡ quoted_turn V74 mark
+    label kind text rest
 quoted_same mark label Variable text rest h = rw (h refl) refl
 quoted_same mark label QuotedEnd text rest h = refl
 quoted_same mark label CurlyOpen text rest h = refl
@@ -39,7 +56,9 @@ is_quoted (quoted mark label fresh) = true
 is_quoted offset = false
 is_quoted property = false
 
-pub same_turn : (mode : Mode) (kind : Kind) (text rest : List ℕ) → (is_quoted mode ≡ true → is_variable kind ≡ true → SameProperty rest) → turn_of V83 mode kind text rest ≡ turn_of V74 mode kind text rest
+pub same_turn : (mode : Mode) (kind : Kind) (text rest : List ℕ)
+    → (is_quoted mode ≡ true → is_variable kind ≡ true → SameProperty rest)
+    → turn_of V83 mode kind text rest ≡ turn_of V74 mode kind text rest
 same_turn html kind text rest h = refl
 same_turn code kind text rest h = refl
 same_turn named kind text rest h = refl
@@ -47,7 +66,9 @@ same_turn (quoted mark label fresh) kind text rest h = quoted_same mark label ki
 same_turn offset kind text rest h = refl
 same_turn property kind text rest h = refl
 
-pub same_after : (stack : Stack) (kind : Kind) (n : ℕ) (bytes : List ℕ) → (is_quoted stack.top ≡ true → is_variable kind ≡ true → SameProperty (drop n bytes)) → after V83 stack kind n bytes ≡ after V74 stack kind n bytes
+pub same_after : (stack : Stack) (kind : Kind) (n : ℕ) (bytes : List ℕ)
+    → (is_quoted stack.top ≡ true → is_variable kind ≡ true → SameProperty (drop n bytes))
+    → after V83 stack kind n bytes ≡ after V74 stack kind n bytes
 same_after stack kind n bytes h = ap (λ (t : Turn). turned_by t stack) (same_turn stack.top kind (take n bytes) (drop n bytes) h)
 
 -- ---- no mode behind `${`
@@ -80,7 +101,9 @@ html_plain _ text rest = refl
 quoted_plain : (mark : Mark) (label : List ℕ) (kind : Kind) (text rest : List ℕ) → is_dollar_brace kind ≡ false → plain_turn (quoted_turn V74 mark label kind text rest) ≡ true
 quoted_plain mark label DollarBrace text rest h = absurd cc
 quoted_plain mark label Variable text rest h =
-    chosen (begins_by 91 rest) (enter offset (quoted mark label false)) (cond (begins_property V74 rest) (enter property (quoted mark label false)) (stay (quoted mark label false))) refl
+    chosen (begins_by 91 rest) (enter offset (quoted mark label false))
+    (cond (begins_property V74 rest) (enter property (quoted mark label false)) (stay (quoted mark label false)))
+    refl
     (chosen (begins_property V74 rest) (enter property (quoted mark label false)) (stay (quoted mark label false)) refl refl)
 quoted_plain mark label QuotedEnd text rest h = refl
 quoted_plain mark label CurlyOpen text rest h = refl
@@ -120,10 +143,12 @@ not_it : (x : Bool) → not x ≡ true → x ≡ false
 not_it true h = absurd cc
 not_it false h = refl
 
-pub unnamed_after : (stack : Stack) (kind : Kind) (n : ℕ) (bytes : List ℕ) → is_unnamed stack ≡ true → is_dollar_brace kind ≡ false → is_unnamed (after V74 stack kind n bytes) ≡ true
+pub unnamed_after : (stack : Stack) (kind : Kind) (n : ℕ) (bytes : List ℕ) → is_unnamed stack ≡ true
+    → is_dollar_brace kind ≡ false → is_unnamed (after V74 stack kind n bytes) ≡ true
 unnamed_after stack kind n bytes h q =
     let (top, below) = and_parts (not (is_named stack.top)) (none_named stack.below) h in
-    turned_plain (turn_at V74 stack kind n bytes) stack.top stack.below stack.depth (turn_plain stack.top kind (take n bytes) (drop n bytes) (not_it (is_named stack.top) top) q) below
+    turned_plain (turn_at V74 stack kind n bytes) stack.top stack.below stack.depth
+    (turn_plain stack.top kind (take n bytes) (drop n bytes) (not_it (is_named stack.top) top) q) below
 
 pub unnamed_top : (stack : Stack) → is_unnamed stack ≡ true → is_named stack.top ≡ false
 unnamed_top stack h = not_it (is_named stack.top) (and_parts (not (is_named stack.top)) (none_named stack.below) h).0

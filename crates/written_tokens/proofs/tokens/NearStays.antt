@@ -128,7 +128,8 @@ pub octal_stays : (b : ℕ) (a r s : List ℕ) → Alike r s → Stays Octal b a
 octal_stays b a r s alike h = numeral_stays Octal b a r s alike (zero_numeral b (first_byte 48 b _ (longest_meets is_octal V74 code (b ∷ a) r Octal refl h))) h
 
 pub hexadecimal_stays : (b : ℕ) (a r s : List ℕ) → Alike r s → Stays Hexadecimal b a r s
-hexadecimal_stays b a r s alike h = numeral_stays Hexadecimal b a r s alike (zero_numeral b (first_byte 48 b _ (longest_meets is_hexadecimal V74 code (b ∷ a) r Hexadecimal refl h))) h
+hexadecimal_stays b a r s alike h = numeral_stays Hexadecimal b a r s alike
+    (zero_numeral b (first_byte 48 b _ (longest_meets is_hexadecimal V74 code (b ∷ a) r Hexadecimal refl h))) h
 
 pub binary_stays : (b : ℕ) (a r s : List ℕ) → Alike r s → Stays Binary b a r s
 binary_stays b a r s alike h = numeral_stays Binary b a r s alike (zero_numeral b (first_byte 48 b _ (longest_meets is_binary V74 code (b ∷ a) r Binary refl h))) h
@@ -147,7 +148,9 @@ one_passes p [] t h e = absurd e
 one_passes p (rule kind w tail ∷ rows) t h (inl e) = ap p e ∙ (and_parts (p w) (all_pass p rows) h).0
 one_passes p (rule kind w tail ∷ rows) t h (inr e) = one_passes p rows t (and_parts (p w) (all_pass p rows) h).1 e
 
-passes : (is : Kind → Bool) (p : List ℕ → Bool) (kind : Kind) (b : ℕ) (a r : List ℕ) → is kind ≡ true → all_words (picked is (code_rows V74)) ≡ true → all_pass p (picked is (code_rows V74)) ≡ true → IsLongest V74 code (b ∷ a ++ r) kind (suc (length a)) → p (b ∷ a) ≡ true
+passes : (is : Kind → Bool) (p : List ℕ → Bool) (kind : Kind) (b : ℕ) (a r : List ℕ) → is kind ≡ true
+    → all_words (picked is (code_rows V74)) ≡ true → all_pass p (picked is (code_rows V74)) ≡ true
+    → IsLongest V74 code (b ∷ a ++ r) kind (suc (length a)) → p (b ∷ a) ≡ true
 passes is p kind b a r chosen words all h =
     one_passes p (picked is (code_rows V74)) (b ∷ a) all (one_of (picked is (code_rows V74)) (b ∷ a) r words (longest_meets is V74 code (b ∷ a) r kind chosen h))
 
@@ -198,7 +201,8 @@ question_by b r false y e f h = refl
 question_by b r true false e f h = refl
 question_by b r true true e f h = absurd (not_closing r f (subst (λ (x : ℕ). IsLongest V74 code (x ∷ r) Op 1) (eqb-true b 63 e) h))
 
-solid_op : (b : ℕ) (a r s : List ℕ) → Alike r s → is_solid b ≡ true → (nat_eq b 63 && begins_by 62 a) ≡ false → (nat_eq b 63 && (is_empty a && begins_by 62 s)) ≡ false → Stays Op b a r s
+solid_op : (b : ℕ) (a r s : List ℕ) → Alike r s → is_solid b ≡ true → (nat_eq b 63 && begins_by 62 a) ≡ false
+    → (nat_eq b 63 && (is_empty a && begins_by 62 s)) ≡ false → Stays Op b a r s
 solid_op b [] r s alike h e k l =
     near_tokens_stay Op b [] r s alike (solid_tight b r h (question_by b r (nat_eq b 63) (begins_by 62 r) refl refl l)) (solid_tight b s h k) l
 solid_op b (z ∷ a) r s alike h e k l = near_tokens_stay Op b (z ∷ a) r s alike (solid_tight b (z ∷ a ++ r) h e) (solid_tight b (z ∷ a ++ s) h e) l
@@ -207,7 +211,10 @@ opening_is : (a r s : List ℕ) → is_empty a ≡ true → not (begins_cast s) 
 opening_is [] r s e k h = openings_are_uncast.opens V74 s (not_it (begins_cast s) k)
 opening_is (c ∷ a) r s e k h = absurd cc
 
-op_by : (b : ℕ) (a r s : List ℕ) → Alike r s → (x y z : Bool) → nat_eq b 40 ≡ x → nat_eq b 47 ≡ y → nat_eq b 60 ≡ z → cond x (is_empty a) (y || z || is_solid b && not (nat_eq b 63 && begins_by 62 a)) ≡ true → cond x (not (begins_cast s)) (cond y (slash_ends a s) (cond z (less_ends a s) (not (nat_eq b 63 && (is_empty a && begins_by 62 s))))) ≡ true → Stays Op b a r s
+op_by : (b : ℕ) (a r s : List ℕ) → Alike r s → (x y z : Bool) → nat_eq b 40 ≡ x → nat_eq b 47 ≡ y → nat_eq b 60 ≡ z
+    → cond x (is_empty a) (y || z || is_solid b && not (nat_eq b 63 && begins_by 62 a)) ≡ true
+    → cond x (not (begins_cast s)) (cond y (slash_ends a s) (cond z (less_ends a s)
+    (not (nat_eq b 63 && (is_empty a && begins_by 62 s))))) ≡ true → Stays Op b a r s
 op_by b a r s alike true y z e f g t k = subst (λ (x : ℕ). Stays Op x a r s) (sym (eqb-true b 40 e)) (opening_is a r s t k)
 op_by b a r s alike false true z e f g t k = subst (λ (x : ℕ). Stays Op x a r s) (sym (eqb-true b 47 f)) (slashes_stay V74 V74 a r s k)
 op_by b a r s alike false false true e f g t k = subst (λ (x : ℕ). Stays Op x a r s) (sym (eqb-true b 60 g)) (angles_stay V74 V74 a r s k)

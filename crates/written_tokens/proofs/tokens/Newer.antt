@@ -17,7 +17,9 @@ use Rattle.written_tokens.specs.tokens.Names.{goes_on_root, is_rooted, are_one, 
 
 -- ---- joined rows have the same bytes
 
-front_by : (kind : Kind) (b : ℕ) (a : List ℕ) (k : Kind) (c : ℕ) (e : List ℕ) (us : List Tile) (t : Bool) → joined (cond t (tile Name b (a ++ c ∷ e) ∷ us) (tile kind b a ∷ tile k c e ∷ us)) ≡ b ∷ a ++ (c ∷ e ++ joined us)
+front_by : (kind : Kind) (b : ℕ) (a : List ℕ) (k : Kind) (c : ℕ) (e : List ℕ) (us : List Tile) (t : Bool)
+    → joined (cond t (tile Name b (a ++ c ∷ e) ∷ us) (tile kind b a ∷ tile k c e ∷ us)) ≡ b ∷ a
+    ++ (c ∷ e ++ joined us)
 front_by kind b a k c e us true = ap (λ (u : List ℕ). b ∷ u) (append_assoc a (c ∷ e) (joined us))
 front_by kind b a k c e us false = refl
 
@@ -43,7 +45,9 @@ label_name b l e h k =
     rw (one, deeper_shape l e more k) refl
 
 -- a name behind `\`
-later_by : (b : ℕ) (e : List ℕ) (x y : Bool) → is_label_byte b ≡ x → nat_eq b 92 ≡ y → (has_shape shape.Name FirstLabel e ≡ true → has_shape shape.Name LaterLabel e ≡ true) → has_shape shape.Name FirstLabel (b ∷ e) ≡ true → has_shape shape.Name LaterLabel (b ∷ e) ≡ true
+later_by : (b : ℕ) (e : List ℕ) (x y : Bool) → is_label_byte b ≡ x → nat_eq b 92 ≡ y
+    → (has_shape shape.Name FirstLabel e ≡ true → has_shape shape.Name LaterLabel e ≡ true)
+    → has_shape shape.Name FirstLabel (b ∷ e) ≡ true → has_shape shape.Name LaterLabel (b ∷ e) ≡ true
 later_by b e true y p q ih h = let old = rw p at h in rw (p, ih old) refl
 later_by b e false true p q ih h = let old = rw (p, q) at h in rw (p, q, old) refl
 later_by b e false false p q ih h = absurd (let old = rw (p, q) at h in cc)
@@ -83,7 +87,8 @@ pub apart : (kind : Kind) (b : ℕ) (a : List ℕ) (ws : List Tile) → meets ki
 apart kind b a [] h = refl
 apart kind b a (tile k c e ∷ us) h = rw h refl
 
-pub together : (kind : Kind) (b : ℕ) (a : List ℕ) (k : Kind) (c : ℕ) (e : List ℕ) (us : List Tile) → are_one kind b k c ≡ true → in_front kind b a (tile k c e ∷ us) ≡ tile Name b (a ++ c ∷ e) ∷ us
+pub together : (kind : Kind) (b : ℕ) (a : List ℕ) (k : Kind) (c : ℕ) (e : List ℕ) (us : List Tile)
+    → are_one kind b k c ≡ true → in_front kind b a (tile k c e ∷ us) ≡ tile Name b (a ++ c ∷ e) ∷ us
 together kind b a k c e us h = rw h refl
 
 -- whether a name that begins with `\` is first

@@ -31,7 +31,8 @@ none_after (b ∷ bs) = refl
 joined_text : (t u : NewToken) → after (t.text ++ names.deleted (before u.lead) ++ u.text) ≡ after t.text ++ after u.text
 joined_text t u =
     after_append (t.text ++ names.deleted (before u.lead)) u.text
-    ∙ ap (λ (l : List ℕ). l ++ after u.text) (after_append t.text (names.deleted (before u.lead)) ∙ ap (λ (l : List ℕ). after t.text ++ l) (none_after (before u.lead)) ∙ append_nothing (after t.text))
+    ∙ ap (λ (l : List ℕ). l ++ after u.text) (after_append t.text (names.deleted (before u.lead))
+    ∙ ap (λ (l : List ℕ). after t.text ++ l) (none_after (before u.lead)) ∙ append_nothing (after t.text))
   where
     append_nothing : (l : List ℕ) → l ++ [] ≡ l
     append_nothing [] = refl
@@ -63,9 +64,12 @@ joins_part t u h =
     kind_by t.kind (is_text (codes "\\") t) (names.is_label u.kind || (names.is_name u.kind && not (names.begins_root (before u.text))))
     (bytes_eq (str_to_ascii_lowercase (before t.text)) (codes "namespace")) (names.is_name u.kind) (names.begins_root (before u.text)) h
 
-one_front : (t u : NewToken) → SamePart t → HasText t → may_be_part t.kind ≡ true → names.begins_root (before (names.one_name t u).text) ≡ begins_by 92 (after (names.one_name t u).text)
+one_front : (t u : NewToken) → SamePart t → HasText t → may_be_part t.kind ≡ true
+    → names.begins_root (before (names.one_name t u).text) ≡ begins_by 92 (after (names.one_name t u).text)
 one_front t u same text part =
-    ap names.begins_root (before_append (t.text ++ names.deleted (before u.lead)) u.text ∙ ap (λ (l : List ℕ). l ++ before u.text) (before_append t.text (names.deleted (before u.lead))) ∙ append_assoc (before t.text) (before (names.deleted (before u.lead))) (before u.text))
+    ap names.begins_root (before_append (t.text ++ names.deleted (before u.lead)) u.text
+    ∙ ap (λ (l : List ℕ). l ++ before u.text) (before_append t.text (names.deleted (before u.lead)))
+    ∙ append_assoc (before t.text) (before (names.deleted (before u.lead))) (before u.text))
     ∙ root_front (before t.text) (before (names.deleted (before u.lead)) ++ before u.text) text.old
     ∙ same.front part
     ∙ sym (by_front (after t.text) (after u.text) text.new)
@@ -100,11 +104,16 @@ of_names p l true r s w f = rw (f refl) refl
 of_names p l false r s true f = refl
 of_names p l false r s false f = refl
 
-one_is : (t u : NewToken) → SamePart t → (may_be_part u.kind ≡ true → names.begins_root (before u.text) ≡ begins_by 92 (after u.text)) → names.is_one t u ≡ is_one t.kind (after t.text) u.kind (after u.text)
+one_is : (t u : NewToken) → SamePart t → (may_be_part u.kind ≡ true
+    → names.begins_root (before u.text) ≡ begins_by 92 (after u.text))
+    → names.is_one t u ≡ is_one t.kind (after t.text) u.kind (after u.text)
 one_is t u same front =
-    of_names (names.is_backslash t) (names.is_label u.kind) (names.is_name u.kind) (names.begins_root (before u.text)) (begins_by 92 (after u.text)) (names.is_label t.kind || names.is_namespace t) (λ h. front (name_part u.kind h))
+    of_names (names.is_backslash t) (names.is_label u.kind) (names.is_name u.kind) (names.begins_root (before u.text))
+    (begins_by 92 (after u.text)) (names.is_label t.kind || names.is_namespace t)
+    (λ h. front (name_part u.kind h))
     ∙ rw (same.backslash, same.word, label_is t.kind, label_is u.kind, name_is u.kind, if_and (is_keyword_kind t.kind) (is_namespace (after t.text)))
-    (shape (is_backslash t.kind (after t.text)) (is_label_kind u.kind) (is_name_kind u.kind) (begins_by 92 (after u.text)) (is_label_kind t.kind) (is_keyword_kind t.kind && is_namespace (after t.text)))
+    (shape (is_backslash t.kind (after t.text)) (is_label_kind u.kind) (is_name_kind u.kind)
+    (begins_by 92 (after u.text)) (is_label_kind t.kind) (is_keyword_kind t.kind && is_namespace (after t.text)))
 
 -- ---- tokens without the trivia before the first
 
@@ -116,7 +125,9 @@ bare_is : (ts : List NewToken) → map new_lexeme (bare ts) ≡ bare_first (map 
 bare_is [] = refl
 bare_is (t ∷ ts) = ap (λ (l : List ℕ). record { kind = t.kind; lead = l; text = after t.text } ∷ map new_lexeme ts) (none_after (before t.lead))
 
-bare_by : (x y : Lexeme) (ys : List Lexeme) (t : Bool) → cond t (record { kind = token.Name; lead = []; text = x.text ++ y.text } ∷ ys) (record x { lead = [] } ∷ y ∷ ys) ≡ bare_first (cond t (record { kind = token.Name; lead = x.lead; text = x.text ++ y.text } ∷ ys) (x ∷ y ∷ ys))
+bare_by : (x y : Lexeme) (ys : List Lexeme) (t : Bool) → cond t
+    (record { kind = token.Name; lead = []; text = x.text ++ y.text } ∷ ys) (record x { lead = [] } ∷ y ∷ ys) ≡
+    bare_first (cond t (record { kind = token.Name; lead = x.lead; text = x.text ++ y.text } ∷ ys) (x ∷ y ∷ ys))
 bare_by x y ys true = refl
 bare_by x y ys false = refl
 
@@ -134,7 +145,8 @@ record Parts (ts : List NewToken) : Type 0 where
   same : map new_lexeme (all_whole ts) ≡ whole_tokens (map new_lexeme (parted ts))
   front : SameFront (all_whole ts)
 
-apart_tokens : (t : NewToken) (us : List NewToken) → SamePart t → SameFront us → joins t us ≡ false → before_tokens (new_lexeme t) (map new_lexeme us) ≡ new_lexeme t ∷ map new_lexeme us
+apart_tokens : (t : NewToken) (us : List NewToken) → SamePart t → SameFront us → joins t us ≡ false
+    → before_tokens (new_lexeme t) (map new_lexeme us) ≡ new_lexeme t ∷ map new_lexeme us
 apart_tokens t [] same front h = refl
 apart_tokens t (u ∷ us) same front h = rw (sym (one_is t u same front) ∙ h) refl
 
@@ -142,7 +154,10 @@ apart_drafts : (t : NewToken) (us : List NewToken) → joins t us ≡ false → 
 apart_drafts t [] h = refl
 apart_drafts t (u ∷ us) h = rw h refl
 
-one_tokens : (t u : NewToken) (us : List NewToken) → SamePart t → (may_be_part u.kind ≡ true → names.begins_root (before u.text) ≡ begins_by 92 (after u.text)) → names.is_one t u ≡ true → before_tokens (new_lexeme t) (bare_first (map new_lexeme (u ∷ us))) ≡ new_lexeme (names.one_name t u) ∷ map new_lexeme us
+one_tokens : (t u : NewToken) (us : List NewToken) → SamePart t
+    → (may_be_part u.kind ≡ true → names.begins_root (before u.text) ≡ begins_by 92 (after u.text))
+    → names.is_one t u ≡ true → before_tokens (new_lexeme t) (bare_first (map new_lexeme (u ∷ us))) ≡ new_lexeme
+    (names.one_name t u) ∷ map new_lexeme us
 one_tokens t u us same front h =
     let one : is_one t.kind (after t.text) u.kind (after u.text) ≡ true = sym (one_is t u same front) ∙ h in
     rw one (ap (λ (l : List ℕ). record { kind = token.Name; lead = after t.lead; text = l } ∷ map new_lexeme us) (sym (joined_text t u)))

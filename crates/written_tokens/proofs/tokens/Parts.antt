@@ -27,7 +27,9 @@ end_of lead text = record { kind = token.End; lead = lead; text = text }
 end_alone : (k : TokenKind) (t text : List ℕ) → is_one k t token.End text ≡ false
 end_alone k t text = rw (and_false (is_backslash k t), and_false (begins_label k t)) refl
 
-end_by : (x y : Lexeme) (ys es : List Lexeme) (b : Bool) → cond b (record { kind = token.Name; lead = x.lead; text = x.text ++ y.text } ∷ (ys ++ es)) (x ∷ y ∷ (ys ++ es)) ≡ cond b (record { kind = token.Name; lead = x.lead; text = x.text ++ y.text } ∷ ys) (x ∷ y ∷ ys) ++ es
+end_by : (x y : Lexeme) (ys es : List Lexeme) (b : Bool) → cond b
+    (record { kind = token.Name; lead = x.lead; text = x.text ++ y.text } ∷ (ys ++ es)) (x ∷ y ∷ (ys ++ es)) ≡ cond b
+    (record { kind = token.Name; lead = x.lead; text = x.text ++ y.text } ∷ ys) (x ∷ y ∷ ys) ++ es
 end_by x y ys es true = refl
 end_by x y ys es false = refl
 

@@ -4,7 +4,20 @@ use Rattle.php_tree.specs.declared.token.TokenKind.{TokenKind}
 use Rattle.php_tree.specs.declared.token.TokenKind.TheVariants as token
 use Rattle.tracked_changes.specs.Pieces.{Piece, changed, old_bytes, before}
 use Rattle.tracked_changes.specs.Draft.{NewToken}
-use Rattle.syntax_rules.specs.SplitName.{is_label, is_name, is_keyword, is_nothing, begins_root, is_backslash, is_namespace, deleted, is_one, one_name, space_before, keyword_behind}
+use Rattle.syntax_rules.specs.SplitName.{
+  is_label,
+  is_name,
+  is_keyword,
+  is_nothing,
+  begins_root,
+  is_backslash,
+  is_namespace,
+  deleted,
+  is_one,
+  one_name,
+  space_before,
+  keyword_behind,
+}
 use Rattle.written_tokens.specs.tokens.Drafted.{before_all, all_whole, all_spaced, joins}
 use Rattle.written_tokens.specs.tokens.Spaced.{space_put, spaces_put, front_text, SpacesComeFirst}
 
@@ -79,7 +92,9 @@ part_of false false false r true h = absurd cc
 part_of false false false r false h = absurd cc
 
 one_word : (t u : NewToken) → is_one t u ≡ true → is_keyword u.kind ≡ false
-one_word t u h = either_word u.kind (is_label u.kind) (is_name u.kind) refl refl (part_of (is_backslash t) (is_label u.kind) (is_name u.kind) (begins_root (before u.text)) (is_label t.kind || is_namespace t) h)
+one_word t u h = either_word u.kind (is_label u.kind) (is_name u.kind) refl refl
+    (part_of (is_backslash t) (is_label u.kind) (is_name u.kind) (begins_root (before u.text))
+    (is_label t.kind || is_namespace t) h)
 
 behind_part : (b : Bool) (t u : NewToken) → is_one t u ≡ true → is_nothing (before u.text) ≡ false → keyword_behind b u ≡ false
 behind_part b t u h text = rw (text, one_word t u h) refl
@@ -93,7 +108,9 @@ abbrev wants : Bool → NewToken → Bool → Bool
 wants behind t begins = behind && (begins || is_name t.kind) && begins_root (before t.text) && is_nothing (before t.lead)
 
 space_is : (behind : Bool) (t u : NewToken) → is_nothing (before t.text) ≡ false → space_before behind (one_name t u) ≡ given (wants behind t true) (one_name t u)
-space_is behind t u text = ap (λ (r : Bool). given (behind && true && r && is_nothing (before t.lead)) (one_name t u)) (ap begins_root (old_text t u) ∙ root_front (before t.text) (before (deleted (before u.lead)) ++ before u.text) text)
+space_is behind t u text = ap (λ (r : Bool). given (behind && true && r && is_nothing (before t.lead)) (one_name t u))
+    (ap begins_root (old_text t u) ∙ root_front (before t.text) (before (deleted (before u.lead)) ++ before u.text)
+    text)
 
 apart_is : (t : NewToken) (us : List NewToken) → joins t us ≡ false → before_all t us ≡ t ∷ us
 apart_is t [] h = refl
@@ -111,15 +128,20 @@ module _ (behind : Bool) (t : NewToken) (ts : List NewToken) where
   abbrev Goal : Type 0
   Goal = all_spaced behind (all_whole (t ∷ ts)) ≡ all_whole (spaces_put behind (t ∷ ts))
 
-  apart_goal : all_spaced (keyword_behind behind t) (all_whole ts) ≡ all_whole (spaces_put (keyword_behind behind t) ts) → joins t (all_whole ts) ≡ false → all_spaced behind (all_whole (t ∷ ts)) ≡ all_whole (spaces_put behind (t ∷ ts))
+  apart_goal : all_spaced (keyword_behind behind t) (all_whole ts) ≡ all_whole
+      (spaces_put (keyword_behind behind t) ts) → joins t (all_whole ts) ≡ false
+      → all_spaced behind (all_whole (t ∷ ts)) ≡ all_whole (spaces_put behind (t ∷ ts))
   apart_goal ih h =
       let bare : joins t (all_spaced (keyword_behind behind t) (all_whole ts)) ≡ false = joins_spaced t (keyword_behind behind t) (all_whole ts) ∙ h in
       ap (all_spaced behind) (apart_is t (all_whole ts) h)
-      ∙ sym (apart_is (given (wants behind t false) t) (all_spaced (keyword_behind behind t) (all_whole ts)) (given_joins t (all_spaced (keyword_behind behind t) (all_whole ts)) (wants behind t false) ∙ bare))
+      ∙ sym (apart_is (given (wants behind t false) t) (all_spaced (keyword_behind behind t) (all_whole ts))
+      (given_joins t (all_spaced (keyword_behind behind t) (all_whole ts)) (wants behind t false) ∙ bare))
       ∙ ap (λ (l : List NewToken). before_all (given (wants behind t false) t) l) ih
       ∙ ap (λ (b : Bool). before_all (space_put behind t b) (all_whole (spaces_put (keyword_behind behind t) ts))) (sym h)
 
-  one_goal : (us : List NewToken) → all_whole ts ≡ us → all_spaced (keyword_behind behind t) (all_whole ts) ≡ all_whole (spaces_put (keyword_behind behind t) ts) → joins t us ≡ true → is_nothing (before t.text) ≡ false → front_text us ≡ true → all_spaced behind (all_whole (t ∷ ts)) ≡ all_whole (spaces_put behind (t ∷ ts))
+  one_goal : (us : List NewToken) → all_whole ts ≡ us → all_spaced (keyword_behind behind t) (all_whole ts) ≡
+      all_whole (spaces_put (keyword_behind behind t) ts) → joins t us ≡ true → is_nothing (before t.text) ≡ false
+      → front_text us ≡ true → all_spaced behind (all_whole (t ∷ ts)) ≡ all_whole (spaces_put behind (t ∷ ts))
   one_goal [] e ih h text first = absurd cc
   one_goal (u ∷ us) e ih h text first =
       let flag : Bool = keyword_behind behind t in
@@ -135,13 +157,17 @@ module _ (behind : Bool) (t : NewToken) (ts : List NewToken) where
       ap (λ (b : Bool). given spaced u ∷ all_spaced b us) (behind_part flag t u h (not_it (is_nothing (before u.text)) first)) in
       let met : is_one (given (wants behind t true) t) (given spaced u) ≡ true = given_one t (given spaced u) (wants behind t true) ∙ one_given t u spaced ∙ h in
       let right : before_all (given (wants behind t true) t) (given spaced u ∷ all_spaced false us) ≡ given (wants behind t true) (one_name t u) ∷ all_spaced false us =
-      ap (λ (b : Bool). cond b (one_name (given (wants behind t true) t) (given spaced u) ∷ all_spaced false us) (given (wants behind t true) t ∷ given spaced u ∷ all_spaced false us)) met
+      ap (λ (b : Bool). cond b (one_name (given (wants behind t true) t) (given spaced u) ∷ all_spaced false us)
+      (given (wants behind t true) t ∷ given spaced u ∷ all_spaced false us)) met
       ∙ ap (λ (x : NewToken). x ∷ all_spaced false us) (name_given (given (wants behind t true) t) u spaced ∙ given_name t u (wants behind t true)) in
       left ∙ sym right
       ∙ ap (λ (l : List NewToken). before_all (given (wants behind t true) t) l) (sym next ∙ ap (all_spaced flag) (sym e) ∙ ih)
       ∙ ap (λ (b : Bool). before_all (space_put behind t b) (all_whole (spaces_put flag ts))) (sym there)
 
-  goal_by : (b : Bool) → joins t (all_whole ts) ≡ b → all_spaced (keyword_behind behind t) (all_whole ts) ≡ all_whole (spaces_put (keyword_behind behind t) ts) → (joins t (all_whole ts) ≡ true → (is_nothing (before t.text) ≡ false) × (front_text (all_whole ts) ≡ true)) → all_spaced behind (all_whole (t ∷ ts)) ≡ all_whole (spaces_put behind (t ∷ ts))
+  goal_by : (b : Bool) → joins t (all_whole ts) ≡ b → all_spaced (keyword_behind behind t) (all_whole ts) ≡ all_whole
+      (spaces_put (keyword_behind behind t) ts)
+      → (joins t (all_whole ts) ≡ true → (is_nothing (before t.text) ≡ false) × (front_text (all_whole ts) ≡ true))
+      → all_spaced behind (all_whole (t ∷ ts)) ≡ all_whole (spaces_put behind (t ∷ ts))
   goal_by false h ih texts = apart_goal ih h
   goal_by true h ih texts = one_goal (all_whole ts) refl ih h (texts h).0 (texts h).1
 

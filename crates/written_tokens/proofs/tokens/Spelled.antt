@@ -14,7 +14,22 @@ use Rattle.php_relexing.specs.Tiles.{Tile, tile, joined}
 use Rattle.php_relexing.specs.Spelled.{lexeme_with, spelled}
 use Rattle.php_relexing.proofs.Spelling.{tiles_are_tokens}
 use Rattle.written_tokens.specs.tokens.Names.{goes_on_root, are_one, in_front, whole_names}
-use Rattle.written_tokens.specs.tokens.Whole.{is_label_kind, is_name_kind, is_keyword_kind, is_op_kind, is_namespace, begins_label, is_backslash, is_one, before_tokens, whole_tokens, begins_other, is_apart, all_apart, TokensInNewer}
+use Rattle.written_tokens.specs.tokens.Whole.{
+  is_label_kind,
+  is_name_kind,
+  is_keyword_kind,
+  is_op_kind,
+  is_namespace,
+  begins_label,
+  is_backslash,
+  is_one,
+  before_tokens,
+  whole_tokens,
+  begins_other,
+  is_apart,
+  all_apart,
+  TokensInNewer,
+}
 use Rattle.written_tokens.proofs.tokens.Newer.{names_joined}
 use Rattle.written_tokens.proofs.tokens.Uncut.{same_in_newer}
 
@@ -33,7 +48,10 @@ append_some c l a = refl
 no_join : (t : Lexeme) (kind : TokenKind) (c : ℕ) (l text : List ℕ) (us : List Lexeme) → before_tokens t (lexeme_of kind (c ∷ l) text ∷ us) ≡ t ∷ lexeme_of kind (c ∷ l) text ∷ us
 no_join t kind c l text us = rw (and_false (is_one t.kind t.text kind text)) refl
 
-lead_by : (t : Lexeme) (c : ℕ) (l : List ℕ) (b : ℕ) (a : List ℕ) (us : List Tile) → before_tokens t (spelled (c ∷ l ++ b ∷ a) us) ≡ t ∷ spelled (c ∷ l ++ b ∷ a) us → (o : Option TokenKind) → before_tokens t (lexeme_with o (c ∷ l) (b ∷ a) (λ m. spelled m us)) ≡ t ∷ lexeme_with o (c ∷ l) (b ∷ a) (λ m. spelled m us)
+lead_by : (t : Lexeme) (c : ℕ) (l : List ℕ) (b : ℕ) (a : List ℕ) (us : List Tile)
+    → before_tokens t (spelled (c ∷ l ++ b ∷ a) us) ≡ t ∷ spelled (c ∷ l ++ b ∷ a) us → (o : Option TokenKind)
+    → before_tokens t (lexeme_with o (c ∷ l) (b ∷ a) (λ m. spelled m us)) ≡ t
+    ∷ lexeme_with o (c ∷ l) (b ∷ a) (λ m. spelled m us)
 lead_by t c l b a us ih None = ih
 lead_by t c l b a us ih (Some k) = no_join t k c l (b ∷ a) (spelled [] us)
 
@@ -127,13 +145,16 @@ not_it : (x : Bool) → not x ≡ true → x ≡ false
 not_it true h = absurd cc
 not_it false h = refl
 
-root_goes : (w : Kind) (c : ℕ) (e : List ℕ) (us : List Tile) → begins_other (tile w c e ∷ us) ≡ false → (kind_label w (c ∷ e) || kind_name w && not (nat_eq c 92)) ≡ goes_on_root w c
+root_goes : (w : Kind) (c : ℕ) (e : List ℕ) (us : List Tile) → begins_other (tile w c e ∷ us) ≡ false
+    → (kind_label w (c ∷ e) || kind_name w && not (nat_eq c 92)) ≡ goes_on_root w c
 root_goes Word c e us h = rw h refl
 root_goes Label c e us h = absurd cc
 root_goes Name c e us h = refl
 root_goes _ c e us h = refl
 
-op_one : (b : ℕ) (a : List ℕ) (w : Kind) (c : ℕ) (e : List ℕ) (us : List Tile) (t : Bool) → nat_eq b 92 ≡ t → (not t || is_empty a && not (begins_other (tile w c e ∷ us))) ≡ true → one_by Op (b ∷ a) w c e ≡ nat_eq b 92 && goes_on_root w c
+op_one : (b : ℕ) (a : List ℕ) (w : Kind) (c : ℕ) (e : List ℕ) (us : List Tile) (t : Bool) → nat_eq b 92 ≡ t
+    → (not t || is_empty a && not (begins_other (tile w c e ∷ us))) ≡ true → one_by Op (b ∷ a) w c e ≡ nat_eq b 92
+    && goes_on_root w c
 op_one b a w c e us false p h = rw p refl
 op_one b (d ∷ a) w c e us true p h = absurd cc
 op_one b [] w c e us true p h = rw p (or_false _ ∙ root_goes w c e us (not_it (begins_other (tile w c e ∷ us)) h))
@@ -145,7 +166,8 @@ word_one true false true h = absurd cc
 word_one true false false h = refl
 word_one false y z h = refl
 
-one_same : (kind : Kind) (b : ℕ) (a : List ℕ) (w : Kind) (c : ℕ) (e : List ℕ) (us : List Tile) → is_apart kind b a (tile w c e ∷ us) ≡ true → one_by kind (b ∷ a) w c e ≡ are_one kind b w c
+one_same : (kind : Kind) (b : ℕ) (a : List ℕ) (w : Kind) (c : ℕ) (e : List ℕ) (us : List Tile)
+    → is_apart kind b a (tile w c e ∷ us) ≡ true → one_by kind (b ∷ a) w c e ≡ are_one kind b w c
 one_same Op b a w c e us h = op_one b a w c e us (nat_eq b 92) refl h
 one_same Word b a Name c e us h = word_one (is_keyword (b ∷ a)) (is_namespace (b ∷ a)) (nat_eq c 92) h
 one_same Word b a _ c e us h = and_false _
@@ -157,7 +179,9 @@ one_same _ b a w c e us h = refl
 
 -- ---- the whole row
 
-token_one : (kind : Kind) (b : ℕ) (a : List ℕ) (k : TokenKind) (w : Kind) (c : ℕ) (e : List ℕ) (j : TokenKind) (us : List Tile) → token_of kind (b ∷ a) ≡ Some k → token_of w (c ∷ e) ≡ Some j → is_apart kind b a (tile w c e ∷ us) ≡ true → is_one k (b ∷ a) j (c ∷ e) ≡ are_one kind b w c
+token_one : (kind : Kind) (b : ℕ) (a : List ℕ) (k : TokenKind) (w : Kind) (c : ℕ) (e : List ℕ) (j : TokenKind)
+    (us : List Tile) → token_of kind (b ∷ a) ≡ Some k → token_of w (c ∷ e) ≡ Some j
+    → is_apart kind b a (tile w c e ∷ us) ≡ true → is_one k (b ∷ a) j (c ∷ e) ≡ are_one kind b w c
 token_one kind b a k w c e j us p q h =
     let op : is_op_kind k ≡ kind_op kind = sym (ap (opt_by is_op_kind) p) ∙ op_of kind (b ∷ a) in
     let label : is_label_kind k ≡ kind_label kind (b ∷ a) = sym (ap (opt_by is_label_kind) p) ∙ label_of kind (b ∷ a) in
@@ -198,11 +222,15 @@ module _ (lead : List ℕ) (kind : Kind) (b : ℕ) (a : List ℕ) (k : TokenKind
   spelled_alone : (ws : List Tile) → spelled lead (tile kind b a ∷ ws) ≡ lexeme_of k lead (b ∷ a) ∷ spelled [] ws
   spelled_alone ws = rw is refl
 
-  joined_by : (w : Kind) (c : ℕ) (e : List ℕ) (us : List Tile) (j : TokenKind) → token_of w (c ∷ e) ≡ Some j → (t : Bool) → spelled lead (cond t (tile Name b (a ++ c ∷ e) ∷ us) (tile kind b a ∷ tile w c e ∷ us)) ≡ cond (t && true) (lexeme_of token.Name lead (b ∷ a ++ c ∷ e) ∷ spelled [] us) (lexeme_of k lead (b ∷ a) ∷ lexeme_of j [] (c ∷ e) ∷ spelled [] us)
+  joined_by : (w : Kind) (c : ℕ) (e : List ℕ) (us : List Tile) (j : TokenKind) → token_of w (c ∷ e) ≡ Some j
+      → (t : Bool) → spelled lead (cond t (tile Name b (a ++ c ∷ e) ∷ us) (tile kind b a ∷ tile w c e ∷ us)) ≡ cond
+      (t && true) (lexeme_of token.Name lead (b ∷ a ++ c ∷ e) ∷ spelled [] us)
+      (lexeme_of k lead (b ∷ a) ∷ lexeme_of j [] (c ∷ e) ∷ spelled [] us)
   joined_by w c e us j q true = refl
   joined_by w c e us j q false = rw (is, q) refl
 
-  token_front : (w : Kind) (c : ℕ) (e : List ℕ) (us : List Tile) (o : Option TokenKind) → token_of w (c ∷ e) ≡ o → is_apart kind b a (tile w c e ∷ us) ≡ true → Front (tile w c e ∷ us)
+  token_front : (w : Kind) (c : ℕ) (e : List ℕ) (us : List Tile) (o : Option TokenKind) → token_of w (c ∷ e) ≡ o
+      → is_apart kind b a (tile w c e ∷ us) ≡ true → Front (tile w c e ∷ us)
   token_front w c e us None q h =
       let other = behind_trivia kind b w c e q in
       let shown : spelled [] (tile w c e ∷ us) ≡ spelled (c ∷ e) us = rw q refl in
@@ -214,14 +242,19 @@ module _ (lead : List ℕ) (kind : Kind) (b : ℕ) (a : List ℕ) (k : TokenKind
       let shown : spelled [] (tile w c e ∷ us) ≡ lexeme_of j [] (c ∷ e) ∷ spelled [] us = rw q refl in
       let one = token_one kind b a k w c e j us is q h in
       joined_by w c e us j q (are_one kind b w c)
-      ∙ ap (λ (t : Bool). cond (t && true) (lexeme_of token.Name lead (b ∷ a ++ c ∷ e) ∷ spelled [] us) (lexeme_of k lead (b ∷ a) ∷ lexeme_of j [] (c ∷ e) ∷ spelled [] us)) (sym one)
+      ∙ ap (λ (t : Bool). cond (t && true) (lexeme_of token.Name lead (b ∷ a ++ c ∷ e) ∷ spelled [] us)
+      (lexeme_of k lead (b ∷ a) ∷ lexeme_of j [] (c ∷ e) ∷ spelled [] us)) (sym one)
       ∙ ap (before_tokens (lexeme_of k lead (b ∷ a))) (sym shown)
 
   front_is : (ws : List Tile) → is_apart kind b a ws ≡ true → Front ws
   front_is [] h = rw is (rw not_end refl)
   front_is (tile w c e ∷ us) h = token_front w c e us (token_of w (c ∷ e)) refl h
 
-by_token : (lead : List ℕ) (kind : Kind) (b : ℕ) (a : List ℕ) (ts : List Tile) → is_apart kind b a (whole_names ts) ≡ true → ((l : List ℕ) → spelled l (whole_names ts) ≡ whole_tokens (spelled l ts)) → (o : Option TokenKind) → token_of kind (b ∷ a) ≡ o → spelled lead (in_front kind b a (whole_names ts)) ≡ whole_tokens (lexeme_with o lead (b ∷ a) (λ l. spelled l ts))
+by_token : (lead : List ℕ) (kind : Kind) (b : ℕ) (a : List ℕ) (ts : List Tile)
+    → is_apart kind b a (whole_names ts) ≡ true
+    → ((l : List ℕ) → spelled l (whole_names ts) ≡ whole_tokens (spelled l ts)) → (o : Option TokenKind)
+    → token_of kind (b ∷ a) ≡ o → spelled lead (in_front kind b a (whole_names ts)) ≡ whole_tokens
+    (lexeme_with o lead (b ∷ a) (λ l. spelled l ts))
 by_token lead kind b a ts h ih None e = trivia_front lead kind b a (whole_names ts) e ∙ ih (lead ++ b ∷ a)
 by_token lead kind b a ts h ih (Some k) e = front_is lead kind b a k e (whole_names ts) h ∙ ap (before_tokens (lexeme_of k lead (b ∷ a))) (ih [])
 

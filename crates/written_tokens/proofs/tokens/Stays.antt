@@ -4,7 +4,38 @@ use Rattle.std.proofs.lemmas.Bool.{and_parts, eqb-true}
 use Rattle.std.proofs.lemmas.Bool.Decides.{nat_tests}
 use Rattle.php_tree.specs.declared.version.Version.TheVariants.{V74}
 use Rattle.php_spellings.specs.declared.table.Kind.{Kind}
-use Rattle.php_spellings.specs.declared.table.Kind.TheVariants.{Space, Comment, Tag, OpenEcho, InlineHtml, Variable, Word, Label, Keyword, Name, Decimal, Octal, Hexadecimal, Binary, Digits, Float, Text, Quote, Backtick, HeredocStart, Cast, Op, AttributeOpen, Semi, Close, Piece, CurlyOpen, DollarBrace, VarName, QuotedEnd}
+use Rattle.php_spellings.specs.declared.table.Kind.TheVariants.{
+  Space,
+  Comment,
+  Tag,
+  OpenEcho,
+  InlineHtml,
+  Variable,
+  Word,
+  Label,
+  Keyword,
+  Name,
+  Decimal,
+  Octal,
+  Hexadecimal,
+  Binary,
+  Digits,
+  Float,
+  Text,
+  Quote,
+  Backtick,
+  HeredocStart,
+  Cast,
+  Op,
+  AttributeOpen,
+  Semi,
+  Close,
+  Piece,
+  CurlyOpen,
+  DollarBrace,
+  VarName,
+  QuotedEnd,
+}
 use Rattle.php_spellings.specs.declared.table.State.TheVariants.{First}
 use Rattle.php_spellings.specs.declared.table.Run.TheVariants.{Line}
 use Rattle.php_spellings.specs.declared.table.Until.TheVariants.{Block}
@@ -34,7 +65,22 @@ use Rattle.php_relexing.proofs.Staying.{near_tokens_stay}
 use Rattle.php_relexing.proofs.Words.{words_stay}
 use Rattle.php_relexing.proofs.YieldFrom.{yield_from_stays}
 use Rattle.written_tokens.specs.tokens.Stays.{comment_stays, in_quotes, quote_stays, heredoc_stays, CodeStays}
-use Rattle.written_tokens.proofs.tokens.NearStays.{Stays, or_none, empty_is, first_byte, variable_stays, decimal_stays, octal_stays, hexadecimal_stays, binary_stays, float_stays, semi_stays, backtick_stays, close_stays, op_stays}
+use Rattle.written_tokens.proofs.tokens.NearStays.{
+  Stays,
+  or_none,
+  empty_is,
+  first_byte,
+  variable_stays,
+  decimal_stays,
+  octal_stays,
+  hexadecimal_stays,
+  binary_stays,
+  float_stays,
+  semi_stays,
+  backtick_stays,
+  close_stays,
+  op_stays,
+}
 
 -- ---- casts and comments
 
@@ -56,13 +102,16 @@ hash_scan bs = refl
 
 hash_stays : (a r s : List ℕ) → stops_line s ≡ true → Stays Comment 35 a r s
 hash_stays a r s stop h =
-    let old : 1 + run_len Line [] First (a ++ r) ≡ suc (length a) = found_length Comment Comment (1 + run_len Line [] First (a ++ r)) (suc (length a)) (sym (hash_scan (a ++ r)) ∙ scan_of V74 code (35 ∷ a ++ r) Comment (suc (length a)) h) in
+    let old : 1 + run_len Line [] First (a ++ r) ≡ suc (length a) =
+    found_length Comment Comment (1 + run_len Line [] First (a ++ r)) (suc (length a))
+    (sym (hash_scan (a ++ r)) ∙ scan_of V74 code (35 ∷ a ++ r) Comment (suc (length a)) h) in
     let new = line_stays a r s First stop (omega arith) in
     let size : 1 + run_len Line [] First (a ++ s) ≡ suc (length a) = omega arith in
     longest_of V74 code (35 ∷ a ++ s) Comment (suc (length a)) (hash_scan (a ++ s) ∙ ap (found Comment) size)
 
 -- the second byte of a comment with `/`
-second_is : (y : ℕ) (a r s : List ℕ) → ((x : List ℕ) → comment_stays 47 (y ∷ x) s ≡ true → Stays Comment 47 (y ∷ x) r s) → begins_by y a ≡ true → comment_stays 47 a s ≡ true → Stays Comment 47 a r s
+second_is : (y : ℕ) (a r s : List ℕ) → ((x : List ℕ) → comment_stays 47 (y ∷ x) s ≡ true
+    → Stays Comment 47 (y ∷ x) r s) → begins_by y a ≡ true → comment_stays 47 a s ≡ true → Stays Comment 47 a r s
 second_is y [] r s stays e k = absurd cc
 second_is y (c ∷ a) r s stays e k =
     let same : c ≡ y = eqb-true c y e in
@@ -97,7 +146,9 @@ comment_stays_so b a r s k h =
 
 -- ---- words
 
-word_by : (b : ℕ) (a r s : List ℕ) → Alike r s → (x : Bool) → nat_eq (lower b) 98 ≡ x → cond x (is_tight b (a ++ r) && is_tight b (a ++ s)) (not (begins is_label_byte s) && not (begins_from s)) ≡ true → Stays Word b a r s
+word_by : (b : ℕ) (a r s : List ℕ) → Alike r s → (x : Bool) → nat_eq (lower b) 98 ≡ x
+    → cond x (is_tight b (a ++ r) && is_tight b (a ++ s)) (not (begins is_label_byte s) && not (begins_from s)) ≡ true
+    → Stays Word b a r s
 word_by b a r s alike true e k =
     let (old, new) = and_parts (is_tight b (a ++ r)) (is_tight b (a ++ s)) k in
     near_tokens_stay Word b a r s alike old new
@@ -138,7 +189,8 @@ quote_stays_so b a r s k =
       | inr binary ↦ quote_with_b b a r s (and_parts (nat_eq (lower b) 98) (is_text (34 ∷ []) a) binary).0 (and_parts (nat_eq (lower b) 98) (is_text (34 ∷ []) a) binary).1 part
     ]
 
-heredoc_is : (a r s : List ℕ) → begins_by 60 a ≡ true → begins_by 60 (drop 1 a) ≡ true → not (not (ends_feed false (drop 2 a)) && begins_by 10 s) ≡ true → Stays HeredocStart 60 a r s
+heredoc_is : (a r s : List ℕ) → begins_by 60 a ≡ true → begins_by 60 (drop 1 a) ≡ true
+    → not (not (ends_feed false (drop 2 a)) && begins_by 10 s) ≡ true → Stays HeredocStart 60 a r s
 heredoc_is [] r s e f k h = absurd cc
 heredoc_is (c ∷ []) r s e f k h = absurd cc
 heredoc_is (c ∷ d ∷ a) r s e f k h =

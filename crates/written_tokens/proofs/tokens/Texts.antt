@@ -74,7 +74,9 @@ some_front (x ∷ xs) ys h = refl
 
 one_text : (t u : NewToken) → is_nothing (before t.text) ≡ false → is_nothing (before (one_name t u).text) ≡ false
 one_text t u h =
-    ap is_nothing (before_append (t.text ++ deleted (before u.lead)) u.text ∙ ap (λ (l : List ℕ). l ++ before u.text) (before_append t.text (deleted (before u.lead))) ∙ append_assoc (before t.text) (before (deleted (before u.lead))) (before u.text))
+    ap is_nothing (before_append (t.text ++ deleted (before u.lead)) u.text
+    ∙ ap (λ (l : List ℕ). l ++ before u.text) (before_append t.text (deleted (before u.lead)))
+    ∙ append_assoc (before t.text) (before (deleted (before u.lead))) (before u.text))
     ∙ some_front (before t.text) (before (deleted (before u.lead)) ++ before u.text) h
 
 -- ---- rows

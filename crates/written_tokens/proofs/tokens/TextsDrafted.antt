@@ -1,5 +1,32 @@
 -- The changes put no label without a text into a draft, but `null` in parentheses.
-use Rattle.std.proofs.Common.{◌≡◌, ℕ, suc, ◌+◌, Bool, true, false, cond, not, ◌&&◌, ◌||◌, List, [], ◌∷◌, ◌++◌, codes, map, Option, Some, None, refl, sym, ap, ◌∙◌, subst, append_assoc}
+use Rattle.std.proofs.Common.{
+  ◌≡◌,
+  ℕ,
+  suc,
+  ◌+◌,
+  Bool,
+  true,
+  false,
+  cond,
+  not,
+  ◌&&◌,
+  ◌||◌,
+  List,
+  [],
+  ◌∷◌,
+  ◌++◌,
+  codes,
+  map,
+  Option,
+  Some,
+  None,
+  refl,
+  sym,
+  ap,
+  ◌∙◌,
+  subst,
+  append_assoc,
+}
 use Rattle.std.specs.Str.{bytes_eq}
 use Rattle.std.specs.Cmp.Lexicographic.{bytes_decides}
 use Rattle.php_tree.specs.declared.token.Token.{Token}
@@ -58,7 +85,8 @@ mutual
 bare_quiet : (t : NewToken) → Quiet t → Quiet (record t { lead = [] })
 bare_quiet t q = record { op = q.op; root = q.root }
 
-inner_by : (k : NodeKind) (c d : Draft) (b : Bool) → Inner c → Inner (without_lead c) → Texts d → Texts (without_lead d) → Texts (cond b (new_node k c (without_lead d)) (new_node k (without_lead c) d))
+inner_by : (k : NodeKind) (c d : Draft) (b : Bool) → Inner c → Inner (without_lead c) → Texts d
+    → Texts (without_lead d) → Texts (cond b (new_node k c (without_lead d)) (new_node k (without_lead c) d))
 inner_by k c d true i j x y = a_node i y
 inner_by k c d false i j x y = a_node j x
 
@@ -201,11 +229,17 @@ module _ (wraps : Patches) where
       first_of false b h = h
   opening_quiet id k c h = absurd cc
 
-  unset_by : (id : ℕ) (k : NodeKind) (c : Forest) (b : Bool) → is_edited (k, c) ≡ b → Texts (draft_from id c) → Inner (cond b (unset_cast (k, draft_from id c)) (cond (is_quoted k) (dollar_brace (k, draft_from id c)) (k, draft_from id c))).1
+  unset_by : (id : ℕ) (k : NodeKind) (c : Forest) (b : Bool) → is_edited (k, c) ≡ b → Texts (draft_from id c)
+      → Inner (cond b (unset_cast (k, draft_from id c))
+      (cond (is_quoted k) (dollar_brace (k, draft_from id c)) (k, draft_from id c))).1
   unset_by id k c true e x = nulled (opening (draft_from id c)) (put_also token.Op (codes ")")) kind.Constant (opening_quiet id k c e) (record { op = refl; root = refl }) refl
   unset_by id k c false e x = quoted_by (is_quoted k) (k, draft_from id c) x
 
-  edited_by : (id : ℕ) (k : NodeKind) (c : Forest) (a b : Bool) → Texts (draft_from id c) → Inner (cond a (brace_offset (k, draft_from id c)) (cond b (real_cast (k, draft_from id c)) (cond (is_edited (k, c)) (unset_cast (k, draft_from id c)) (cond (is_quoted k) (dollar_brace (k, draft_from id c)) (k, draft_from id c))))).1
+  edited_by : (id : ℕ) (k : NodeKind) (c : Forest) (a b : Bool) → Texts (draft_from id c)
+      → Inner (cond a (brace_offset (k, draft_from id c))
+      (cond b (real_cast (k, draft_from id c))
+      (cond (is_edited (k, c)) (unset_cast (k, draft_from id c))
+      (cond (is_quoted k) (dollar_brace (k, draft_from id c)) (k, draft_from id c))))).1
   edited_by id k c true b x = parts_of (bracketed_texts x)
   edited_by id k c false true x = parts_of (float_texts x)
   edited_by id k c false false x = unset_by id k c (is_edited (k, c)) refl x
@@ -215,5 +249,6 @@ module _ (wraps : Patches) where
   drafted_texts id (leaf t f) h = a_leaf (λ w. kept_text t.text (h.0 w)) (drafted_texts id f h.1)
   drafted_texts id (node k c f) h =
       a_node
-      (wrapped_inner (wraps id) (node_by every_rule (k, c) (k, draft_from (suc id) c)) (edited_by (suc id) k c (is_brace_offset k) (is_real_cast (k, c)) (drafted_texts (suc id) c h.0)))
+      (wrapped_inner (wraps id) (node_by every_rule (k, c) (k, draft_from (suc id) c))
+      (edited_by (suc id) k c (is_brace_offset k) (is_real_cast (k, c)) (drafted_texts (suc id) c h.0)))
       (drafted_texts (suc (id + count c)) f h.1)

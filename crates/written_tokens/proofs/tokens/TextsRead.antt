@@ -20,7 +20,8 @@ abbrev AllText : List Lexeme → Type 0
 AllText [] = Unit {0}
 AllText (x ∷ xs) = FineToken x.kind x.text × AllText xs
 
-spelled_by : (k : Option TokenKind) (lead : List ℕ) (b : ℕ) (a : List ℕ) (rest : List ℕ → List Lexeme) → ((l : List ℕ) → AllText (rest l)) → AllText (lexeme_with k lead (b ∷ a) rest)
+spelled_by : (k : Option TokenKind) (lead : List ℕ) (b : ℕ) (a : List ℕ) (rest : List ℕ → List Lexeme)
+    → ((l : List ℕ) → AllText (rest l)) → AllText (lexeme_with k lead (b ∷ a) rest)
 spelled_by None lead b a rest h = h (lead ++ b ∷ a)
 spelled_by (Some k) lead b a rest h = (λ w. refl, h [])
 
@@ -38,7 +39,8 @@ leaves_fine (node k c f) rest h =
 
 file_fine : (bytes : List ℕ) (f : File) → Reads V74 bytes f → AllFine f.statements
 file_fine bytes f r =
-    let row = tokens_are_tiles V74 start [] bytes (map lexeme (file_leaves f)) (subst (λ (ts : List Token). Lexed V74 start [] bytes (map lexeme ts)) r.parsed.text r.lexed.lexed) in
+    let row = tokens_are_tiles V74 start [] bytes (map lexeme (file_leaves f))
+    (subst (λ (ts : List Token). Lexed V74 start [] bytes (map lexeme ts)) r.parsed.text r.lexed.lexed) in
     let texts : AllText (map lexeme (file_leaves f)) = subst AllText row.tokens (spelled_text [] row.tiles) in
     (leaves_fine f.statements (f.end ∷ []) texts).0
 

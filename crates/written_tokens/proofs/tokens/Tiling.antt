@@ -17,7 +17,9 @@ take_size zero bs le = refl
 take_size (suc m) [] le = absurd (omega arith)
 take_size (suc m) (b ∷ bs) le = let ih = take_size m bs (omega arith) in omega arith
 
-module _ (v : Version) (stack : Stack) (kind : Kind) (b m : ℕ) (bs : List ℕ) (h : IsLongest v stack.top (b ∷ bs) kind (suc m)) (ts : List Tile) (same : joined ts ≡ drop m bs) (rest : Steps v (after v stack kind (suc m) (b ∷ bs)) ts) where
+module _ (v : Version) (stack : Stack) (kind : Kind) (b m : ℕ) (bs : List ℕ)
+    (h : IsLongest v stack.top (b ∷ bs) kind (suc m)) (ts : List Tile) (same : joined ts ≡ drop m bs)
+    (rest : Steps v (after v stack kind (suc m) (b ∷ bs)) ts) where
   whole : take m bs ++ joined ts ≡ bs
   whole = ap (λ (u : List ℕ). take m bs ++ u) same ∙ take-append-drop m bs
 
@@ -36,7 +38,9 @@ module _ (v : Version) (stack : Stack) (kind : Kind) (b m : ℕ) (bs : List ℕ)
   pub joins : joined (tile kind b (take m bs) ∷ ts) ≡ b ∷ bs
   joins = ap (λ (u : List ℕ). b ∷ u) whole
 
-trivia_row : (v : Version) (stack : Stack) (lead bytes : List ℕ) (ts : List Lexeme) (kind : Kind) (n : ℕ) → IsLongest v stack.top bytes kind n → 0 < n → token_of kind (take n bytes) ≡ None → InARow v (after v stack kind n bytes) (lead ++ take n bytes) (drop n bytes) ts → InARow v stack lead bytes ts
+trivia_row : (v : Version) (stack : Stack) (lead bytes : List ℕ) (ts : List Lexeme) (kind : Kind) (n : ℕ)
+    → IsLongest v stack.top bytes kind n → 0 < n → token_of kind (take n bytes) ≡ None
+    → InARow v (after v stack kind n bytes) (lead ++ take n bytes) (drop n bytes) ts → InARow v stack lead bytes ts
 trivia_row v stack lead bytes ts kind zero h some none ih = absurd (omega arith)
 trivia_row v stack lead [] ts kind (suc m) h some none ih = absurd (let w = h.within in omega arith)
 trivia_row v stack lead (b ∷ bs) ts kind (suc m) h some none ih = record {
@@ -46,7 +50,10 @@ trivia_row v stack lead (b ∷ bs) ts kind (suc m) h some none ih = record {
   tokens = rw none ih.tokens;
 }
 
-token_row : (v : Version) (stack : Stack) (lead bytes : List ℕ) (ts : List Lexeme) (kind : Kind) (n : ℕ) (t : TokenKind) → IsLongest v stack.top bytes kind n → 0 < n → token_of kind (take n bytes) ≡ Some t → InARow v (after v stack kind n bytes) [] (drop n bytes) ts → InARow v stack lead bytes (record { kind = t; lead = lead; text = take n bytes } ∷ ts)
+token_row : (v : Version) (stack : Stack) (lead bytes : List ℕ) (ts : List Lexeme) (kind : Kind) (n : ℕ)
+    (t : TokenKind) → IsLongest v stack.top bytes kind n → 0 < n → token_of kind (take n bytes) ≡ Some t
+    → InARow v (after v stack kind n bytes) [] (drop n bytes) ts
+    → InARow v stack lead bytes (record { kind = t; lead = lead; text = take n bytes } ∷ ts)
 token_row v stack lead bytes ts kind zero t h some is ih = absurd (omega arith)
 token_row v stack lead [] ts kind (suc m) t h some is ih = absurd (let w = h.within in omega arith)
 token_row v stack lead (b ∷ bs) ts kind (suc m) t h some is ih = record {
@@ -58,7 +65,8 @@ token_row v stack lead (b ∷ bs) ts kind (suc m) t h some is ih = record {
 
 row_of : {v : Version} {stack : Stack} {lead bytes : List ℕ} {ts : List Lexeme} → Lexed v stack lead bytes ts → InARow v stack lead bytes ts
 row_of (ends e d) = record { tiles = []; steps = done d; whole = sym e; tokens = refl }
-row_of (trivia {version = v} {stack} {lead} {bytes} {ts} kind n h none rest) = trivia_row v stack lead bytes ts kind n h (longest_some v stack.top bytes kind n h) none (row_of rest)
+row_of (trivia {version = v} {stack} {lead} {bytes} {ts} kind n h none rest) =
+    trivia_row v stack lead bytes ts kind n h (longest_some v stack.top bytes kind n h) none (row_of rest)
 row_of (token {version = v} {stack} {lead} {bytes} {ts} kind n t h is rest) = token_row v stack lead bytes ts kind n t h (longest_some v stack.top bytes kind n h) is (row_of rest)
 
 pub tokens_are_tiles : TokensAreTiles

@@ -43,4 +43,6 @@ EndOfRow = (before : List ℕ) (row : List Tile) (last : Lexeme) → spelled bef
 -- Trivia go to the lead of the token behind them, and a token's tile is the token.
 pub record FrontsAreSpelled : Type 0 where
   pub trivia : (before : List ℕ) (gap rest : List Tile) → all_trivia gap ≡ true → spelled before (gap ++ rest) ≡ spelled (before ++ joined gap) rest
-  pub token : (before : List ℕ) (kind : Kind) (b : ℕ) (a : List ℕ) (k : TokenKind) (rest : List Tile) → token_of kind (b ∷ a) ≡ Some k → spelled before (tile kind b a ∷ rest) ≡ record { kind = k; lead = before; text = b ∷ a } ∷ spelled [] rest
+  pub token : (before : List ℕ) (kind : Kind) (b : ℕ) (a : List ℕ) (k : TokenKind) (rest : List Tile)
+      → token_of kind (b ∷ a) ≡ Some k → spelled before (tile kind b a ∷ rest) ≡ record
+      { kind = k; lead = before; text = b ∷ a } ∷ spelled [] rest

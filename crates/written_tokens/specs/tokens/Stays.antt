@@ -2,7 +2,38 @@
 use Rattle.std.specs.Prelude.{◌≡◌, ℕ, suc, Bool, true, false, cond, not, ◌&&◌, ◌||◌, nat_eq, List, [], ◌∷◌, ◌++◌, length, drop}
 use Rattle.php_tree.specs.declared.version.Version.TheVariants.{V74}
 use Rattle.php_spellings.specs.declared.table.Kind.{Kind}
-use Rattle.php_spellings.specs.declared.table.Kind.TheVariants.{Space, Comment, Tag, OpenEcho, InlineHtml, Variable, Word, Label, Keyword, Name, Decimal, Octal, Hexadecimal, Binary, Digits, Float, Text, Quote, Backtick, HeredocStart, Cast, Op, AttributeOpen, Semi, Close, Piece, CurlyOpen, DollarBrace, VarName, QuotedEnd}
+use Rattle.php_spellings.specs.declared.table.Kind.TheVariants.{
+  Space,
+  Comment,
+  Tag,
+  OpenEcho,
+  InlineHtml,
+  Variable,
+  Word,
+  Label,
+  Keyword,
+  Name,
+  Decimal,
+  Octal,
+  Hexadecimal,
+  Binary,
+  Digits,
+  Float,
+  Text,
+  Quote,
+  Backtick,
+  HeredocStart,
+  Cast,
+  Op,
+  AttributeOpen,
+  Semi,
+  Close,
+  Piece,
+  CurlyOpen,
+  DollarBrace,
+  VarName,
+  QuotedEnd,
+}
 use Rattle.php_spellings.specs.Bytes.{is_space, is_label_byte, is_empty, lower, begins, begins_by}
 use Rattle.php_lexer.specs.Modes.{code, IsLongest}
 use Rattle.php_relexing.specs.Alike.{Alike, is_tight}

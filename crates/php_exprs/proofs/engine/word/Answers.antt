@@ -22,4 +22,6 @@ returns c = λ limit.
     let some : 0 < length left = grind (arith, common_steps) in
     let t = token_at c.rest-left.result.bytes.now c.mark.result in
     let e = sym c.rest-left.ensures.rest ∙ head_is left t some c.mark.ensures.token in
-    word_extends c.args.version (tokens_in c.args.tokens) c.args.terminal (c.args.row.now, c.args.reach.now) (c.leaf.new.self, c.leaf-2.new.self) limit t (drop 1 left) e (sym c.accepts.ensures ∙ c.if-not-accepts.false) (c.in_ok-leaf.ensures.grew t) c.in_ok-leaf.ensures.at c.leaf-2.ensures.deep c.leaf-2.ensures.edge
+    word_extends c.args.version (tokens_in c.args.tokens) c.args.terminal (c.args.row.now, c.args.reach.now)
+    (c.leaf.new.self, c.leaf-2.new.self) limit t (drop 1 left) e (sym c.accepts.ensures ∙ c.if-not-accepts.false)
+    (c.in_ok-leaf.ensures.grew t) c.in_ok-leaf.ensures.at c.leaf-2.ensures.deep c.leaf-2.ensures.edge

@@ -20,7 +20,9 @@ turns-init c = turned_first c.args.version (tokens_in c.args.tokens) c.args.limi
 pub returns-then-is_empty : goal.returns-then-is_empty
 returns-then-is_empty c =
     let e : parts c.args.version Statements (tokens_in c.rest.result) ≡ [] = grind (arith, common_steps) in
-    turned_ends c.args.version (tokens_in c.args.tokens) c.args.limit 7 Statements (c.args.row.now, c.args.reach.now) (c.turns.row, c.turns.reach) (ap (parts c.args.version Statements) (sym c.rest.ensures.rest) ∙ e) c.turns.invariant
+    turned_ends c.args.version (tokens_in c.args.tokens) c.args.limit 7 Statements (c.args.row.now, c.args.reach.now)
+    (c.turns.row, c.turns.reach) (ap (parts c.args.version Statements) (sym c.rest.ensures.rest) ∙ e)
+    c.turns.invariant
 
 pub returns-in_err-closed : goal.returns-in_err-closed
 returns-in_err-closed c =
@@ -31,7 +33,10 @@ returns-in_err-closed c =
     let some : 0 < length (parts c.args.version Statements (tokens_in c.rest.result)) = grind (arith, common_steps) in
     let has = subst (λ (ts : List Token). 0 < length (parts c.args.version Statements ts)) c.rest.ensures.rest some in
     let ts = behind all c.turns.row in
-    let x = subst (λ (o : Read Forest). Extends (Err c.in_err-closed.field-0.0) c.args.version all mid new c.args.limit o) (sym (one_statement c.args.version c.args.limit ts has)) (child_fails c.args.version all c.in_err-closed.field-0.0 mid new c.args.limit (node_at (php c.args.version) c.args.limit Statement ts) c.in_err-closed.ensures) in
+    let x = subst (λ (o : Read Forest). Extends (Err c.in_err-closed.field-0.0) c.args.version all mid new
+    c.args.limit o) (sym (one_statement c.args.version c.args.limit ts has))
+    (child_fails c.args.version all c.in_err-closed.field-0.0 mid new c.args.limit
+    (node_at (php c.args.version) c.args.limit Statement ts) c.in_err-closed.ensures) in
     rw (p.1, p.2) (turned_breaks c.args.version all c.args.limit 7 Statements (c.args.row.now, c.args.reach.now) mid new c.in_err-closed.field-0.0 has x c.turns.invariant)
 
 pub returns-then-at-before : goal.returns-then-at-before
@@ -42,7 +47,11 @@ returns-then-at-before c =
     let some : 0 < length (parts c.args.version Statements (tokens_in c.rest.result)) = grind (arith, common_steps) in
     let has = subst (λ (ts : List Token). 0 < length (parts c.args.version Statements ts)) c.rest.ensures.rest some in
     let ts = behind all c.turns.row in
-    let x = subst (λ (o : Read Forest). Extends (Ok tt) c.args.version all mid new c.args.limit o) (sym (one_statement c.args.version c.args.limit ts has)) (child_extends c.args.version all c.in_ok-closed.closed mid new c.args.limit (node_at (php c.args.version) c.args.limit Statement ts) c.in_ok-closed.ensures c.child.ensures.deep c.child.ensures.edge) in
+    let x = subst (λ (o : Read Forest). Extends (Ok tt) c.args.version all mid new c.args.limit o)
+    (sym (one_statement c.args.version c.args.limit ts has))
+    (child_extends c.args.version all c.in_ok-closed.closed mid new c.args.limit
+    (node_at (php c.args.version) c.args.limit Statement ts) c.in_ok-closed.ensures c.child.ensures.deep
+    c.child.ensures.edge) in
     stays_none c.args.version all c.args.limit 7 Statements (c.args.row.now, c.args.reach.now) mid new _ has refl x (omega arith) c.turns.invariant
 
 pub turns-preserved : goal.turns-preserved
@@ -53,5 +62,9 @@ turns-preserved c =
     let some : 0 < length (parts c.args.version Statements (tokens_in c.rest.result)) = grind (arith, common_steps) in
     let has = subst (λ (ts : List Token). 0 < length (parts c.args.version Statements ts)) c.rest.ensures.rest some in
     let ts = behind all c.turns.row in
-    let x = subst (λ (o : Read Forest). Extends (Ok tt) c.args.version all mid new c.args.limit o) (sym (one_statement c.args.version c.args.limit ts has)) (child_extends c.args.version all c.in_ok-closed.closed mid new c.args.limit (node_at (php c.args.version) c.args.limit Statement ts) c.in_ok-closed.ensures c.child.ensures.deep c.child.ensures.edge) in
+    let x = subst (λ (o : Read Forest). Extends (Ok tt) c.args.version all mid new c.args.limit o)
+    (sym (one_statement c.args.version c.args.limit ts has))
+    (child_extends c.args.version all c.in_ok-closed.closed mid new c.args.limit
+    (node_at (php c.args.version) c.args.limit Statement ts) c.in_ok-closed.ensures c.child.ensures.deep
+    c.child.ensures.edge) in
     turned_on c.args.version all c.args.limit 7 Statements (c.args.row.now, c.args.reach.now) mid new has x (omega arith) c.turns.invariant

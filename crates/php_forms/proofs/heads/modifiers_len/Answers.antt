@@ -7,12 +7,22 @@ use Rattle.php_forms.proofs.heads.modifiers_len.Goals as goal
 pub returns-then-not-is_modifier : goal.returns-then-not-is_modifier
 returns-then-not-is_modifier c =
     let n = c.len-i-end.ensures in
-    omega (arith, c.loop-i.invariant, modifiers_end (tokens_in c.args.tokens) c.loop-i.i (omega arith) (ap is_modifier (sym c.class.ensures) ∙ sym c.is_modifier.ensures ∙ c.if-not-is_modifier.true))
+    omega (
+      arith,
+      c.loop-i.invariant,
+      modifiers_end (tokens_in c.args.tokens) c.loop-i.i (omega arith)
+          (ap is_modifier (sym c.class.ensures) ∙ sym c.is_modifier.ensures ∙ c.if-not-is_modifier.true),
+    )
 
 pub loop-i-preserved : goal.loop-i-preserved
 loop-i-preserved c =
     let n = c.len-i-end.ensures in
-    omega (arith, c.loop-i.invariant, modifiers_more (tokens_in c.args.tokens) c.loop-i.i (omega arith) (ap is_modifier (sym c.class.ensures) ∙ sym c.is_modifier.ensures ∙ c.if-not-is_modifier.false))
+    omega (
+      arith,
+      c.loop-i.invariant,
+      modifiers_more (tokens_in c.args.tokens) c.loop-i.i (omega arith)
+          (ap is_modifier (sym c.class.ensures) ∙ sym c.is_modifier.ensures ∙ c.if-not-is_modifier.false),
+    )
 
 pub returns : goal.returns
 returns c =

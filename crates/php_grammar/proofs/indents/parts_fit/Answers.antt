@@ -14,11 +14,14 @@ returns-then-not-leaf_fits_by c =
     let l = rw c.in-Some-Leaf.field-0-is at c.in-Some-Leaf.ensures in
     let m = c.in-Some-Leaf.mark in
     let text = c.text_of-text.ensures ∙ ap (λ (b : List ℕ). (token_at b m).text) (c.bytes.ensures ∙ bytes_same m c.parts.left c.next.new.self l) in
-    sym (c.parts.invariant ∙ unfit_token c.args.indent.now c.parts.fresh m c.parts.left c.next.new.self c.text_of-text.result.now l text (sym c.leaf_fits_by.ensures ∙ c.if-not-leaf_fits_by.true))
+    sym (c.parts.invariant ∙ unfit_token c.args.indent.now c.parts.fresh m c.parts.left c.next.new.self
+    c.text_of-text.result.now l text (sym c.leaf_fits_by.ensures ∙ c.if-not-leaf_fits_by.true))
 
 pub parts-preserved-in-Some-Leaf : goal.parts-preserved-in-Some-Leaf
 parts-preserved-in-Some-Leaf c =
     let l = rw c.in-Some-Leaf.field-0-is at c.in-Some-Leaf.ensures in
     let m = c.in-Some-Leaf.mark in
     let text = c.text_of-text.ensures ∙ ap (λ (b : List ℕ). (token_at b m).text) (c.bytes.ensures ∙ bytes_same m c.parts.left c.next.new.self l) in
-    c.parts.invariant ∙ fits_token c.args.indent.now c.parts.fresh m c.parts.left c.next.new.self c.text_of-text.result.now l text (sym c.leaf_fits_by.ensures ∙ c.if-not-leaf_fits_by.false) ∙ fresh_same c.args.indent.now c.next.new.self _ _ (sym c.fresh_by-fresh.ensures)
+    c.parts.invariant ∙ fits_token c.args.indent.now c.parts.fresh m c.parts.left c.next.new.self
+    c.text_of-text.result.now l text (sym c.leaf_fits_by.ensures ∙ c.if-not-leaf_fits_by.false)
+    ∙ fresh_same c.args.indent.now c.next.new.self _ _ (sym c.fresh_by-fresh.ensures)

@@ -17,4 +17,7 @@ bounded None k n w h lt = tt
 bounded (Some m) k n w h lt = omega arith
 
 pub longer_by-requires : goal.longer_by-requires
-longer_by-requires c = bounded c.body_length.result (c.blanks.result + length c.quoted_label-label.result.now + 2) (length c.split_at.result.1.now) 18446744073709551616 (body_within c.quoted_label-label.result.now c.split_at.result.1.now c.body_length.result c.body_length.ensures) (omega arith)
+longer_by-requires c = bounded c.body_length.result (c.blanks.result + length c.quoted_label-label.result.now + 2)
+    (length c.split_at.result.1.now) 18446744073709551616
+    (body_within c.quoted_label-label.result.now c.split_at.result.1.now c.body_length.result c.body_length.ensures)
+    (omega arith)

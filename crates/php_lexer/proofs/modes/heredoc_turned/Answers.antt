@@ -12,6 +12,8 @@ returns c =
     let from = 1 + c.label_start-from.result in
     let same : c.split_at-2.result.0.now ≡ text = c.split_at-2.ensures.front ∙ ap (λ (u : List ℕ). take c.args.len u) c.split_at.ensures.back in
     let place : from ≡ 1 + label_place text = ap (λ (n : ℕ). 1 + n) (c.label_start-from.ensures.count ∙ ap label_place same) in
-    let count : c.label_bytes.result ≡ label_len (drop from text) = c.label_bytes.ensures.count ∙ ap label_len (c.split_at-3.ensures.back ∙ ap (λ (u : List ℕ). drop from u) same) in
+    let count : c.label_bytes.result ≡ label_len (drop from text) = c.label_bytes.ensures.count
+    ∙ ap label_len (c.split_at-3.ensures.back ∙ ap (λ (u : List ℕ). drop from u) same) in
     let room : from + c.label_bytes.result ≤ c.args.len = omega arith in
-    start_is (cut bytes (c.args.at + from) (c.args.at + (from + c.label_bytes.result))) (label_of text) (label_is bytes c.args.at c.args.len from c.label_bytes.result c.requires.within room place count)
+    start_is (cut bytes (c.args.at + from) (c.args.at + (from + c.label_bytes.result))) (label_of text)
+    (label_is bytes c.args.at c.args.len from c.label_bytes.result c.requires.within room place count)

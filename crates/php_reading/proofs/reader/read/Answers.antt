@@ -20,16 +20,26 @@ returns-in-Err-clause-refused c fault m q =
 
 pub returns-in-Ok-parse-clause-only : goal.returns-in-Ok-parse-clause-only
 returns-in-Ok-parse-clause-only c f p =
-    one_tree c.args.version c.args.bytes.now (file c.in-Ok-parse.tree) f (reads_of c.args.version c.args.bytes.now c.in-Ok.tokens.items (file c.in-Ok-parse.tree) c.in-Ok.ensures.tokens c.in-Ok-parse.ensures.found) p
+    one_tree c.args.version c.args.bytes.now (file c.in-Ok-parse.tree) f
+    (reads_of c.args.version c.args.bytes.now c.in-Ok.tokens.items (file c.in-Ok-parse.tree)
+    c.in-Ok.ensures.tokens c.in-Ok-parse.ensures.found) p
 
 pub returns-in-Ok-parse-clause-refused : goal.returns-in-Ok-parse-clause-refused
 returns-in-Ok-parse-clause-refused c fault m q =
-    tree_has_none c.args.version c.args.bytes.now (file c.in-Ok-parse.tree) c.in-Ok.ensures.within (reads_of c.args.version c.args.bytes.now c.in-Ok.tokens.items (file c.in-Ok-parse.tree) c.in-Ok.ensures.tokens c.in-Ok-parse.ensures.found) fault m q
+    tree_has_none c.args.version c.args.bytes.now (file c.in-Ok-parse.tree) c.in-Ok.ensures.within
+    (reads_of c.args.version c.args.bytes.now c.in-Ok.tokens.items (file c.in-Ok-parse.tree)
+    c.in-Ok.ensures.tokens c.in-Ok-parse.ensures.found) fault m q
 
 pub returns-in-Err-NotInGrammar-clause-only : goal.returns-in-Err-NotInGrammar-clause-only
 returns-in-Err-NotInGrammar-clause-only c f p =
-    no_tree c.args.version c.args.bytes.now f p (without_tree c.args.version c.args.bytes.now c.in-Ok.tokens.items c.in-Err-NotInGrammar.field-0 c.in-Ok.ensures.within c.in-Ok.ensures.tokens c.in-Err-NotInGrammar.field-0-is c.in-Err-NotInGrammar.ensures.only)
+    no_tree c.args.version c.args.bytes.now f p
+    (without_tree c.args.version c.args.bytes.now c.in-Ok.tokens.items c.in-Err-NotInGrammar.field-0
+    c.in-Ok.ensures.within c.in-Ok.ensures.tokens c.in-Err-NotInGrammar.field-0-is
+    c.in-Err-NotInGrammar.ensures.only)
 
 pub returns-in-Err-NotInGrammar-clause-refused : goal.returns-in-Err-NotInGrammar-clause-refused
 returns-in-Err-NotInGrammar-clause-refused c fault m q =
-    one_fault c.args.version c.args.bytes.now NotInGrammar (without_tree c.args.version c.args.bytes.now c.in-Ok.tokens.items c.in-Err-NotInGrammar.field-0 c.in-Ok.ensures.within c.in-Ok.ensures.tokens c.in-Err-NotInGrammar.field-0-is c.in-Err-NotInGrammar.ensures.only) fault m q
+    one_fault c.args.version c.args.bytes.now NotInGrammar
+    (without_tree c.args.version c.args.bytes.now c.in-Ok.tokens.items c.in-Err-NotInGrammar.field-0
+    c.in-Ok.ensures.within c.in-Ok.ensures.tokens c.in-Err-NotInGrammar.field-0-is
+    c.in-Err-NotInGrammar.ensures.only) fault m q

@@ -11,24 +11,28 @@ use Rattle.php_reading.proofs.rows.read_rows.Goals as goal
 
 pub returns-in-Err-clause-only : goal.returns-in-Err-clause-only
 returns-in-Err-clause-only c f p =
-    let cause = subst (λ (b : List ℕ). IsFault c.args.version b (of_lexing c.in-Err.fault)) c.as_slice.ensures.value (fault_of c.args.version c.as_slice.result.now c.in-Err.fault c.in-Err.ensures.fault) in
+    let cause = subst (λ (b : List ℕ). IsFault c.args.version b (of_lexing c.in-Err.fault)) c.as_slice.ensures.value
+    (fault_of c.args.version c.as_slice.result.now c.in-Err.fault c.in-Err.ensures.fault) in
     subst (λ (x : ReadFault). InPlaceOf x f) (sym c.of_lexing.ensures) (answers_of c.args.version c.args.bytes.items f (of_lexing c.in-Err.fault) cause p)
 
 pub returns-in-Err-clause-refused : goal.returns-in-Err-clause-refused
 returns-in-Err-clause-refused c fault m q =
-    let cause = subst (λ (b : List ℕ). IsFault c.args.version b (of_lexing c.in-Err.fault)) c.as_slice.ensures.value (fault_of c.args.version c.as_slice.result.now c.in-Err.fault c.in-Err.ensures.fault) in
+    let cause = subst (λ (b : List ℕ). IsFault c.args.version b (of_lexing c.in-Err.fault)) c.as_slice.ensures.value
+    (fault_of c.args.version c.as_slice.result.now c.in-Err.fault c.in-Err.ensures.fault) in
     subst (λ (x : ReadFault). InPlaceOfFault x fault) (sym c.of_lexing.ensures) (one_fault c.args.version c.args.bytes.items (of_lexing c.in-Err.fault) cause fault m q)
 
 pub returns-in-Ok-parse_marks-clause-only : goal.returns-in-Ok-parse_marks-clause-only
 returns-in-Ok-parse_marks-clause-only c f p =
     let tree = file_in c.in-Ok-parse_marks.tree in
-    let reads = row_reads c.args.version c.as_slice.result.now c.args.bytes.items c.in-Ok.marks.items tree c.as_slice.ensures.value c.in-Ok.ensures.tokens c.in-Ok-parse_marks.ensures.found in
+    let reads = row_reads c.args.version c.as_slice.result.now c.args.bytes.items c.in-Ok.marks.items tree
+    c.as_slice.ensures.value c.in-Ok.ensures.tokens c.in-Ok-parse_marks.ensures.found in
     one_tree c.args.version c.args.bytes.items tree f reads p
 
 pub returns-in-Ok-parse_marks-clause-refused : goal.returns-in-Ok-parse_marks-clause-refused
 returns-in-Ok-parse_marks-clause-refused c fault m q =
     let tree = file_in c.in-Ok-parse_marks.tree in
-    let reads = row_reads c.args.version c.as_slice.result.now c.args.bytes.items c.in-Ok.marks.items tree c.as_slice.ensures.value c.in-Ok.ensures.tokens c.in-Ok-parse_marks.ensures.found in
+    let reads = row_reads c.args.version c.as_slice.result.now c.args.bytes.items c.in-Ok.marks.items tree
+    c.as_slice.ensures.value c.in-Ok.ensures.tokens c.in-Ok-parse_marks.ensures.found in
     tree_has_none c.args.version c.args.bytes.items tree (short_for c.as_slice.result.now c.args.bytes.items c.as_slice.ensures.value c.in-Ok.ensures.within) reads fault m q
 
 pub returns-in-Err-NotInGrammar-clause-only : goal.returns-in-Err-NotInGrammar-clause-only

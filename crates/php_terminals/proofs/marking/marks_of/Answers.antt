@@ -16,5 +16,8 @@ loop-token-preserved c =
     let start = c.mark_at.ensures.start ∙ ap (λ (n : ℕ). at + n) lead in
     let far = ap (λ (n : ℕ). at + n + length c.as_slice-in-loop-token-2.result.now) lead ∙ ap (λ (n : ℕ). at + length t.lead + n) text in
     let is = subst (λ (b : List ℕ). IsMark b m) c.as_slice-in-loop-token-3.ensures.value c.mark_at.ensures.mark in
-    let more = marking_more bytes all (drop c.loop-token.token-index all) t ts at c.loop-token.marks.items c.push.new.marks.items m (next_is all c.loop-token.token-index t c.loop-token-test.true c.token-item.is) is c.mark_at.ensures.kind c.mark_at.ensures.lead start (c.mark_at.ensures.end ∙ far) c.in_ok-push.ensures c.loop-token.invariant in
+    let more = marking_more bytes all (drop c.loop-token.token-index all) t ts at c.loop-token.marks.items
+    c.push.new.marks.items m (next_is all c.loop-token.token-index t c.loop-token-test.true c.token-item.is) is
+    c.mark_at.ensures.kind c.mark_at.ensures.lead start (c.mark_at.ensures.end ∙ far) c.in_ok-push.ensures
+    c.loop-token.invariant in
     subst (λ (n : ℕ). Marking bytes all ts n c.push.new.marks.items) (sym far) more

@@ -60,7 +60,9 @@ loop-part-preserved t c =
     let here = forest_of-Child c.as_slice-part-items.result.now _ _ c.in-Child.inner c.loop-part-test.true (sym c.part-item.is ∙ c.in-Child.is) in
     record {
       behind = c.tail-behind.ensures ∙ ap (drop 1) c.loop-part.invariant.behind ∙ drop-drop 1 c.loop-part.part-index c.as_slice-part-items.result.now;
-      same = place_passed (forest_of c.args.node.now.parts) _ _ c.in-Child.inner c.args.next.now c.args.id c.loop-part.left c.in-Err.rest here c.loop-part.invariant.same c.if-left-eq0.false c.in-Err.ensures;
-      past = count_passed (count (forest_of c.args.node.now.parts)) _ _ c.in-Child.inner c.args.id c.loop-part.left c.in-Err.rest here c.loop-part.invariant.past c.if-left-eq0.false c.in-Err.ensures;
+      same = place_passed (forest_of c.args.node.now.parts) _ _ c.in-Child.inner c.args.next.now c.args.id
+          c.loop-part.left c.in-Err.rest here c.loop-part.invariant.same c.if-left-eq0.false c.in-Err.ensures;
+      past = count_passed (count (forest_of c.args.node.now.parts)) _ _ c.in-Child.inner c.args.id c.loop-part.left
+          c.in-Err.rest here c.loop-part.invariant.past c.if-left-eq0.false c.in-Err.ensures;
       placed = rest_placed c.loop-part.invariant.placed.0 _ _ c.in-Child.inner c.args.next.now here c.loop-part.invariant.placed.1;
     }

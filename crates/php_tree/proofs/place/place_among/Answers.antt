@@ -57,6 +57,7 @@ loop-node-preserved c =
     let here = nodes_forest-drop c.args.nodes.now _ _ c.node-item.result c.loop-node-test.true (sym c.node-item.is) in
     record {
       behind = c.tail_of-behind.ensures ∙ ap (drop 1) c.loop-node.invariant.behind ∙ drop-drop 1 c.loop-node.node-index c.args.nodes.now;
-      same = place_passed (nodes_forest c.args.nodes.now) _ _ c.node-item.result c.args.next.now c.args.id c.loop-node.left c.in-Err.rest here c.loop-node.invariant.same c.if-left-eq0.false c.in-Err.ensures;
+      same = place_passed (nodes_forest c.args.nodes.now) _ _ c.node-item.result c.args.next.now c.args.id
+          c.loop-node.left c.in-Err.rest here c.loop-node.invariant.same c.if-left-eq0.false c.in-Err.ensures;
       placed = rest_placed c.loop-node.invariant.placed.0 _ _ c.node-item.result c.args.next.now here c.loop-node.invariant.placed.1;
     }

@@ -14,5 +14,6 @@ loop-part-preserved t c =
     let here = forest_of-Child c.as_slice-part-items.result.now _ _ c.in-Child.inner c.loop-part-test.true (sym c.part-item.is ∙ c.in-Child.is) in
     record {
       same = passed_in (forest_of c.args.node.now.parts) _ _ c.in-Child.inner c.args.id _ c.in-Err.rest here c.loop-part.invariant.same c.if-left-eq0.false c.in-Err.ensures;
-      past = count_passed (count (forest_of c.args.node.now.parts)) _ _ c.in-Child.inner c.args.id _ c.in-Err.rest here c.loop-part.invariant.past c.if-left-eq0.false c.in-Err.ensures;
+      past = count_passed (count (forest_of c.args.node.now.parts)) _ _ c.in-Child.inner c.args.id _ c.in-Err.rest
+          here c.loop-part.invariant.past c.if-left-eq0.false c.in-Err.ensures;
     }

@@ -24,7 +24,8 @@ returns-in-Err g c =
       subst (λ n. c.loop-at.at < n) (as_many g.S.Slot.reports c.loop-at.sinks (map g.S.Slot.reports c.args.sinks.now) c.loop-at.invariant.0) below,
       read_same g.S.Slot.reports c.loop-at.sinks c.loop-at.at c.close.new.self c.index-sinks-at.result c.in-Err.ensures.reports ∙ c.loop-at.invariant.0,
       read_same g.S.Slot.closed c.loop-at.sinks c.loop-at.at c.close.new.self c.index-sinks-at.result (c.in-Err.ensures.finished ∙ sym was) ∙ c.loop-at.invariant.1,
-      cause_there g.S.Slot.failures c.loop-at.sinks c.loop-at.at c.close.new.self c.index-sinks-at.result (map g.S.Slot.failures c.args.sinks.now) c.in-Err.fault c.loop-at.invariant.2 below c.in-Err.ensures.cause,
+      cause_there g.S.Slot.failures c.loop-at.sinks c.loop-at.at c.close.new.self c.index-sinks-at.result
+          (map g.S.Slot.failures c.args.sinks.now) c.in-Err.fault c.loop-at.invariant.2 below c.in-Err.ensures.cause,
     )
 
 pub loop-at-preserved : goal.loop-at-preserved

@@ -24,7 +24,8 @@ returns-in-Err g c =
       subst (λ n. c.loop-at.at < n) many below,
       read_same g.S.Slot.reports c.loop-at.sinks c.loop-at.at c.give.new.self c.index-sinks-at.result c.in-Err.ensures.reports.err ∙ c.loop-at.invariant.0,
       read_same g.S.Slot.closed c.loop-at.sinks c.loop-at.at c.give.new.self c.index-sinks-at.result (c.in-Err.ensures.unfinished ∙ sym was) ∙ c.loop-at.invariant.1,
-      cause_there g.S.Slot.failures c.loop-at.sinks c.loop-at.at c.give.new.self c.index-sinks-at.result (map g.S.Slot.failures c.args.sinks.now) c.in-Err.fault c.loop-at.invariant.2 below c.in-Err.ensures.cause,
+      cause_there g.S.Slot.failures c.loop-at.sinks c.loop-at.at c.give.new.self c.index-sinks-at.result
+          (map g.S.Slot.failures c.args.sinks.now) c.in-Err.fault c.loop-at.invariant.2 below c.in-Err.ensures.cause,
     )
 
 pub loop-at-preserved : goal.loop-at-preserved
@@ -35,7 +36,9 @@ loop-at-preserved g c =
     c.loop-at.invariant.1 below
     ∙ open_at c.loop-at.at (map g.S.Slot.closed c.args.sinks.now) false c.requires
     (subst (λ n. c.loop-at.at < n) (as_many g.S.Slot.closed c.loop-at.sinks (map g.S.Slot.closed c.args.sinks.now) c.loop-at.invariant.1) below) in (
-      took_more g.S.Slot.reports c.loop-at.sinks c.loop-at.at c.args.report.now c.give.new.self c.index-sinks-at.result (map g.S.Slot.reports c.args.sinks.now) c.loop-at.invariant.0 below c.in_default.ensures.reports.ok,
+      took_more g.S.Slot.reports c.loop-at.sinks c.loop-at.at c.args.report.now c.give.new.self
+          c.index-sinks-at.result (map g.S.Slot.reports c.args.sinks.now) c.loop-at.invariant.0 below
+          c.in_default.ensures.reports.ok,
       read_same g.S.Slot.closed c.loop-at.sinks c.loop-at.at c.give.new.self c.index-sinks-at.result (c.in_default.ensures.unfinished ∙ sym was) ∙ c.loop-at.invariant.1,
       read_same g.S.Slot.failures c.loop-at.sinks c.loop-at.at c.give.new.self c.index-sinks-at.result c.in_default.ensures.cause.ok ∙ c.loop-at.invariant.2,
     )

@@ -15,10 +15,18 @@ loop-part-preserved t c =
     elim c.match-part.branch [
       | in-Leaf w ↦
           let here = forest_of-Leaf ps i _ w.in-Leaf.token c.loop-part-test.true (sym c.part-item.is ∙ w.in-Leaf.is) in
-          let s = written_step c.args.out.now c.loop-part.out c.match-part.out c.args.at c.loop-part.place c.match-part.place (token_bytes w.in-Leaf.token) ys all whole (w.out-is ∙ w.write_token-place.ensures.written) (w.place-is ∙ w.write_token-place.ensures.place) (ap printed here) c.loop-part.invariant.place c.requires c.loop-part.invariant.room c.loop-part.invariant.bytes in
+          let s = written_step c.args.out.now c.loop-part.out c.match-part.out c.args.at c.loop-part.place
+          c.match-part.place (token_bytes w.in-Leaf.token) ys all whole
+          (w.out-is ∙ w.write_token-place.ensures.written) (w.place-is ∙ w.write_token-place.ensures.place)
+          (ap printed here) c.loop-part.invariant.place c.requires c.loop-part.invariant.room
+          c.loop-part.invariant.bytes in
           record { place = s.0; bytes = s.1; room = s.2 }
       | in-Child w ↦
           let here = forest_of-Child ps i _ w.in-Child.inner c.loop-part-test.true (sym c.part-item.is ∙ w.in-Child.is) in
-          let s = written_step c.args.out.now c.loop-part.out c.match-part.out c.args.at c.loop-part.place c.match-part.place (printed (forest_of w.in-Child.inner.parts)) ys all whole (w.out-is ∙ w.write_node-place.ensures.written) (w.place-is ∙ w.write_node-place.ensures.place) (ap printed here) c.loop-part.invariant.place c.requires c.loop-part.invariant.room c.loop-part.invariant.bytes in
+          let s = written_step c.args.out.now c.loop-part.out c.match-part.out c.args.at c.loop-part.place
+          c.match-part.place (printed (forest_of w.in-Child.inner.parts)) ys all whole
+          (w.out-is ∙ w.write_node-place.ensures.written) (w.place-is ∙ w.write_node-place.ensures.place)
+          (ap printed here) c.loop-part.invariant.place c.requires c.loop-part.invariant.room
+          c.loop-part.invariant.bytes in
           record { place = s.0; bytes = s.1; room = s.2 }
     ]

@@ -18,5 +18,7 @@ loop-statement-preserved c =
     let split : all ≡ xs ++ ys = ap (λ (f : Forest). printed f ++ end) here ∙ append_assoc xs (printed (nodes_forest (drop (i + 1) ss))) end in
     let room : 0 + length whole ≤ length c.args.out.now = omega (arith, c.requires) in
     let sum : c.loop-statement.place + length all ≡ 0 + length whole = omega (arith, c.loop-statement.invariant.place) in
-    let s = written_step c.args.out.now c.loop-statement.out c.write_node-place.new.out 0 c.loop-statement.place c.write_node-place.result xs ys all whole c.write_node-place.ensures.written c.write_node-place.ensures.place split sum room c.loop-statement.invariant.room c.loop-statement.invariant.bytes in
+    let s = written_step c.args.out.now c.loop-statement.out c.write_node-place.new.out 0 c.loop-statement.place
+    c.write_node-place.result xs ys all whole c.write_node-place.ensures.written c.write_node-place.ensures.place
+    split sum room c.loop-statement.invariant.room c.loop-statement.invariant.bytes in
     record { place = omega (arith, s.0); bytes = s.1; room = s.2 }
