@@ -4,7 +4,7 @@ import random
 from measure import lines
 
 CODE = rb"""/** Finds a user by name. */
-function find_user(array $users, $name, $limit = 0x1F)
+function find_user_@(array $users, $name, $limit = 0x1F)
 {
     foreach ($users as $key => $user) {
         if ($user['name'] === $name && !empty($user['mail']) || $key >= $limit) {
@@ -15,7 +15,7 @@ function find_user(array $users, $name, $limit = 0x1F)
     return \App\Users::query()->where((int) $limit, $rows)->first() ?? null;
 }
 """
-GENERATED = b"".join(b"""class Row%d extends Base implements \\App\\Stored
+GENERATED = b"".join(b"""class Row%d_@ extends Base implements \\App\\Stored
 {
     const TABLE = 'row_%d';
     protected $id%d = 0;
@@ -35,6 +35,20 @@ TERNARIES = b"echo true ? 'left' : false ? 'middle' : 'right', (1 ? 22 : 333) ? 
 EDITED = (CODE.replace(b"$user['mail']", b"$user{'mail'}").replace(b"{$user['place']['city']}", b"${name}")
           .replace(b"(int)", b"(real)"))
 DEEP = b"[" * 240 + b"1" + b"]" * 240 + b";\n"
+
+
+def declaring(part):
+    """What makes sources of a size of one part, over and over, each time with declarations of its own: a number stands in the
+    place of its `@`."""
+    def source(size):
+        front, parts, total = b"<?php\n", [], 6
+        while total + len(part) < size:
+            text = part.replace(b"@", b"%d" % len(parts))
+            parts.append(text)
+            total += len(text)
+        return front + b"".join(parts)
+    return source
+
 
 WORDS = ("order", "item", "price", "user", "mail", "cart", "page", "title", "date", "path", "value", "name", "list", "total",
          "group", "state", "token", "field", "label", "store")
@@ -84,10 +98,10 @@ def real(size):
 
 
 KINDS = (
-    ("code, no edits", lines(CODE)),
-    ("code, edits", lines(EDITED)),
+    ("code, no edits", declaring(CODE)),
+    ("code, edits", declaring(EDITED)),
     ("a real-looking file", real),
-    ("generated code", lines(GENERATED)),
+    ("generated code", declaring(GENERATED)),
     ("short statements", lines(SHORT)),
     ("dense arrays", lines(DENSE)),
     ("nested ternaries", lines(TERNARIES)),
