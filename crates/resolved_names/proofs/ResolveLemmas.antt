@@ -10,7 +10,7 @@ use Rattle.resolved_names.specs.declared.names.Names.{Names}
 use Rattle.resolved_names.specs.declared.names_fault.NamesFault.{NamesFault}
 use Rattle.resolved_names.specs.declared.names_fault.NamesFault.TheVariants.{Twice, Cycle, NoFile, Memory}
 use Rattle.resolved_names.specs.Reads.{AreNames, entries_of, prepend_of}
-use Rattle.resolved_names.specs.Resolved.{HasNoCycle, IsAsked, IsDeclaredOnce, IsLaterFault, IsNamesFault, IsResolved}
+use Rattle.resolved_names.specs.Resolved.{HasNoCycle, IsAsked, IsDeclaredOnce, IsLaterFault, IsNamesFault, IsResolved, IsUnrefused}
 
 pub asked_is : (fs : Files) (listed : Option (List (List ℕ))) (prepend : Option (List ℕ)) (e : Entries) → AreEntriesOf fs listed prepend e →
     IsAsked (paths_of fs) (table_of fs) listed prepend e.files.items e.prepend
@@ -36,6 +36,17 @@ resolved_is fs listed prepend e ns h once none es p names = record {
       (subst (λ (xs : List ℕ). IsDeclaredOnce (paths_of fs) (table_of fs) xs e.prepend) (sym es) once);
   no_cycle = none;
   names = names;
+}
+
+pub unrefused_is : (fs : Files) (listed : Option (List (List ℕ))) (prepend : Option (List ℕ)) (e : Entries) → AreEntriesOf fs listed prepend e
+    → IsDeclaredOnce (paths_of fs) (table_of fs) e.files.items e.prepend → HasNoCycle (table_of fs)
+    → IsUnrefused (paths_of fs) (table_of fs) listed prepend
+unrefused_is fs listed prepend e h once none = record {
+  es = e.files.items;
+  p = e.prepend;
+  asked = record { found = h.present; entries = h.entries; prepended = h.before };
+  once = once;
+  no_cycle = none;
 }
 
 -- what is said of both answers, weakened

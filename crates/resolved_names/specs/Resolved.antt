@@ -24,6 +24,15 @@ IsDeclaredOnce paths t es p = (i j : ℕ) → ¬ Clash paths t es p i j
 abbrev pub HasNoCycle : Table → Type 0
 HasNoCycle t = (classes : List (List ℕ)) → ¬ IsCycle t classes
 
+-- Nothing is refused: the files that are asked for are there, no run begins with two declarations of one name, and no class
+-- extends itself.
+pub record IsUnrefused (paths : List (List ℕ)) (t : Table) (listed : Option (List (List ℕ))) (prepend : Option (List ℕ)) : Type 0 where
+  pub es : List ℕ
+  pub p : Option ℕ
+  pub asked : IsAsked paths t listed prepend es p
+  pub once : IsDeclaredOnce paths t es p
+  pub no_cycle : HasNoCycle t
+
 -- nothing is refused, and these are the names
 pub record IsResolved (paths : List (List ℕ)) (t : Table) (listed : Option (List (List ℕ))) (prepend : Option (List ℕ)) (ns : Names) : Type 0 where
   pub asked : IsAsked paths t listed prepend (entries_of ns) (prepend_of ns)

@@ -2,7 +2,7 @@
 use crate::found_nodes::nodes_of;
 use crate::names_fault::NamesFault;
 use crate::node_uses::NodeUses;
-use crate::resolve::resolved;
+use crate::resolve::{checked, resolved};
 use indexmap::IndexMap;
 use program_names::{NodeRef, Program};
 use span_edits::PathText;
@@ -24,7 +24,7 @@ impl Names {
     ghost use Rattle.program_names.specs.Table.{Table, table_of, declarations as declarations_of};
     ghost use Rattle.program_names.specs.Whole.{files_of};
     ghost use Rattle.resolved_names.specs.Reads.{AreNames, class_in, entries_of, prepend_of, read_in};
-    ghost use Rattle.resolved_names.specs.Resolved.{IsNamesFault, IsResolved};
+    ghost use Rattle.resolved_names.specs.Resolved.{IsNamesFault, IsResolved, IsUnrefused};
 
     /// What the names of a program stand for: the entries are all files, or those that are listed and then each file that
     /// none so far reaches by includes; `prepend` is the path of the file that runs before each entry.
@@ -43,6 +43,19 @@ impl Names {
         ensures refused { IfErr result (λ e. IsNamesFault (paths_of (files_of program.now)) (table_of (files_of program.now)) (option_copied entries.entry) (option_copied prepend.entry) e) }
     {
         resolved(alloc, program, entries, prepend)
+    }
+
+    /// The refusals of `resolve` alone, for those who need no names: it looks at no uses, and keeps nothing.
+    pub fn check(
+        alloc: Global,
+        program: &Program,
+        entries: Option<&[PathText]>,
+        prepend: Option<&PathText>,
+    ) -> Result<(), NamesFault>
+        ensures unrefused { IfOk result (λ _. IsUnrefused (paths_of (files_of program.now)) (table_of (files_of program.now)) (option_copied entries.entry) (option_copied prepend.entry)) }
+        ensures refused { IfErr result (λ e. IsNamesFault (paths_of (files_of program.now)) (table_of (files_of program.now)) (option_copied entries.entry) (option_copied prepend.entry) e) }
+    {
+        checked(alloc, program, entries, prepend)
     }
 
     // What the name of a node with a number was found to stand for.

@@ -9,7 +9,7 @@ ghost use Rattle.program_names.specs.Whole.{files_of};
 ghost use Rattle.declared_twice.specs.Asked.{AreEntriesOf};
 ghost use Rattle.resolved_names.specs.Refusals.{IsClashFault, IsCycleFault, IsNoFile};
 ghost use Rattle.resolved_names.specs.Reads.{AreNames, entries_of, prepend_of};
-ghost use Rattle.resolved_names.specs.Resolved.{HasNoCycle, IsDeclaredOnce, IsLaterFault, IsNamesFault, IsResolved};
+ghost use Rattle.resolved_names.specs.Resolved.{HasNoCycle, IsDeclaredOnce, IsLaterFault, IsNamesFault, IsResolved, IsUnrefused};
 
 use crate::files::all_names;
 use crate::index::indexed;
@@ -124,6 +124,37 @@ fn check_entries(
     let _listed = listed;
     let _prepend = prepend;
     check_names(alloc, program, told, asked.files.as_slice(), asked.prepend)
+}
+
+// Whether the names of a program whose files tell this are refused.
+fn checked_told(
+    alloc: Global,
+    program: &Program,
+    told: &[Told],
+    entries: Option<&[PathText]>,
+    prepend: Option<&PathText>,
+) -> Result<(), NamesFault>
+    requires { told.now ≡ all_told (table_of (files_of program.now)) }
+    ensures unrefused { IfOk result (λ _. IsUnrefused (paths_of (files_of program.now)) (table_of (files_of program.now)) (option_copied entries.entry) (option_copied prepend.entry)) }
+    ensures refused { IfErr result (λ e. IsNamesFault (paths_of (files_of program.now)) (table_of (files_of program.now)) (option_copied entries.entry) (option_copied prepend.entry) e) }
+{
+    let asked = asked_entries(alloc, program, told, entries, prepend)?;
+    check_entries(alloc, program, told, entries, prepend, &asked)?;
+    Ok(())
+}
+
+/// Whether the names of a program are refused.
+pub(crate) fn checked(
+    alloc: Global,
+    program: &Program,
+    entries: Option<&[PathText]>,
+    prepend: Option<&PathText>,
+) -> Result<(), NamesFault>
+    ensures unrefused { IfOk result (λ _. IsUnrefused (paths_of (files_of program.now)) (table_of (files_of program.now)) (option_copied entries.entry) (option_copied prepend.entry)) }
+    ensures refused { IfErr result (λ e. IsNamesFault (paths_of (files_of program.now)) (table_of (files_of program.now)) (option_copied entries.entry) (option_copied prepend.entry) e) }
+{
+    let told = program_told(alloc, program)?;
+    checked_told(alloc, program, told.as_slice(), entries, prepend)
 }
 
 // The names of a program with some entries.

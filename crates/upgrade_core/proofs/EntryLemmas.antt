@@ -6,9 +6,7 @@ use Rattle.program_names.specs.Files.{Files, are_ascending}
 use Rattle.program_names.specs.Table.{Table, IsReached, Completes, done, reached, added}
 use Rattle.program_names.specs.Entries.{paths_of, AreFiles, AreEntries, IsPrepend}
 use Rattle.program_names.proofs.PathLemmas as path
-use Rattle.resolved_names.specs.declared.names.Names.{Names}
-use Rattle.resolved_names.specs.Reads.{entries_of, prepend_of}
-use Rattle.resolved_names.specs.Resolved.{IsAsked, IsDeclaredOnce, IsResolved}
+use Rattle.resolved_names.specs.Resolved.{IsAsked, IsDeclaredOnce, IsUnrefused}
 use Rattle.upgrade_core.specs.Names.{AreClear}
 
 -- ---- completed lists
@@ -82,16 +80,16 @@ module _ (fs : Files) (ascending : IsTrue (are_ascending fs)) where
       (subst (λ (ns : List ℕ). Completes (paths_of fs) t ns (counted 0 (length (paths_of fs))) es)
       (same_numbers ws a.0 b.0 a.1 b.1) a.2) b.2
 
-  -- names that are resolved are clear
-  pub clear : (t : Table) (listed : Option (List (List ℕ))) (prepend : Option (List ℕ)) (ns : Names)
-      → IsResolved (paths_of fs) t listed prepend ns → AreClear (paths_of fs) t listed prepend
-  clear t listed prepend ns h = record {
-    entries = entries_of ns;
-    first = prepend_of ns;
+  -- names that are not refused are clear
+  pub clear : (t : Table) (listed : Option (List (List ℕ))) (prepend : Option (List ℕ))
+      → IsUnrefused (paths_of fs) t listed prepend → AreClear (paths_of fs) t listed prepend
+  clear t listed prepend h = record {
+    entries = h.es;
+    first = h.p;
     asked = h.asked;
     once = λ es p a. subst (λ (ds : List ℕ). IsDeclaredOnce (paths_of fs) t ds p)
-        (same_entries t listed (entries_of ns) es h.asked.entries a.entries)
-        (subst (λ (q : Option ℕ). IsDeclaredOnce (paths_of fs) t (entries_of ns) q)
-        (same_prepend prepend (prepend_of ns) p h.asked.prepended a.prepended) h.once);
+        (same_entries t listed h.es es h.asked.entries a.entries)
+        (subst (λ (q : Option ℕ). IsDeclaredOnce (paths_of fs) t h.es q)
+        (same_prepend prepend h.p p h.asked.prepended a.prepended) h.once);
     no_cycle = h.no_cycle;
   }

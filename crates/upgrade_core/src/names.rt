@@ -95,7 +95,7 @@ fn refused(fault: NamesFault) -> UpgradeFault
     }
 }
 
-/// Resolves the names of a program, from the entries and with the file before each that the settings name.
+/// Refuses a program by its names, from the entries and with the file before each that the settings name.
 pub(crate) fn resolve(
     alloc: Global,
     program: &Program,
@@ -103,8 +103,8 @@ pub(crate) fn resolve(
 ) -> Result<(), UpgradeFault>
     ensures { spec.IsResolving settings.now (trees_of (files_of program.now)) result }
 {
-    match Names::resolve(alloc, program, settings.entries(), settings.prepend()) {
-        Ok(_) => Ok(()),
+    match Names::check(alloc, program, settings.entries(), settings.prepend()) {
+        Ok(()) => Ok(()),
         Err(fault) => Err(refused(fault)),
     }
 }

@@ -16,11 +16,11 @@ returns-in-Ok c =
     let fs = files_of c.args.program.now in
     clear_are c.args.settings.now (trees_of fs) (paths_of fs) (table_of fs) (option_copied c.entries.result) (option_copied c.prepend.result)
     (paths_are fs) (facts_are fs) c.entries.ensures c.prepend.ensures
-    (clear fs c.args.program.now.ascending (table_of fs) (option_copied c.entries.result) (option_copied c.prepend.result) c.in-Ok.field-0
-    c.in-Ok.ensures.resolved)
+    (clear fs c.args.program.now.ascending (table_of fs) (option_copied c.entries.result) (option_copied c.prepend.result)
+    c.in-Ok.ensures.unrefused)
 
-pub returns : goal.returns
-returns c =
+pub returns-in-Err : goal.returns-in-Err
+returns-in-Err c =
     let fs = files_of c.args.program.now in
     subst (λ (x : UpgradeFault). IsResolving c.args.settings.now (trees_of fs) (Err x)) (sym c.refused.ensures)
     (refused_is c.args.settings.now (trees_of fs) (paths_of fs) (table_of fs) (option_copied c.entries.result) (option_copied c.prepend.result)
