@@ -375,7 +375,9 @@ empty_at_blanks_of_a_text : Comes 200 (file empty_at_blanks_of_a_text_tree) (fil
 unfolding builtin_rows named_constants word_constants is_same_name newer_functions newer_classes newer_constants
 empty_at_blanks_of_a_text = (refl, refl)
 
--- <?php class A { private $p = 1; protected $q = 2; private static $s = 3; static $t = 4; function t() { return isset($this->p, $this->q, self::$s) ? 1 : 2; } } $a = new A; echo isset($a->p) ? 1 : 2, empty($a->q) ? 1 : 2, $a->p ?? "none", isset(A::$s) ? 1 : 2, A::$s ?? "none", isset(A::$t) ? 1 : 2, A::$missing ?? "none", $a->t();
+-- <?php class A { private $p = 1; protected $q = 2; private static $s = 3; static $t = 4; function t() { return
+--  isset($this->p, $this->q, self::$s) ? 1 : 2; } } $a = new A; echo isset($a->p) ? 1 : 2, empty($a->q) ? 1 : 2,
+--  $a->p ?? "none", isset(A::$s) ? 1 : 2, A::$s ?? "none", isset(A::$t) ? 1 : 2, A::$missing ?? "none", $a->t();
 abbrev isset_of_what_may_not_be_seen_tree : Forest
 isset_of_what_may_not_be_seen_tree =
     (node kind.Class (t token.Keyword "class" (t token.Label "A" (t token.Op "{" (node kind.Property (t
@@ -633,7 +635,8 @@ server_read : Comes 200 (file server_read_tree) (file server_read_tree) (codes "
 unfolding builtin_rows named_constants word_constants is_same_name newer_functions newer_classes newer_constants
 server_read = (refl, refl)
 
--- <?php $i = 1; $j = 2; function g() { global $j; $j = 5; return 1; } echo $i + $j++, $i . g(), $i == ($j = 1) ? 1 : 2, "$i{$j}"; $a = [1, 2, 3]; $k = 0; $a[$k] = 7; echo $a[$k], $a[$k + 1] + $k++;
+-- <?php $i = 1; $j = 2; function g() { global $j; $j = 5; return 1; } echo $i + $j++, $i . g(), $i == ($j = 1) ? 1 :
+--  2, "$i{$j}"; $a = [1, 2, 3]; $k = 0; $a[$k] = 7; echo $a[$k], $a[$k + 1] + $k++;
 abbrev late_without_a_write_tree : Forest
 late_without_a_write_tree =
     (node kind.ExprStmt (node kind.Assign (node kind.Variable (t token.Variable "$i" none) (t token.Op "=" (node

@@ -9,7 +9,8 @@ use Rattle.builtin_tables.specs.Named.{is_same_name}
 use Rattle.builtin_tables.specs.Newer.{newer_functions, newer_classes, newer_constants}
 use Rattle.meaning_rows.specs.Words.{t, b, file, ended, Comes}
 
--- <?php $a = ['1' => 'a', '01' => 'b', true => 'c', null => 'd', 2 => 'e', '-0' => 'f', '-5' => 'g']; foreach ($a as $k => $v) { echo is_int($k) ? 'i' : 's', $k, $v, ' '; }
+-- <?php $a = ['1' => 'a', '01' => 'b', true => 'c', null => 'd', 2 => 'e', '-0' => 'f', '-5' => 'g']; foreach ($a as
+--  $k => $v) { echo is_int($k) ? 'i' : 's', $k, $v, ' '; }
 abbrev keys_tree : Forest
 keys_tree =
     (node kind.ExprStmt (node kind.Assign (node kind.Variable (t token.Variable "$a" none) (t token.Op "=" (node
@@ -38,7 +39,8 @@ keys : Comes 200 (file keys_tree) (file keys_tree) (codes "a.php")
 unfolding builtin_rows named_constants word_constants is_same_name newer_functions newer_classes newer_constants
 keys = (refl, refl)
 
--- <?php $a = [5 => 'a', 'b', 'x' => 'c', 'd', 2 => 'e', 'f']; foreach ($a as $k => $v) { echo $k, $v; } $b = []; $b[] = 1; unset($b[0]); $b[] = 2; echo array_keys($b)[0];
+-- <?php $a = [5 => 'a', 'b', 'x' => 'c', 'd', 2 => 'e', 'f']; foreach ($a as $k => $v) { echo $k, $v; } $b = []; $b[]
+--  = 1; unset($b[0]); $b[] = 2; echo array_keys($b)[0];
 abbrev next_keys_tree : Forest
 next_keys_tree =
     (node kind.ExprStmt (node kind.Assign (node kind.Variable (t token.Variable "$a" none) (t token.Op "=" (node
@@ -124,7 +126,8 @@ key_after_negative_rewritten : Comes 200 (file key_after_negative_rewritten_tree
 unfolding builtin_rows named_constants word_constants is_same_name newer_functions newer_classes newer_constants
 key_after_negative_rewritten = (refl, refl)
 
--- <?php $a = []; $a['x']['y'][] = 1; $a['x']['z'] = 2; $a[] = 3; unset($a['x']['y']); echo count($a), count($a['x']), $a[0]; $n = null; $n['k'] = 'v'; echo $n['k'];
+-- <?php $a = []; $a['x']['y'][] = 1; $a['x']['z'] = 2; $a[] = 3; unset($a['x']['y']); echo count($a), count($a['x']),
+--  $a[0]; $n = null; $n['k'] = 'v'; echo $n['k'];
 abbrev written_elements_tree : Forest
 written_elements_tree =
     (node kind.ExprStmt (node kind.Assign (node kind.Variable (t token.Variable "$a" none) (t token.Op "=" (node
@@ -161,7 +164,8 @@ written_elements : Comes 200 (file written_elements_tree) (file written_elements
 unfolding builtin_rows named_constants word_constants is_same_name newer_functions newer_classes newer_constants
 written_elements = (refl, refl)
 
--- <?php $a = [1, [2]]; $b = $a; $b[1][0] = 9; $b[] = 3; echo $a[1][0], count($a), $b[1][0], count($b); function f($x) { $x[0] = 'p'; return $x; } $c = f($a); echo $a[0], $c[0];
+-- <?php $a = [1, [2]]; $b = $a; $b[1][0] = 9; $b[] = 3; echo $a[1][0], count($a), $b[1][0], count($b); function f($x)
+--  { $x[0] = 'p'; return $x; } $c = f($a); echo $a[0], $c[0];
 abbrev copies_tree : Forest
 copies_tree =
     (node kind.ExprStmt (node kind.Assign (node kind.Variable (t token.Variable "$a" none) (t token.Op "=" (node

@@ -43,7 +43,8 @@ int_of_an_array : Comes 200 (file int_of_an_array_tree) (file int_of_an_array_tr
 unfolding builtin_rows named_constants word_constants is_same_name newer_functions newer_classes newer_constants
 int_of_an_array = (refl, refl)
 
--- <?php echo intdiv(7, 2), intdiv(-7, 2), intdiv(7, -2), intdiv(0, 5); try { intdiv(1, 0); } catch (DivisionByZeroError $e) { echo 'D'; } try { intdiv(PHP_INT_MIN, -1); } catch (ArithmeticError $e) { echo 'A'; }
+-- <?php echo intdiv(7, 2), intdiv(-7, 2), intdiv(7, -2), intdiv(0, 5); try { intdiv(1, 0); } catch
+--  (DivisionByZeroError $e) { echo 'D'; } try { intdiv(PHP_INT_MIN, -1); } catch (ArithmeticError $e) { echo 'A'; }
 abbrev divided_tree : Forest
 divided_tree =
     (node kind.Echo (t token.Keyword "echo" (node kind.Call (t token.Label "intdiv" (t token.Op "(" (node kind.Args
@@ -75,7 +76,9 @@ divided : Comes 200 (file divided_tree) (file divided_tree) (codes "a.php")
 unfolding builtin_rows named_constants word_constants is_same_name newer_functions newer_classes newer_constants
 divided = (refl, refl)
 
--- <?php function k($v) { echo is_int($v) ? 'i' : '-', is_string($v) ? 's' : '-', is_array($v) ? 'a' : '-', is_null($v) ? 'n' : '-', is_bool($v) ? 'b' : '-', is_float($v) ? 'f' : '-', ' '; } k(1); k('1'); k([]); k(null); k(false); k(new Exception);
+-- <?php function k($v) { echo is_int($v) ? 'i' : '-', is_string($v) ? 's' : '-', is_array($v) ? 'a' : '-',
+--  is_null($v) ? 'n' : '-', is_bool($v) ? 'b' : '-', is_float($v) ? 'f' : '-', ' '; } k(1); k('1'); k([]); k(null);
+--  k(false); k(new Exception);
 abbrev kinds_tree : Forest
 kinds_tree =
     (node kind.Function (t token.Keyword "function" (t token.Label "k" (t token.Op "(" (node kind.Param (t
@@ -172,7 +175,8 @@ removed_settings : Comes 200 (file removed_settings_tree) (file removed_settings
 unfolding builtin_rows named_constants word_constants is_same_name newer_functions newer_classes newer_constants
 removed_settings = (refl, refl)
 
--- <?php $a = ['x' => 1, 5 => 'b', 'c']; foreach (array_keys($a) as $k => $v) { echo $k, '=', $v, ' '; } foreach (array_values($a) as $k => $v) { echo $k, '=', $v, ' '; } echo count(array_keys([]));
+-- <?php $a = ['x' => 1, 5 => 'b', 'c']; foreach (array_keys($a) as $k => $v) { echo $k, '=', $v, ' '; } foreach
+--  (array_values($a) as $k => $v) { echo $k, '=', $v, ' '; } echo count(array_keys([]));
 abbrev keys_and_values_tree : Forest
 keys_and_values_tree =
     (node kind.ExprStmt (node kind.Assign (node kind.Variable (t token.Variable "$a" none) (t token.Op "=" (node
@@ -254,7 +258,9 @@ values_of_single : Comes 200 (file values_of_single_tree) (file values_of_single
 unfolding builtin_rows named_constants word_constants is_same_name newer_functions newer_classes newer_constants
 values_of_single = (refl, refl)
 
--- <?php $a = [1 => null, 'k' => 2]; echo array_key_exists(1, $a) ? 't' : 'f', array_key_exists('1', $a) ? 't' : 'f', array_key_exists('k', $a) ? 't' : 'f', array_key_exists('01', $a) ? 't' : 'f', array_key_exists(0, $a) ? 't' : 'f';
+-- <?php $a = [1 => null, 'k' => 2]; echo array_key_exists(1, $a) ? 't' : 'f', array_key_exists('1', $a) ? 't' : 'f',
+--  array_key_exists('k', $a) ? 't' : 'f', array_key_exists('01', $a) ? 't' : 'f', array_key_exists(0, $a) ? 't' :
+--  'f';
 abbrev key_there_tree : Forest
 key_there_tree =
     (node kind.ExprStmt (node kind.Assign (node kind.Variable (t token.Variable "$a" none) (t token.Op "=" (node

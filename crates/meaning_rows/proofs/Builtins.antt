@@ -307,7 +307,8 @@ joined_arrays : Comes 200 (file joined_arrays_tree) (file joined_arrays_tree) (c
 unfolding builtin_rows named_constants word_constants is_same_name newer_functions newer_classes newer_constants
 joined_arrays = (refl, refl)
 
--- <?php foreach (explode(',', 'a,b,,c') as $k => $v) { echo $k, $v, ';'; } echo count(explode('--', 'x----y')), explode('b', 'abc')[1], count(explode('q', ''));
+-- <?php foreach (explode(',', 'a,b,,c') as $k => $v) { echo $k, $v, ';'; } echo count(explode('--', 'x----y')),
+--  explode('b', 'abc')[1], count(explode('q', ''));
 abbrev cut_tree : Forest
 cut_tree =
     (node kind.Foreach (t token.Keyword "foreach" (t token.Op "(" (node kind.Call (t token.Label "explode" (t token.Op

@@ -33,7 +33,8 @@ methods : Comes 200 (file methods_tree) (file methods_tree) (codes "a.php")
 unfolding builtin_rows named_constants word_constants is_same_name newer_functions newer_classes newer_constants
 methods = (refl, refl)
 
--- <?php class A { function f() { return 'A' . $this->g(); } function g() { return 'a'; } } class B extends A { function g() { return 'b' . parent::g(); } } echo (new B)->f(), (new A)->f();
+-- <?php class A { function f() { return 'A' . $this->g(); } function g() { return 'a'; } } class B extends A {
+--  function g() { return 'b' . parent::g(); } } echo (new B)->f(), (new A)->f();
 abbrev inheritance_tree : Forest
 inheritance_tree =
     (node kind.Class (t token.Keyword "class" (t token.Label "A" (t token.Op "{" (node kind.Method (t token.Keyword
@@ -62,7 +63,8 @@ inheritance : Comes 200 (file inheritance_tree) (file inheritance_tree) (codes "
 unfolding builtin_rows named_constants word_constants is_same_name newer_functions newer_classes newer_constants
 inheritance = (refl, refl)
 
--- <?php class A { static $n = 0; const C = 'c'; static function up() { return ++self::$n . static::C; } } class B extends A { const C = 'd'; } echo A::up(), B::up(), A::$n, B::$n;
+-- <?php class A { static $n = 0; const C = 'c'; static function up() { return ++self::$n . static::C; } } class B
+--  extends A { const C = 'd'; } echo A::up(), B::up(), A::$n, B::$n;
 abbrev static_members_tree : Forest
 static_members_tree =
     (node kind.Class (t token.Keyword "class" (t token.Label "A" (t token.Op "{" (node kind.Property (t token.Keyword
@@ -89,7 +91,8 @@ static_members : Comes 200 (file static_members_tree) (file static_members_tree)
 unfolding builtin_rows named_constants word_constants is_same_name newer_functions newer_classes newer_constants
 static_members = (refl, refl)
 
--- <?php abstract class S { abstract function area(); function twice() { return $this->area() * 2; } } class Q extends S { function area() { return 3; } } echo (new Q)->twice();
+-- <?php abstract class S { abstract function area(); function twice() { return $this->area() * 2; } } class Q extends
+--  S { function area() { return 3; } } echo (new Q)->twice();
 abbrev abstract_class_tree : Forest
 abstract_class_tree =
     (node kind.Class (t token.Keyword "abstract" (t token.Keyword "class" (t token.Label "S" (t token.Op "{" (node
@@ -251,7 +254,9 @@ class_names : Comes 200 (file class_names_tree) (file class_names_tree) (codes "
 unfolding builtin_rows named_constants word_constants is_same_name newer_functions newer_classes newer_constants
 class_names = (refl, refl)
 
--- <?php class A {} try { (new A)->f(); } catch (Error $e) { echo 'M'; } try { A::g(); } catch (Error $e) { echo 'S'; } try { echo A::C; } catch (Error $e) { echo 'C'; } try { echo A::$p; } catch (Error $e) { echo 'P'; } try { new Nowhere; } catch (Error $e) { echo 'N'; }
+-- <?php class A {} try { (new A)->f(); } catch (Error $e) { echo 'M'; } try { A::g(); } catch (Error $e) { echo 'S';
+--  } try { echo A::C; } catch (Error $e) { echo 'C'; } try { echo A::$p; } catch (Error $e) { echo 'P'; } try { new
+--  Nowhere; } catch (Error $e) { echo 'N'; }
 abbrev missing_members_tree : Forest
 missing_members_tree =
     (node kind.Class (t token.Keyword "class" (t token.Label "A" (t token.Op "{" (t token.Op "}" none)))) (node

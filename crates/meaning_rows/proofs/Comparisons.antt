@@ -175,7 +175,8 @@ null_compared : Comes 200 (file null_compared_tree) (file null_compared_tree) (c
 unfolding builtin_rows named_constants word_constants is_same_name newer_functions newer_classes newer_constants
 null_compared = (refl, refl)
 
--- <?php echo true == 'a' ? 'y' : 'n', false == '0' ? 'y' : 'n', true > false ? 'y' : 'n', false == [] ? 'y' : 'n', true == [0] ? 'y' : 'n', true == -1 ? 'y' : 'n';
+-- <?php echo true == 'a' ? 'y' : 'n', false == '0' ? 'y' : 'n', true > false ? 'y' : 'n', false == [] ? 'y' : 'n',
+--  true == [0] ? 'y' : 'n', true == -1 ? 'y' : 'n';
 abbrev bool_compared_tree : Forest
 bool_compared_tree =
     (node kind.Echo (t token.Keyword "echo" (node kind.Ternary (node kind.Binary (node kind.Constant (t token.Label
@@ -257,7 +258,8 @@ spaceship : Comes 200 (file spaceship_tree) (file spaceship_tree) (codes "a.php"
 unfolding builtin_rows named_constants word_constants is_same_name newer_functions newer_classes newer_constants
 spaceship = (refl, refl)
 
--- <?php echo 1 === 1 ? 'y' : 'n', 1 === '1' ? 'y' : 'n', [1, 'a' => [2]] === [1, 'a' => [2]] ? 'y' : 'n', [1, 2] === [1 => 2, 0 => 1] ? 'y' : 'n', null !== false ? 'y' : 'n', 'a' === 'a' ? 'y' : 'n';
+-- <?php echo 1 === 1 ? 'y' : 'n', 1 === '1' ? 'y' : 'n', [1, 'a' => [2]] === [1, 'a' => [2]] ? 'y' : 'n', [1, 2] ===
+--  [1 => 2, 0 => 1] ? 'y' : 'n', null !== false ? 'y' : 'n', 'a' === 'a' ? 'y' : 'n';
 abbrev identical_tree : Forest
 identical_tree =
     (node kind.Echo (t token.Keyword "echo" (node kind.Ternary (node kind.Binary (node kind.Number (t token.Int "1"

@@ -10,7 +10,8 @@ use Rattle.builtin_tables.specs.Newer.{newer_functions, newer_classes, newer_con
 use Rattle.php_meaning.specs.runs.World.{Threw}
 use Rattle.meaning_rows.specs.Words.{t, b, file, ended, Comes}
 
--- <?php function f($n) { if ($n > 1) throw new LogicException('big', 7); return $n; } try { echo f(1), f(2), 'no'; } catch (RuntimeException $e) { echo 'R'; } catch (LogicException $e) { echo $e->getMessage(), $e->getCode(); }
+-- <?php function f($n) { if ($n > 1) throw new LogicException('big', 7); return $n; } try { echo f(1), f(2), 'no'; }
+--  catch (RuntimeException $e) { echo 'R'; } catch (LogicException $e) { echo $e->getMessage(), $e->getCode(); }
 abbrev caught_tree : Forest
 caught_tree =
     (node kind.Function (t token.Keyword "function" (t token.Label "f" (t token.Op "(" (node kind.Param (t
@@ -41,7 +42,8 @@ caught : Comes 200 (file caught_tree) (file caught_tree) (codes "a.php")
 unfolding builtin_rows named_constants word_constants is_same_name newer_functions newer_classes newer_constants
 caught = (refl, refl)
 
--- <?php function f() { try { return 'r'; } finally { echo 'f'; } } echo f(); try { try { throw new Exception('x'); } finally { echo 'g'; } } catch (Exception $e) { echo $e->getMessage(); }
+-- <?php function f() { try { return 'r'; } finally { echo 'f'; } } echo f(); try { try { throw new Exception('x'); }
+--  finally { echo 'g'; } } catch (Exception $e) { echo $e->getMessage(); }
 abbrev finally_runs_tree : Forest
 finally_runs_tree =
     (node kind.Function (t token.Keyword "function" (t token.Label "f" (t token.Op "(" (t token.Op ")" (node
@@ -105,7 +107,9 @@ own_exception : Comes 200 (file own_exception_tree) (file own_exception_tree) (c
 unfolding builtin_rows named_constants word_constants is_same_name newer_functions newer_classes newer_constants
 own_exception = (refl, refl)
 
--- <?php foreach ([new TypeError, new ArgumentCountError, new DivisionByZeroError, new ErrorException, new Exception] as $e) { echo $e instanceof Error ? 'E' : '-', $e instanceof TypeError ? 'T' : '-', $e instanceof ArithmeticError ? 'A' : '-', $e instanceof Throwable ? 't' : '-', ' '; }
+-- <?php foreach ([new TypeError, new ArgumentCountError, new DivisionByZeroError, new ErrorException, new Exception]
+--  as $e) { echo $e instanceof Error ? 'E' : '-', $e instanceof TypeError ? 'T' : '-', $e instanceof ArithmeticError
+--  ? 'A' : '-', $e instanceof Throwable ? 't' : '-', ' '; }
 abbrev parents_of_exceptions_tree : Forest
 parents_of_exceptions_tree =
     (node kind.Foreach (t token.Keyword "foreach" (t token.Op "(" (node kind.Array (t token.Op "[" (node kind.Item
@@ -135,7 +139,8 @@ parents_of_exceptions : Comes 200 (file parents_of_exceptions_tree) (file parent
 unfolding builtin_rows named_constants word_constants is_same_name newer_functions newer_classes newer_constants
 parents_of_exceptions = (refl, refl)
 
--- <?php try { try { throw new Exception('one'); } catch (Exception $e) { throw new LogicException('two'); } } catch (LogicException $e) { echo $e->getMessage(); }
+-- <?php try { try { throw new Exception('one'); } catch (Exception $e) { throw new LogicException('two'); } } catch
+--  (LogicException $e) { echo $e->getMessage(); }
 abbrev rethrown_tree : Forest
 rethrown_tree =
     (node kind.Try (t token.Keyword "try" (node kind.Block (t token.Op "{" (node kind.Try (t token.Keyword "try" (node

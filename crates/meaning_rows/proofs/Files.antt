@@ -91,7 +91,8 @@ input : Comes 200 (file input_tree) (file input_tree) (codes "a.php")
 unfolding builtin_rows named_constants word_constants is_same_name newer_functions newer_classes newer_constants
 input = (refl, refl)
 
--- <?php namespace A\B; use A\B\C as D; class C { const K = 'k'; function n() { return __NAMESPACE__; } } function f() { return 'f'; } echo f(), \A\B\f(), namespace\f(), D::K, (new C)->n(), C::class;
+-- <?php namespace A\B; use A\B\C as D; class C { const K = 'k'; function n() { return __NAMESPACE__; } } function f()
+--  { return 'f'; } echo f(), \A\B\f(), namespace\f(), D::K, (new C)->n(), C::class;
 abbrev namespaces_tree : Forest
 namespaces_tree =
     (node kind.Namespace (t token.Keyword "namespace" (t token.Label "A" (t token.Op "\\" (t token.Label "B" (t

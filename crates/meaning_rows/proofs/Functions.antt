@@ -220,7 +220,9 @@ missing_argument : Comes 200 (file missing_argument_tree) (file missing_argument
 unfolding builtin_rows named_constants word_constants is_same_name newer_functions newer_classes newer_constants
 missing_argument = (refl, refl)
 
--- <?php class P {} function f(int $i, string $s, ?array $a, bool $b = false): string { return $i . $s; } echo f(1, 'x', null), f(2, 'y', [], true); function g(?P $p = null): ?P { return $p; } echo is_null(g()) ? 'n' : 'o', is_null(g(new P)) ? 'n' : 'o';
+-- <?php class P {} function f(int $i, string $s, ?array $a, bool $b = false): string { return $i . $s; } echo f(1,
+--  'x', null), f(2, 'y', [], true); function g(?P $p = null): ?P { return $p; } echo is_null(g()) ? 'n' : 'o',
+--  is_null(g(new P)) ? 'n' : 'o';
 abbrev types_that_pass_tree : Forest
 types_that_pass_tree =
     (node kind.Class (t token.Keyword "class" (t token.Label "P" (t token.Op "{" (t token.Op "}" none)))) (node
@@ -311,7 +313,8 @@ conditional_function : Comes 200 (file conditional_function_tree) (file conditio
 unfolding builtin_rows named_constants word_constants is_same_name newer_functions newer_classes newer_constants
 conditional_function = (refl, refl)
 
--- <?php function f($x) { if ($x) { return 'r'; } } echo f(1), is_null(f(0)) ? 'n' : 'x'; function g() { foreach ([1, 2] as $v) { while (true) { return $v; } } } echo g();
+-- <?php function f($x) { if ($x) { return 'r'; } } echo f(1), is_null(f(0)) ? 'n' : 'x'; function g() { foreach ([1,
+--  2] as $v) { while (true) { return $v; } } } echo g();
 abbrev returns_tree : Forest
 returns_tree =
     (node kind.Function (t token.Keyword "function" (t token.Label "f" (t token.Op "(" (node kind.Param (t

@@ -10,7 +10,8 @@ use Rattle.builtin_tables.specs.Newer.{newer_functions, newer_classes, newer_con
 use Rattle.php_meaning.specs.Cause.{Call, Conversion, Declaration, NoRule, Reference}
 use Rattle.meaning_rows.specs.Words.{t, b, file, ended, outside, Comes}
 
--- <?php function k($n) { if ($n == 1): echo "one"; elseif ($n == 2): echo "t"; echo "wo"; elseif ($n == 3): else: echo "many"; endif; } k(1); k(2); k(3); k(4); if (false): echo "x"; endif; echo "end";
+-- <?php function k($n) { if ($n == 1): echo "one"; elseif ($n == 2): echo "t"; echo "wo"; elseif ($n == 3): else:
+--  echo "many"; endif; } k(1); k(2); k(3); k(4); if (false): echo "x"; endif; echo "end";
 abbrev if_with_colons_tree : Forest
 if_with_colons_tree =
     (node kind.Function (t token.Keyword "function" (t token.Label "k" (t token.Op "(" (node kind.Param (t
@@ -44,7 +45,8 @@ if_with_colons : Comes 200 (file if_with_colons_tree) (file if_with_colons_tree)
 unfolding builtin_rows named_constants word_constants is_same_name newer_functions newer_classes newer_constants
 if_with_colons = (refl, refl)
 
--- <?php for ($i = 0; $i < 2; $i++): echo $i; endfor; foreach ([3, 4] as $k => $v): echo $k, $v; endforeach; while ($i > 0): $i--; echo $i; endwhile; switch ($i): case 1: echo "one"; break; case 0: echo "zero"; endswitch;
+-- <?php for ($i = 0; $i < 2; $i++): echo $i; endfor; foreach ([3, 4] as $k => $v): echo $k, $v; endforeach; while ($i
+--  > 0): $i--; echo $i; endwhile; switch ($i): case 1: echo "one"; break; case 0: echo "zero"; endswitch;
 abbrev loops_with_colons_tree : Forest
 loops_with_colons_tree =
     (node kind.For (t token.Keyword "for" (t token.Op "(" (node kind.Assign (node kind.Variable (t token.Variable
@@ -79,7 +81,9 @@ loops_with_colons : Comes 200 (file loops_with_colons_tree) (file loops_with_col
 unfolding builtin_rows named_constants word_constants is_same_name newer_functions newer_classes newer_constants
 loops_with_colons = (refl, refl)
 
--- <?php interface I {} class A implements I {} class B extends A {} $b = new B; $n = "A"; $a = new A; echo $b instanceof $n ? 1 : 2, $a instanceof $b ? 1 : 2, $b instanceof $a ? 1 : 2, 5 instanceof $a ? 1 : 2, $b instanceof I ? 1 : 2, $b instanceof Missing ? 1 : 2; $m = "\\I"; echo $a instanceof $m ? 1 : 2;
+-- <?php interface I {} class A implements I {} class B extends A {} $b = new B; $n = "A"; $a = new A; echo $b
+--  instanceof $n ? 1 : 2, $a instanceof $b ? 1 : 2, $b instanceof $a ? 1 : 2, 5 instanceof $a ? 1 : 2, $b instanceof
+--  I ? 1 : 2, $b instanceof Missing ? 1 : 2; $m = "\\I"; echo $a instanceof $m ? 1 : 2;
 abbrev instance_of_values_tree : Forest
 instance_of_values_tree =
     (node kind.Interface (t token.Keyword "interface" (t token.Label "I" (t token.Op "{" (t token.Op "}" none))))
@@ -158,7 +162,8 @@ bits_flipped : Comes 200 (file bits_flipped_tree) (file bits_flipped_tree) (code
 unfolding builtin_rows named_constants word_constants is_same_name newer_functions newer_classes newer_constants
 bits_flipped = (refl, refl)
 
--- <?php function t($s, $b) { echo $s; return $b; } echo (t("a", true) xor t("b", false)) ? 1 : 2, (t("c", true) XOR t("d", 7)) ? 1 : 2; $x = true xor true; echo $x ? "t" : "f";
+-- <?php function t($s, $b) { echo $s; return $b; } echo (t("a", true) xor t("b", false)) ? 1 : 2, (t("c", true) XOR
+--  t("d", 7)) ? 1 : 2; $x = true xor true; echo $x ? "t" : "f";
 abbrev one_alone_tree : Forest
 one_alone_tree =
     (node kind.Function (t token.Keyword "function" (t token.Label "t" (t token.Op "(" (node kind.Param (t
@@ -192,7 +197,9 @@ one_alone : Comes 200 (file one_alone_tree) (file one_alone_tree) (codes "a.php"
 unfolding builtin_rows named_constants word_constants is_same_name newer_functions newer_classes newer_constants
 one_alone = (refl, refl)
 
--- <?php $a = null; $a ??= "x"; $a ??= "y"; $b["k"] ??= 1; $b["k"] ??= 2; class C { public $p; static $s; } $o = new C; $o->p ??= 3; $o->p ??= 4; $o->q[1]["z"] ??= 5; C::$s ??= 6; C::$s ??= 7; function f() { echo "f"; return 8; } $o->p ??= f(); $c ??= f(); echo $a, $b["k"], $o->p, $o->q[1]["z"], C::$s, $c;
+-- <?php $a = null; $a ??= "x"; $a ??= "y"; $b["k"] ??= 1; $b["k"] ??= 2; class C { public $p; static $s; } $o = new
+--  C; $o->p ??= 3; $o->p ??= 4; $o->q[1]["z"] ??= 5; C::$s ??= 6; C::$s ??= 7; function f() { echo "f"; return 8; }
+--  $o->p ??= f(); $c ??= f(); echo $a, $b["k"], $o->p, $o->q[1]["z"], C::$s, $c;
 abbrev assigned_where_null_tree : Forest
 assigned_where_null_tree =
     (node kind.ExprStmt (node kind.Assign (node kind.Variable (t token.Variable "$a" none) (t token.Op "=" (node
@@ -248,7 +255,8 @@ assigned_where_null : Comes 200 (file assigned_where_null_tree) (file assigned_w
 unfolding builtin_rows named_constants word_constants is_same_name newer_functions newer_classes newer_constants
 assigned_where_null = (refl, refl)
 
--- <?php $o = new stdClass; $o->a = 1; $o->b[] = 2; $p = new \STDCLASS; echo $o->a, $o->b[0], isset($o->c) ? 1 : 2, $o instanceof stdClass ? 1 : 2; class A extends stdClass {} echo (new A) instanceof stdClass ? 1 : 2;
+-- <?php $o = new stdClass; $o->a = 1; $o->b[] = 2; $p = new \STDCLASS; echo $o->a, $o->b[0], isset($o->c) ? 1 : 2, $o
+--  instanceof stdClass ? 1 : 2; class A extends stdClass {} echo (new A) instanceof stdClass ? 1 : 2;
 abbrev objects_without_a_class_tree : Forest
 objects_without_a_class_tree =
     (node kind.ExprStmt (node kind.Assign (node kind.Variable (t token.Variable "$o" none) (t token.Op "=" (node
@@ -346,7 +354,9 @@ ticks_declared : Comes 200 (file ticks_declared_tree) (file ticks_declared_tree)
 unfolding builtin_rows named_constants word_constants is_same_name newer_functions newer_classes newer_constants
 ticks_declared = (refl, refl)
 
--- <?php interface I { const A = 1, B = self::A + 1; } interface J extends I { const C = I::B + 1; } abstract class P implements J { abstract function m(); } class Q extends P { function m() { return self::A . static::B . parent::C . J::A . Q::C; } } echo (new Q)->m();
+-- <?php interface I { const A = 1, B = self::A + 1; } interface J extends I { const C = I::B + 1; } abstract class P
+--  implements J { abstract function m(); } class Q extends P { function m() { return self::A . static::B . parent::C
+--  . J::A . Q::C; } } echo (new Q)->m();
 abbrev interfaces_constants_tree : Forest
 interfaces_constants_tree =
     (node kind.Interface (t token.Keyword "interface" (t token.Label "I" (t token.Op "{" (node kind.ClassConst (t
@@ -381,7 +391,9 @@ interfaces_constants : Comes 200 (file interfaces_constants_tree) (file interfac
 unfolding builtin_rows named_constants word_constants is_same_name newer_functions newer_classes newer_constants
 interfaces_constants = (refl, refl)
 
--- <?php interface I {} interface J {} interface K extends I, J {} class A implements K {} class B extends A {} function f(J $j) { return $j instanceof I ? 1 : 2; } echo f(new B), (new B) instanceof K ? 1 : 2; class E extends Exception implements I {} try { throw new E("m"); } catch (I $e) { echo $e->getMessage(); }
+-- <?php interface I {} interface J {} interface K extends I, J {} class A implements K {} class B extends A {}
+--  function f(J $j) { return $j instanceof I ? 1 : 2; } echo f(new B), (new B) instanceof K ? 1 : 2; class E extends
+--  Exception implements I {} try { throw new E("m"); } catch (I $e) { echo $e->getMessage(); }
 abbrev interfaces_by_interfaces_tree : Forest
 interfaces_by_interfaces_tree =
     (node kind.Interface (t token.Keyword "interface" (t token.Label "I" (t token.Op "{" (t token.Op "}" none))))
@@ -418,7 +430,10 @@ interfaces_by_interfaces : Comes 200 (file interfaces_by_interfaces_tree) (file 
 unfolding builtin_rows named_constants word_constants is_same_name newer_functions newer_classes newer_constants
 interfaces_by_interfaces = (refl, refl)
 
--- <?php abstract class Shape { abstract protected function area(); final public function show() { echo $this->area(), ";"; } } final class Square extends Shape { private $n; function __construct($n) { $this->n = $n; } protected function area() { return $this->n * $this->n; } } (new Square(3))->show(); try { new Shape; } catch (Error $e) { echo "error"; } interface I {} try { new I; } catch (Error $e) { echo "error"; }
+-- <?php abstract class Shape { abstract protected function area(); final public function show() { echo $this->area(),
+--  ";"; } } final class Square extends Shape { private $n; function __construct($n) { $this->n = $n; } protected
+--  function area() { return $this->n * $this->n; } } (new Square(3))->show(); try { new Shape; } catch (Error $e) {
+--  echo "error"; } interface I {} try { new I; } catch (Error $e) { echo "error"; }
 abbrev abstract_and_final_tree : Forest
 abstract_and_final_tree =
     (node kind.Class (t token.Keyword "abstract" (t token.Keyword "class" (t token.Label "Shape" (t token.Op "{"
@@ -669,7 +684,11 @@ class_before_its_declaration : Comes 200 (file class_before_its_declaration_tree
 unfolding builtin_rows named_constants word_constants is_same_name newer_functions newer_classes newer_constants
 class_before_its_declaration = (refl, refl)
 
--- <?php class A { public int $n = 1; public ?string $s = null; public array $a; private static int $c = 0; public self $next; function __construct() { $this->a = [1]; self::$c++; } static function c() { return self::$c; } } $o = new A; $o->n += 5; $o->s = "x"; $o->s .= "y"; $o->a[] = 2; $o->s ??= "z"; $o->next = new A; echo $o->n, $o->s, $o->a[1], A::c(), isset($o->next->next) ? 1 : 2; $o->s = null; echo $o->s ?? "none"; unset($o->n); $o->n = 4; echo $o->n;
+-- <?php class A { public int $n = 1; public ?string $s = null; public array $a; private static int $c = 0; public
+--  self $next; function __construct() { $this->a = [1]; self::$c++; } static function c() { return self::$c; } } $o =
+--  new A; $o->n += 5; $o->s = "x"; $o->s .= "y"; $o->a[] = 2; $o->s ??= "z"; $o->next = new A; echo $o->n, $o->s,
+--  $o->a[1], A::c(), isset($o->next->next) ? 1 : 2; $o->s = null; echo $o->s ?? "none"; unset($o->n); $o->n = 4; echo
+--  $o->n;
 abbrev typed_properties_tree : Forest
 typed_properties_tree =
     (node kind.Class (t token.Keyword "class" (t token.Label "A" (t token.Op "{" (node kind.Property (t
@@ -867,7 +886,9 @@ constants_in_braces : Comes 200 (file constants_in_braces_tree) (file constants_
 unfolding builtin_rows named_constants word_constants is_same_name newer_functions newer_classes newer_constants
 constants_in_braces = (refl, refl)
 
--- <?php class A { public $x = 1; protected $y = 2; private $z = 3; function az() { return $this->z; } } class B extends A { public $x = 4; protected $y = 5; private $z = 6; function y() { return $this->y . $this->z; } } $b = new B; echo $b->x, $b->y(), $b->az();
+-- <?php class A { public $x = 1; protected $y = 2; private $z = 3; function az() { return $this->z; } } class B
+--  extends A { public $x = 4; protected $y = 5; private $z = 6; function y() { return $this->y . $this->z; } } $b =
+--  new B; echo $b->x, $b->y(), $b->az();
 abbrev default_that_is_overridden_tree : Forest
 default_that_is_overridden_tree =
     (node kind.Class (t token.Keyword "class" (t token.Label "A" (t token.Op "{" (node kind.Property (t
@@ -904,7 +925,9 @@ default_that_is_overridden : Comes 200 (file default_that_is_overridden_tree) (f
 unfolding builtin_rows named_constants word_constants is_same_name newer_functions newer_classes newer_constants
 default_that_is_overridden = (refl, refl)
 
--- <?php class A { private function m() { return "a"; } function t() { return $this->m(); } } class B extends A { function m() { return "b"; } } class C extends A { private function m() { return "c"; } } echo (new B)->t(), (new B)->m(), (new C)->t();
+-- <?php class A { private function m() { return "a"; } function t() { return $this->m(); } } class B extends A {
+--  function m() { return "b"; } } class C extends A { private function m() { return "c"; } } echo (new B)->t(), (new
+--  B)->m(), (new C)->t();
 abbrev private_methods_of_the_class_tree : Forest
 private_methods_of_the_class_tree =
     (node kind.Class (t token.Keyword "class" (t token.Label "A" (t token.Op "{" (node kind.Method (t
@@ -938,7 +961,8 @@ private_methods_of_the_class : Comes 200 (file private_methods_of_the_class_tree
 unfolding builtin_rows named_constants word_constants is_same_name newer_functions newer_classes newer_constants
 private_methods_of_the_class = (refl, refl)
 
--- <?php class A { private function __construct() { echo "made"; } static function make() { return new self; } } A::make(); try { new A(print "x"); } catch (Error $e) { echo "error"; }
+-- <?php class A { private function __construct() { echo "made"; } static function make() { return new self; } }
+--  A::make(); try { new A(print "x"); } catch (Error $e) { echo "error"; }
 abbrev private_constructor_tree : Forest
 private_constructor_tree =
     (node kind.Class (t token.Keyword "class" (t token.Label "A" (t token.Op "{" (node kind.Method (t
@@ -963,7 +987,10 @@ private_constructor : Comes 200 (file private_constructor_tree) (file private_co
 unfolding builtin_rows named_constants word_constants is_same_name newer_functions newer_classes newer_constants
 private_constructor = (refl, refl)
 
--- <?php class A { public $n; function __construct($n) { $this->n = $n; } } class B extends A { function __construct() { parent::__construct(7); A::__construct($this->n + 1); } } echo (new B)->n; class E extends Exception { function __construct($m) { echo $this->getMessage(), $this->getCode(); parent::__construct("<" . $m . ">", 5); } } try { throw new E("m"); } catch (E $e) { echo $e->getMessage(), $e->getCode(); }
+-- <?php class A { public $n; function __construct($n) { $this->n = $n; } } class B extends A { function __construct()
+--  { parent::__construct(7); A::__construct($this->n + 1); } } echo (new B)->n; class E extends Exception { function
+--  __construct($m) { echo $this->getMessage(), $this->getCode(); parent::__construct("<" . $m . ">", 5); } } try {
+--  throw new E("m"); } catch (E $e) { echo $e->getMessage(), $e->getCode(); }
 abbrev constructors_of_parents_tree : Forest
 constructors_of_parents_tree =
     (node kind.Class (t token.Keyword "class" (t token.Label "A" (t token.Op "{" (node kind.Property (t
@@ -1012,7 +1039,9 @@ constructors_of_parents : Comes 200 (file constructors_of_parents_tree) (file co
 unfolding builtin_rows named_constants word_constants is_same_name newer_functions newer_classes newer_constants
 constructors_of_parents = (refl, refl)
 
--- <?php class A { public $p = 1; private $q = 2; function q() { unset($this->q); return isset($this->q) ? 1 : 2; } } $a = new A; unset($a->p); echo isset($a->p) ? 1 : 2; $a->p = 3; echo $a->p, $a->q(); try { unset($a->q); } catch (Error $e) { echo "error"; }
+-- <?php class A { public $p = 1; private $q = 2; function q() { unset($this->q); return isset($this->q) ? 1 : 2; } }
+--  $a = new A; unset($a->p); echo isset($a->p) ? 1 : 2; $a->p = 3; echo $a->p, $a->q(); try { unset($a->q); } catch
+--  (Error $e) { echo "error"; }
 abbrev property_unset_tree : Forest
 property_unset_tree =
     (node kind.Class (t token.Keyword "class" (t token.Label "A" (t token.Op "{" (node kind.Property (t

@@ -81,7 +81,8 @@ breaks : Comes 200 (file breaks_tree) (file breaks_tree) (codes "a.php")
 unfolding builtin_rows named_constants word_constants is_same_name newer_functions newer_classes newer_constants
 breaks = (refl, refl)
 
--- <?php function s($v) { switch ($v) { case 1: return 'one'; case 'a': echo 'fall'; case 2: return 'two'; default: return 'none'; } } echo s(1), s('a'), s(2), s(9);
+-- <?php function s($v) { switch ($v) { case 1: return 'one'; case 'a': echo 'fall'; case 2: return 'two'; default:
+--  return 'none'; } } echo s(1), s('a'), s(2), s(9);
 abbrev switches_tree : Forest
 switches_tree =
     (node kind.Function (t token.Keyword "function" (t token.Label "s" (t token.Op "(" (node kind.Param (t

@@ -109,7 +109,8 @@ mixed_holders : Comes 200 (file mixed_holders_tree) (file mixed_holders_tree) (c
 unfolding builtin_rows named_constants word_constants is_same_name newer_functions newer_classes newer_constants
 mixed_holders = (refl, refl)
 
--- <?php function f($n = null) { $n .= 'x'; return $n; } $o = new stdClass; $o->p[] = 1; $o->q += 2; $t .= 'y'; $o->r['k']['l'] = 3; echo f(), count($o->p), $o->q, $t, $o->r['k']['l'];
+-- <?php function f($n = null) { $n .= 'x'; return $n; } $o = new stdClass; $o->p[] = 1; $o->q += 2; $t .= 'y';
+--  $o->r['k']['l'] = 3; echo f(), count($o->p), $o->q, $t, $o->r['k']['l'];
 abbrev made_where_they_are_written_tree : Forest
 made_where_they_are_written_tree =
     (node kind.Function (t token.Keyword "function" (t token.Label "f" (t token.Op "(" (node kind.Param (t

@@ -10,7 +10,9 @@ use Rattle.builtin_tables.specs.Newer.{newer_functions, newer_classes, newer_con
 use Rattle.php_meaning.specs.runs.World.{Threw}
 use Rattle.meaning_rows.specs.Words.{t, b, file, ended, Comes}
 
--- <?php echo g(3), f(1, 2); function f($a, $b = 5, $c = 'z') { return $a . $b . $c; } function g($n) { if ($n == 0) return 'e'; return $n . g($n - 1); } function h(&$r, $d = 5) { $r .= $d; } $q = 'a'; h($q); h($q, 'z'); echo $q; function s() { static $n = 0, $m; $n++; return $n; } s(); s(); echo s();
+-- <?php echo g(3), f(1, 2); function f($a, $b = 5, $c = 'z') { return $a . $b . $c; } function g($n) { if ($n == 0)
+--  return 'e'; return $n . g($n - 1); } function h(&$r, $d = 5) { $r .= $d; } $q = 'a'; h($q); h($q, 'z'); echo $q;
+--  function s() { static $n = 0, $m; $n++; return $n; } s(); s(); echo s();
 abbrev mixed_functions_tree : Forest
 mixed_functions_tree =
     (node kind.Echo (t token.Keyword "echo" (node kind.Call (t token.Label "g" (t token.Op "(" (node kind.Args (node
@@ -85,7 +87,9 @@ mixed_conditional : Comes 200 (file mixed_conditional_tree) (file mixed_conditio
 unfolding builtin_rows named_constants word_constants is_same_name newer_functions newer_classes newer_constants
 mixed_conditional = (refl, refl)
 
--- <?php function h() { try { return "t"; } finally { echo "F"; } } echo h(); function h2() { foreach ([1, 2] as $x) { try { continue; } finally { echo "c", $x; } } return "r"; } echo h2(); function h3() { try { return "t"; } finally { return "f"; } } echo h3();
+-- <?php function h() { try { return "t"; } finally { echo "F"; } } echo h(); function h2() { foreach ([1, 2] as $x) {
+--  try { continue; } finally { echo "c", $x; } } return "r"; } echo h2(); function h3() { try { return "t"; } finally
+--  { return "f"; } } echo h3();
 abbrev mixed_jumps_tree : Forest
 mixed_jumps_tree =
     (node kind.Function (t token.Keyword "function" (t token.Label "h" (t token.Op "(" (t token.Op ")" (node
@@ -121,7 +125,11 @@ mixed_jumps : Comes 200 (file mixed_jumps_tree) (file mixed_jumps_tree) (codes "
 unfolding builtin_rows named_constants word_constants is_same_name newer_functions newer_classes newer_constants
 mixed_jumps = (refl, refl)
 
--- <?php function thrower($n) { if ($n == 0) throw new RuntimeException("deep", 4); thrower($n - 1); echo "never"; } try { try { thrower(2); } catch (LogicException $e) { echo "no"; } finally { echo "fin"; } } catch (LogicException | RuntimeException $e) { echo $e->getMessage(), $e->getCode(); } try { echo 1 % 0; } catch (Error $e) { echo "div"; } function two($a, $b) {} try { two(1); } catch (ArgumentCountError $e) { echo "args"; } throw new Exception("x");
+-- <?php function thrower($n) { if ($n == 0) throw new RuntimeException("deep", 4); thrower($n - 1); echo "never"; }
+--  try { try { thrower(2); } catch (LogicException $e) { echo "no"; } finally { echo "fin"; } } catch (LogicException
+--  | RuntimeException $e) { echo $e->getMessage(), $e->getCode(); } try { echo 1 % 0; } catch (Error $e) { echo
+--  "div"; } function two($a, $b) {} try { two(1); } catch (ArgumentCountError $e) { echo "args"; } throw new
+--  Exception("x");
 abbrev mixed_exceptions_tree : Forest
 mixed_exceptions_tree =
     (node kind.Function (t token.Keyword "function" (t token.Label "thrower" (t token.Op "(" (node kind.Param (t
@@ -171,7 +179,13 @@ mixed_exceptions : Comes 200 (file mixed_exceptions_tree) (file mixed_exceptions
 unfolding builtin_rows named_constants word_constants is_same_name newer_functions newer_classes newer_constants
 mixed_exceptions = (refl, refl)
 
--- <?php class A { public $p = 1; private $s = "sec"; protected $q = [1, 2]; function __construct($p) { $this->p = $p; } function get() { return $this->s . count($this->q); } private function hid() { return "h"; } function call() { return $this->hid(); } static function make($x) { return new self($x); } } class B extends A { private $s = "b"; function get() { return "B" . parent::get() . $this->s; } } $a = new A(5); $b = new B(6); echo $a->p, $a->get(), $b->get(), $b->call(); try { $a->hid(); } catch (Error $e) { echo "E"; } try { echo $a->s; } catch (Error $e) { echo "P"; } $c = A::make(8); $c->d = 3; $c->d++; $e = $c; $e->d++; echo $c->d, $c->p; $c->l["x"][] = 4; echo count($c->l["x"]);
+-- <?php class A { public $p = 1; private $s = "sec"; protected $q = [1, 2]; function __construct($p) { $this->p = $p;
+--  } function get() { return $this->s . count($this->q); } private function hid() { return "h"; } function call() {
+--  return $this->hid(); } static function make($x) { return new self($x); } } class B extends A { private $s = "b";
+--  function get() { return "B" . parent::get() . $this->s; } } $a = new A(5); $b = new B(6); echo $a->p, $a->get(),
+--  $b->get(), $b->call(); try { $a->hid(); } catch (Error $e) { echo "E"; } try { echo $a->s; } catch (Error $e) {
+--  echo "P"; } $c = A::make(8); $c->d = 3; $c->d++; $e = $c; $e->d++; echo $c->d, $c->p; $c->l["x"][] = 4; echo
+--  count($c->l["x"]);
 abbrev mixed_classes_tree : Forest
 mixed_classes_tree =
     (node kind.Class (t token.Keyword "class" (t token.Label "A" (t token.Op "{" (node kind.Property (t token.Keyword

@@ -219,7 +219,8 @@ mixed_for_loop : Comes 200 (file mixed_for_loop_tree) (file mixed_for_loop_tree)
 unfolding builtin_rows named_constants word_constants is_same_name newer_functions newer_classes newer_constants
 mixed_for_loop = (refl, refl)
 
--- <?php for ($i = 0; $i < 3; $i++): foreach ([1, 2, 3] as $k => $v): if ($v == 2) continue 2; if ($i == 2) break 2; echo $i, $k, $v, ";"; endforeach; endfor; do { echo $i; } while ($i-- > 1);
+-- <?php for ($i = 0; $i < 3; $i++): foreach ([1, 2, 3] as $k => $v): if ($v == 2) continue 2; if ($i == 2) break 2;
+--  echo $i, $k, $v, ";"; endforeach; endfor; do { echo $i; } while ($i-- > 1);
 abbrev mixed_nested_loops_tree : Forest
 mixed_nested_loops_tree =
     (node kind.For (t token.Keyword "for" (t token.Op "(" (node kind.Assign (node kind.Variable (t token.Variable "$i"
@@ -252,7 +253,8 @@ mixed_nested_loops : Comes 200 (file mixed_nested_loops_tree) (file mixed_nested
 unfolding builtin_rows named_constants word_constants is_same_name newer_functions newer_classes newer_constants
 mixed_nested_loops = (refl, refl)
 
--- <?php switch ("1") { case 1: echo "one"; case 2: echo "two"; break; default: echo "d"; } switch (9) { case 1: echo 1; default: echo "D"; case 3: echo 3; } foreach ([1, 2] as $x) { switch ($x) { case 1: continue 2; } echo $x; }
+-- <?php switch ("1") { case 1: echo "one"; case 2: echo "two"; break; default: echo "d"; } switch (9) { case 1: echo
+--  1; default: echo "D"; case 3: echo 3; } foreach ([1, 2] as $x) { switch ($x) { case 1: continue 2; } echo $x; }
 abbrev mixed_switched_tree : Forest
 mixed_switched_tree =
     (node kind.Switch (t token.Keyword "switch" (t token.Op "(" (node kind.Text (t token.Text "\"1\"" none) (t
@@ -315,7 +317,8 @@ mixed_foreach_copy : Comes 200 (file mixed_foreach_copy_tree) (file mixed_foreac
 unfolding builtin_rows named_constants word_constants is_same_name newer_functions newer_classes newer_constants
 mixed_foreach_copy = (refl, refl)
 
--- <?php $a = [1, 2, 3]; foreach ($a as &$v) { echo $v; if ($v == 1) { $a = [7, 8, 9]; } } unset($v); $b = [1, 2]; $n = 0; foreach ($b as $k => &$v) { if ($n++ < 3) $b[] = 9; echo $v; } unset($v); echo count($b);
+-- <?php $a = [1, 2, 3]; foreach ($a as &$v) { echo $v; if ($v == 1) { $a = [7, 8, 9]; } } unset($v); $b = [1, 2]; $n
+--  = 0; foreach ($b as $k => &$v) { if ($n++ < 3) $b[] = 9; echo $v; } unset($v); echo count($b);
 abbrev mixed_foreach_reference_tree : Forest
 mixed_foreach_reference_tree =
     (node kind.ExprStmt (node kind.Assign (node kind.Variable (t token.Variable "$a" none) (t token.Op "=" (node

@@ -10,7 +10,10 @@ use Rattle.builtin_tables.specs.Newer.{newer_functions, newer_classes, newer_con
 use Rattle.php_meaning.specs.runs.World.{Ended}
 use Rattle.meaning_rows.specs.Words.{t, b, file, ended, Comes}
 
--- <?php namespace N\M; use N\M\Inner as I; class Inner { function n() { return __CLASS__; } } function f() { return 'ns'; } const C = 'c'; echo f(), \strlen('abc'), strlen('ab'), namespace\f(), C, \N\M\C; $i = new I; echo $i->n(), __NAMESPACE__; try { throw new \LogicException('m'); } catch (\Error | \LogicException $x) { echo $x->getMessage(); }
+-- <?php namespace N\M; use N\M\Inner as I; class Inner { function n() { return __CLASS__; } } function f() { return
+--  'ns'; } const C = 'c'; echo f(), \strlen('abc'), strlen('ab'), namespace\f(), C, \N\M\C; $i = new I; echo $i->n(),
+--  __NAMESPACE__; try { throw new \LogicException('m'); } catch (\Error | \LogicException $x) { echo
+--  $x->getMessage(); }
 abbrev mixed_names_tree : Forest
 mixed_names_tree =
     (node kind.Namespace (t token.Keyword "namespace" (t token.Label "N" (t token.Op "\\" (t token.Label "M" (t
@@ -144,7 +147,9 @@ mixed_constants : Comes 200 (file mixed_constants_tree) (file mixed_constants_tr
 unfolding builtin_rows named_constants word_constants is_same_name newer_functions newer_classes newer_constants
 mixed_constants = (refl, refl)
 
--- <?php $a = ['x' => null, 'y' => 0]; echo isset($a['x']) ? 1 : 0, isset($a['y']) ? 1 : 0, isset($a['z']['w']) ? 1 : 0, isset($nope) ? 1 : 0, empty($a['y']) ? 1 : 0, $a['q'] ?? 'd', $nope['a']['b'] ?? 'e'; unset($a['y'], $a['m']['n']); echo count($a), 1 && 0 ? 'T' : 'F', 0 || 2 ? 'T' : 'F', !'' ? 'T' : 'F';
+-- <?php $a = ['x' => null, 'y' => 0]; echo isset($a['x']) ? 1 : 0, isset($a['y']) ? 1 : 0, isset($a['z']['w']) ? 1 :
+--  0, isset($nope) ? 1 : 0, empty($a['y']) ? 1 : 0, $a['q'] ?? 'd', $nope['a']['b'] ?? 'e'; unset($a['y'],
+--  $a['m']['n']); echo count($a), 1 && 0 ? 'T' : 'F', 0 || 2 ? 'T' : 'F', !'' ? 'T' : 'F';
 abbrev mixed_tests_tree : Forest
 mixed_tests_tree =
     (node kind.ExprStmt (node kind.Assign (node kind.Variable (t token.Variable "$a" none) (t token.Op "=" (node
@@ -261,7 +266,9 @@ mixed_static_call : Comes 200 (file mixed_static_call_tree) (file mixed_static_c
 unfolding builtin_rows named_constants word_constants is_same_name newer_functions newer_classes newer_constants
 mixed_static_call = (refl, refl)
 
--- <?php class A { const X = 1, Y = self::X . "y"; public static $n = self::Y; static function up() { self::$n .= "!"; return static::X; } } class B extends A { const X = 2; } echo A::Y, B::Y, A::up(), B::up(), A::$n, B::$n, A::class, (new B) instanceof A ? 1 : 0, 5 instanceof A ? 1 : 0; try { echo A::NO; } catch (Error $e) { echo "E"; }
+-- <?php class A { const X = 1, Y = self::X . "y"; public static $n = self::Y; static function up() { self::$n .= "!";
+--  return static::X; } } class B extends A { const X = 2; } echo A::Y, B::Y, A::up(), B::up(), A::$n, B::$n,
+--  A::class, (new B) instanceof A ? 1 : 0, 5 instanceof A ? 1 : 0; try { echo A::NO; } catch (Error $e) { echo "E"; }
 abbrev mixed_class_constants_tree : Forest
 mixed_class_constants_tree =
     (node kind.Class (t token.Keyword "class" (t token.Label "A" (t token.Op "{" (node kind.ClassConst (t

@@ -10,7 +10,9 @@ use Rattle.builtin_tables.specs.Newer.{newer_functions, newer_classes, newer_con
 use Rattle.php_meaning.specs.Cause.{Offset}
 use Rattle.meaning_rows.specs.Words.{t, b, file, ended, outside, Comes}
 
--- <?php class A { private $x = 1; public $y = 2; function a() { return $this->x; } } class B extends A { public $x = 5; function b() { return $this->x; } } $b = new B; echo $b->a(), $b->b(), $b->x; $b->x = 7; echo $b->a(), $b->x; function f($o) { $o->y = 9; } f($b); echo $b->y;
+-- <?php class A { private $x = 1; public $y = 2; function a() { return $this->x; } } class B extends A { public $x =
+--  5; function b() { return $this->x; } } $b = new B; echo $b->a(), $b->b(), $b->x; $b->x = 7; echo $b->a(), $b->x;
+--  function f($o) { $o->y = 9; } f($b); echo $b->y;
 abbrev mixed_private_shadow_tree : Forest
 mixed_private_shadow_tree =
     (node kind.Class (t token.Keyword "class" (t token.Label "A" (t token.Op "{" (node kind.Property (t token.Keyword
@@ -77,7 +79,9 @@ mixed_switch_loop : Comes 200 (file mixed_switch_loop_tree) (file mixed_switch_l
 unfolding builtin_rows named_constants word_constants is_same_name newer_functions newer_classes newer_constants
 mixed_switch_loop = (refl, refl)
 
--- <?php function g() { try { throw new Exception("x"); } finally { return "g"; } } echo g(); function h() { try { try { throw new Exception("one"); } finally { throw new LogicException("two"); } } catch (Exception $e) { return $e->getMessage(); } } echo h();
+-- <?php function g() { try { throw new Exception("x"); } finally { return "g"; } } echo g(); function h() { try { try
+--  { throw new Exception("one"); } finally { throw new LogicException("two"); } } catch (Exception $e) { return
+--  $e->getMessage(); } } echo h();
 abbrev mixed_finally_jumps_tree : Forest
 mixed_finally_jumps_tree =
     (node kind.Function (t token.Keyword "function" (t token.Label "g" (t token.Op "(" (t token.Op ")" (node
@@ -109,7 +113,9 @@ mixed_finally_jumps : Comes 200 (file mixed_finally_jumps_tree) (file mixed_fina
 unfolding builtin_rows named_constants word_constants is_same_name newer_functions newer_classes newer_constants
 mixed_finally_jumps = (refl, refl)
 
--- <?php function add(&$a, $v) { $a[] = $v; } $x = []; add($x, 1); add($x["sub"], 2); echo count($x), count($x["sub"]); function swap(&$a, &$b) { $t = $a; $a = $b; $b = $t; } $p = 1; $q = 2; swap($p, $q); echo $p, $q; $arr = [1, 2]; foreach ($arr as $k => &$r) { $r *= 10; } unset($r); echo $arr[0], $arr[1];
+-- <?php function add(&$a, $v) { $a[] = $v; } $x = []; add($x, 1); add($x["sub"], 2); echo count($x),
+--  count($x["sub"]); function swap(&$a, &$b) { $t = $a; $a = $b; $b = $t; } $p = 1; $q = 2; swap($p, $q); echo $p,
+--  $q; $arr = [1, 2]; foreach ($arr as $k => &$r) { $r *= 10; } unset($r); echo $arr[0], $arr[1];
 abbrev mixed_references_in_calls_tree : Forest
 mixed_references_in_calls_tree =
     (node kind.Function (t token.Keyword "function" (t token.Label "add" (t token.Op "(" (node kind.Param (t token.Op
@@ -220,7 +226,9 @@ mixed_statics_of_functions : Comes 200 (file mixed_statics_of_functions_tree) (f
 unfolding builtin_rows named_constants word_constants is_same_name newer_functions newer_classes newer_constants
 mixed_statics_of_functions = (refl, refl)
 
--- <?php $g = 1; function f() { global $g, $h; $g++; $h = "new"; return $g; } echo f(), $g, $h; function u() { global $g; unset($g); return isset($g) ? 1 : 0; } echo u(), $g; function r() { global $g; $g = &$other; $other = 5; return $g; } echo r(), $g;
+-- <?php $g = 1; function f() { global $g, $h; $g++; $h = "new"; return $g; } echo f(), $g, $h; function u() { global
+--  $g; unset($g); return isset($g) ? 1 : 0; } echo u(), $g; function r() { global $g; $g = &$other; $other = 5;
+--  return $g; } echo r(), $g;
 abbrev mixed_globals_in_bodies_tree : Forest
 mixed_globals_in_bodies_tree =
     (node kind.ExprStmt (node kind.Assign (node kind.Variable (t token.Variable "$g" none) (t token.Op "=" (node
@@ -261,7 +269,9 @@ mixed_globals_in_bodies : Comes 200 (file mixed_globals_in_bodies_tree) (file mi
 unfolding builtin_rows named_constants word_constants is_same_name newer_functions newer_classes newer_constants
 mixed_globals_in_bodies = (refl, refl)
 
--- <?php echo 1 <=> 2, "a" == 0 ? "t" : "f", "1" == "01" ? "t" : "f", null == false ? "t" : "f", [] == false ? "t" : "f", "abc" == "ABC" ? "t" : "f", 5 <= 5 ? "t" : "f", "1 " == 1 ? "t" : "f", 1 === 1 ? "t" : "f", [1] === ["0" => 1] ? "t" : "f";
+-- <?php echo 1 <=> 2, "a" == 0 ? "t" : "f", "1" == "01" ? "t" : "f", null == false ? "t" : "f", [] == false ? "t" :
+--  "f", "abc" == "ABC" ? "t" : "f", 5 <= 5 ? "t" : "f", "1 " == 1 ? "t" : "f", 1 === 1 ? "t" : "f", [1] === ["0" =>
+--  1] ? "t" : "f";
 abbrev mixed_comparisons_tree : Forest
 mixed_comparisons_tree =
     (node kind.Echo (t token.Keyword "echo" (node kind.Binary (node kind.Number (t token.Int "1" none) (t token.Op
@@ -326,7 +336,9 @@ mixed_elseif_chain : Comes 200 (file mixed_elseif_chain_tree) (file mixed_elseif
 unfolding builtin_rows named_constants word_constants is_same_name newer_functions newer_classes newer_constants
 mixed_elseif_chain = (refl, refl)
 
--- <?php $i = 1; $i += $i++; echo $i; function kk($n) { echo "k", $n; return $n; } $arr = []; $arr[kk(1)][kk(2)] = kk(3); class E {} function arg() { echo "arg"; return 1; } new E(arg()); $u = []; unset($u["m"]["n"]); echo count($u); unset($nope["a"]); echo isset($nope) ? 1 : 0, isset($zz->p) ? 1 : 0, isset($zz->p["q"]) ? 1 : 0;
+-- <?php $i = 1; $i += $i++; echo $i; function kk($n) { echo "k", $n; return $n; } $arr = []; $arr[kk(1)][kk(2)] =
+--  kk(3); class E {} function arg() { echo "arg"; return 1; } new E(arg()); $u = []; unset($u["m"]["n"]); echo
+--  count($u); unset($nope["a"]); echo isset($nope) ? 1 : 0, isset($zz->p) ? 1 : 0, isset($zz->p["q"]) ? 1 : 0;
 abbrev mixed_orders_tree : Forest
 mixed_orders_tree =
     (node kind.ExprStmt (node kind.Assign (node kind.Variable (t token.Variable "$i" none) (t token.Op "=" (node
@@ -380,7 +392,10 @@ mixed_orders : Comes 200 (file mixed_orders_tree) (file mixed_orders_tree) (code
 unfolding builtin_rows named_constants word_constants is_same_name newer_functions newer_classes newer_constants
 mixed_orders = (refl, refl)
 
--- <?php class C1 { const X = C2::Y; public $d = self::X; } class C2 { const Y = 4; } echo C1::X, (new C1)->d; function rv() { $v = 1; try { return $v; } finally { $v = 2; } } echo rv(); $q = [1, 2, 3]; foreach ($q as $kq => &$vq) { if ($kq == 0) unset($q[1]); echo $vq; } unset($vq); $w = [3 => "a"]; foreach ($w as $z) { $w[] = "b"; } foreach ($w as $kw => $z) echo $kw; echo 7 % -3, -7 % 3;
+-- <?php class C1 { const X = C2::Y; public $d = self::X; } class C2 { const Y = 4; } echo C1::X, (new C1)->d;
+--  function rv() { $v = 1; try { return $v; } finally { $v = 2; } } echo rv(); $q = [1, 2, 3]; foreach ($q as $kq =>
+--  &$vq) { if ($kq == 0) unset($q[1]); echo $vq; } unset($vq); $w = [3 => "a"]; foreach ($w as $z) { $w[] = "b"; }
+--  foreach ($w as $kw => $z) echo $kw; echo 7 % -3, -7 % 3;
 abbrev mixed_late_constants_tree : Forest
 mixed_late_constants_tree =
     (node kind.Class (t token.Keyword "class" (t token.Label "C1" (t token.Op "{" (node kind.ClassConst (t
