@@ -1,10 +1,11 @@
 -- Rows of the tables, each found by its name.
-use Rattle.std.proofs.Common.{◌≡◌, List, [], ◌∷◌, refl, pos, negsuc, codes, Some, None, true}
+use Rattle.std.proofs.Common.{◌≡◌, List, [], ◌∷◌, refl, pos, negsuc, codes, Some, None, true, false}
 use Rattle.builtin_tables.specs.declared.release.Release.TheVariants.{V80, V81, V82, V83}
 use Rattle.builtin_tables.specs.declared.builtin.Builtin.TheVariants.{Strlen, Join, Define, GetClass, IsReal}
 use Rattle.builtin_tables.specs.declared.kinds.ArgumentKind.TheVariants as argument
 use Rattle.builtin_tables.specs.declared.kinds.Change.TheVariants.{Removed}
 use Rattle.builtin_tables.specs.declared.constant.ConstantValue.TheVariants.{Null, Bool, Int, LineEnd}
+use Rattle.builtin_tables.specs.Beyond.{beyond_functions, beyond_classes, beyond_constants, is_beyond_function, is_beyond_class, is_beyond_constant}
 use Rattle.builtin_tables.specs.Builtins.{builtin_rows, row_of}
 use Rattle.builtin_tables.specs.Constants.{constant_named, named_constants, word_constants}
 use Rattle.builtin_tables.specs.Named.{found, found_exactly, is_same_name}
@@ -83,3 +84,40 @@ newer_strlen = refl
 newer_in_lower_case : found_exactly newer_constants (codes "t_enum") ≡ None
 unfolding newer_constants
 newer_in_lower_case = refl
+
+-- 7.4 has `strtolower`, `DateTime`, `M_PI` and `E_ALL` beyond the profile; it has no `my_function`, and `strlen` is in the profile
+beyond_strtolower : is_beyond_function (codes "StrToLower") ≡ true
+unfolding beyond_functions
+beyond_strtolower = refl
+
+beyond_removed : is_beyond_function (codes "create_function") ≡ true
+unfolding beyond_functions
+beyond_removed = refl
+
+beyond_own : is_beyond_function (codes "my_function") ≡ false
+unfolding beyond_functions
+beyond_own = refl
+
+beyond_strlen : is_beyond_function (codes "strlen") ≡ false
+unfolding beyond_functions
+beyond_strlen = refl
+
+beyond_in_a_namespace : is_beyond_function (codes "n\\strtolower") ≡ false
+unfolding beyond_functions
+beyond_in_a_namespace = refl
+
+beyond_date_time : is_beyond_class (codes "DateTime") ≡ true
+unfolding beyond_classes
+beyond_date_time = refl
+
+beyond_pi : is_beyond_constant (codes "M_PI") ≡ true
+unfolding beyond_constants
+beyond_pi = refl
+
+beyond_all_errors : is_beyond_constant (codes "E_ALL") ≡ true
+unfolding beyond_constants
+beyond_all_errors = refl
+
+beyond_pi_in_lower_case : is_beyond_constant (codes "m_pi") ≡ false
+unfolding beyond_constants
+beyond_pi_in_lower_case = refl

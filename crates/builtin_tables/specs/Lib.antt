@@ -1,3 +1,4 @@
+pub mod Beyond
 pub mod Builtins
 pub mod Constants
 pub mod Named

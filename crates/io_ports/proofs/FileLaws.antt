@@ -4,17 +4,18 @@ use Rattle.std.specs.declared.cmp.Ordering.{Ordering}
 use Rattle.std.specs.Ordering.{match_ordering, is_eq, ordering_reverse}
 use Rattle.std.specs.Str.{bytes_eq}
 use Rattle.std.specs.Cmp.Lexicographic.{slice_cmp, bytes_decides, texts_ties, nat_list_cmp_total}
+use Rattle.std.proofs.lemmas.Cmp.{tied_itself}
 use Rattle.io_ports.specs.Files.{File, content, put_file, IsTree, AllBelow, KeepsOthers}
 
 -- paths in byte order
-abbrev path_cmp : List ℕ → List ℕ → Ordering
+abbrev pub path_cmp : List ℕ → List ℕ → Ordering
 path_cmp = slice_cmp nat_cmp
 
 same : (p : List ℕ) → bytes_eq p p ≡ true
 same p = (bytes_decides p p).1 refl
 
 -- two paths that compare equal are one
-equal_is : (p q : List ℕ) → path_cmp p q ≡ Equal → p ≡ q
+pub equal_is : (p q : List ℕ) → path_cmp p q ≡ Equal → p ≡ q
 equal_is p q e = (bytes_decides p q).0 (texts_ties p q ∙ ap is_eq e)
 
 differs : (p q : List ℕ) → (p ≢ q) → bytes_eq p q ≡ false
@@ -24,10 +25,13 @@ differs p q n = by (bytes_eq p q) refl
     by true e = absurd (n ((bytes_decides p q).0 e))
     by false e = refl
 
-less_differs : (p q : List ℕ) → path_cmp p q ≡ Less → bytes_eq p q ≡ false
+pub less_differs : (p q : List ℕ) → path_cmp p q ≡ Less → bytes_eq p q ≡ false
 less_differs p q e = texts_ties p q ∙ ap is_eq e
 
-greater_is : (p q : List ℕ) → path_cmp p q ≡ Greater → path_cmp q p ≡ Less
+pub less_is : (p q : List ℕ) → path_cmp p q ≡ Less → path_cmp q p ≡ Greater
+less_is p q e = nat_list_cmp_total.antisymm q p ∙ ap ordering_reverse e
+
+pub greater_is : (p q : List ℕ) → path_cmp p q ≡ Greater → path_cmp q p ≡ Less
 greater_is p q e = nat_list_cmp_total.antisymm q p ∙ ap ordering_reverse e
 
 -- a put sets its file
@@ -64,11 +68,22 @@ put_keeps path bytes (f ∷ fs) q n = by (path_cmp path f.0) refl (put_keeps pat
         rw other refl
     by Greater e r = ap (cond (bytes_eq f.0 q) (Some f.1)) r
 
--- a put below all other paths of a tree is the last file
+-- a put above all paths of a part goes behind it
+pub put_behind : (path bytes : List ℕ) (files more : List File) → AllBelow path (map (λ f. f.0) files) → put_file path bytes (files ++ more) ≡ files ++ put_file path bytes more
+put_behind path bytes [] more h = refl
+put_behind path bytes (f ∷ fs) more h =
+    let behind : path_cmp path f.0 ≡ Greater = less_is f.0 path h.0 in
+    rw behind (ap (λ rest. f ∷ rest) (put_behind path bytes fs more h.1))
+
+-- a put of the first path
+pub put_here : (bytes : List ℕ) (f : File) (files : List File) → put_file f.0 bytes (f ∷ files) ≡ (f.0, bytes) ∷ files
+put_here bytes f files = rw (tied_itself nat_list_cmp_total f.0) refl
+
+-- a put above all other paths of a tree is the last file
 pub put_last : (path bytes : List ℕ) (files : List File) → AllBelow path (map (λ f. f.0) files) → put_file path bytes files ≡ files ++ (path, bytes) ∷ []
 put_last path bytes [] h = refl
 put_last path bytes (f ∷ fs) h =
-    let behind : path_cmp path f.0 ≡ Greater = nat_list_cmp_total.antisymm path f.0 ∙ ap ordering_reverse h.0 in
+    let behind : path_cmp path f.0 ≡ Greater = less_is f.0 path h.0 in
     rw behind (ap (λ rest. f ∷ rest) (put_last path bytes fs h.1))
 
 -- a put keeps the order

@@ -6,3 +6,4 @@ pub mod Machine
 pub mod Memory
 pub mod OwnerJobs
 pub mod Work
+pub mod Fails

@@ -15,7 +15,7 @@ use Rattle.php_meaning.specs.Differences.{ByVersion, Alike, Differs}
 use Rattle.php_meaning.specs.names.Tables.{Tables, declaration_at}
 use Rattle.php_meaning.specs.names.Tables as table
 use Rattle.php_meaning.specs.runs.World.{Bytes, Store}
-use Rattle.php_meaning.specs.runs.Stores.{cells_of, next_cell, object_at}
+use Rattle.php_meaning.specs.runs.Stores.{cells_of, next_cell, object_at, walking, walked_over}
 use Rattle.php_meaning.specs.runs.Locations.{Change, Changed, Refused, written, shared_at, bound_at, changed_at, shared_element, front, last_of}
 use Rattle.php_meaning.specs.runs.Script.{
   Way,
@@ -31,6 +31,7 @@ use Rattle.php_meaning.specs.runs.Script.{
   InCell,
   InProperty,
   InStatic,
+  InValue,
   Location,
   Out,
   Val,
@@ -41,6 +42,7 @@ use Rattle.php_meaning.specs.runs.Script.{
   Read,
   Quiet,
   Top,
+  Early,
   Later,
   Left,
   Behind,
@@ -121,9 +123,7 @@ use Rattle.php_meaning.specs.statements.Loops.{
   foreach,
 }
 use Rattle.php_meaning.specs.classes.Types.{of_form, of_type, passes, type_form}
-use Rattle.php_meaning.specs.classes.Properties.{is_nothing, Found, found_then, property_found, property_base, property_base_then, properties_at}
-use Rattle.php_meaning.specs.classes.Lines.{is_a}
-use Rattle.php_meaning.specs.classes.Declaring.{is_listed, exception_properties}
+use Rattle.php_meaning.specs.classes.Properties.{is_barred, Found, found_then, property_found, property_base, property_base_then, properties_at}
 use Rattle.php_meaning.specs.Rules.{rule}
 use Rattle.loop_turns.specs.Laws.{is_loop}
 
@@ -261,7 +261,7 @@ module _ (p : ℕ → Bool) where
         → Safe b (found_then t site n name unseen k)
     found_safe b n name unseen k h g = λ s.
         cond_safe b
-        (is_nothing name || (is_listed name exception_properties && is_a t s (object_at s.objects n).class (codes "Throwable"))) (Stop NoRule)
+        (is_barred t s (object_at s.objects n).class name) (Stop NoRule)
         (elim (property_found t s site (object_at s.objects n).class name) as (λ r. Script) [ None ↦ unseen | Some a ↦ k a ]) tt
         (option_safe b (property_found t s site (object_at s.objects n).class name) unseen k h g)
 
@@ -280,6 +280,7 @@ module _ (p : ℕ → Bool) where
     root_safe b (InCell c typing) k h = h (Made c typing)
     root_safe b (InProperty v name) k h = base_safe b v name k h
     root_safe b (InStatic class name d) k h = λ s. h (static_base class name d s)
+    root_safe b (InValue v) k h = tt
 
     part_safe : (b : Bool) (os : List (Option Value)) (x : Base) (k : Script) → Safe b k → Safe b (unless_part os x k)
     part_safe b [] x k h = h
@@ -322,6 +323,7 @@ module _ (p : ℕ → Bool) where
     bind_root_safe b (InCell d typing) c k h = tt
     bind_root_safe b (InProperty v name) c k h = tt
     bind_root_safe b (InStatic class name d) c k h = tt
+    bind_root_safe b (InValue v) c k h = tt
 
     bind_safe : (b : Bool) (l : Location) (c : Cell) (k : Script) → Safe b k → Safe b (bind (properties_at t site) site l c k)
     bind_safe b l c k h =
@@ -470,9 +472,10 @@ module _ (p : ℕ → Bool) where
 
   foreach_safe : (t : Tables) (site : Site) (f : Form) → Safe true (foreach (properties_at t site) site f)
   foreach_safe t site f =
-      let begun : Cell → Script = λ c. Run (Again (Behind c None)) Give in
+      let begun : Cell → Script =
+      λ c. Look (λ st. Put (walking c st) (Run (Again (Behind c None)) (λ o. Look (λ u. Put (walked_over c u) (Give o))))) in
       cond_safe true (by_reference f) (child_location 0 (λ l. cell_then (properties_at t site) site Unnamed l begun)) (Run (Kid 0 Read) (kept_then foreach_over))
-      (located_safe true 0 (λ l. cell_then (properties_at t site) site Unnamed l begun) (λ l. cell_safe t site true Unnamed l begun (λ c. again_safe (Behind c None) refl)))
+      (located_safe true 0 (λ l. cell_then (properties_at t site) site Unnamed l begun) (λ l. cell_safe t site true Unnamed l begun (λ c st. ((refl, refl), λ o u. tt))))
       (tt, λ o. kept_then_safe true foreach_over over_safe o)
 
   -- ---- the rules of loops
@@ -488,6 +491,7 @@ module _ (p : ℕ → Bool) where
     while_rule e Read = while_safe f e
     while_rule e Quiet = while_safe f e
     while_rule e Top = while_safe f e
+    while_rule e Early = while_safe f e
     while_rule e Later = while_safe f e
     while_rule e m = tt
 
@@ -495,6 +499,7 @@ module _ (p : ℕ → Bool) where
     do_rule e Read = do_safe e
     do_rule e Quiet = do_safe e
     do_rule e Top = do_safe e
+    do_rule e Early = do_safe e
     do_rule e Later = do_safe e
     do_rule e m = tt
 
@@ -502,6 +507,7 @@ module _ (p : ℕ → Bool) where
     for_rule e Read = for_first_safe f e
     for_rule e Quiet = for_first_safe f e
     for_rule e Top = for_first_safe f e
+    for_rule e Early = for_first_safe f e
     for_rule e Later = for_later_safe f e
     for_rule e m = tt
 
@@ -515,6 +521,7 @@ module _ (p : ℕ → Bool) where
     foreach_first e Read = foreach_safe t s f
     foreach_first e Quiet = foreach_safe t s f
     foreach_first e Top = foreach_safe t s f
+    foreach_first e Early = foreach_safe t s f
     foreach_first e (Left es) = raise false (foreach_pass (properties_at t s) s f es) (left_safe t s f e es)
     foreach_first e (Behind c met) = λ st. raise false (foreach_behind (properties_at t s) s f c met (st.held c)) (behind_safe t s f e c met (st.held c))
     foreach_first e m = tt

@@ -3,6 +3,7 @@ use Rattle.std.proofs.Common.{[], refl, codes}
 use Rattle.php_tree.specs.declared.token.TokenKind.TheVariants as token
 use Rattle.php_tree.specs.declared.kind.NodeKind.TheVariants as kind
 use Rattle.php_tree.specs.Tree.{Forest, none, node}
+use Rattle.builtin_tables.specs.Beyond.{beyond_functions, beyond_classes, beyond_constants}
 use Rattle.builtin_tables.specs.Builtins.{builtin_rows}
 use Rattle.builtin_tables.specs.Constants.{named_constants, word_constants}
 use Rattle.builtin_tables.specs.Named.{is_same_name}
@@ -22,7 +23,7 @@ function_of_8_0_tree =
 function_of_8_0 : Comes 200 (file function_of_8_0_tree) (file function_of_8_0_tree) (codes "a.php")
     ((codes ""), outside Declaration)
     ((codes ""), outside Declaration)
-unfolding builtin_rows named_constants word_constants is_same_name newer_functions newer_classes newer_constants
+unfolding builtin_rows named_constants word_constants is_same_name newer_functions newer_classes newer_constants beyond_functions beyond_classes beyond_constants
 function_of_8_0 = (refl, refl)
 
 -- <?php echo 1; if (true) { function JSON_validate() {} }
@@ -37,7 +38,7 @@ function_of_8_3_tree =
 function_of_8_3 : Comes 200 (file function_of_8_3_tree) (file function_of_8_3_tree) (codes "a.php")
     ((codes "1"), outside Declaration)
     ((codes "1"), outside Declaration)
-unfolding builtin_rows named_constants word_constants is_same_name newer_functions newer_classes newer_constants
+unfolding builtin_rows named_constants word_constants is_same_name newer_functions newer_classes newer_constants beyond_functions beyond_classes beyond_constants
 function_of_8_3 = (refl, refl)
 
 -- <?php namespace N; function str_contains($a, $b) { return "own"; } echo str_contains(1, 2);
@@ -55,7 +56,7 @@ function_of_8_0_in_a_namespace_tree =
 function_of_8_0_in_a_namespace : Comes 200 (file function_of_8_0_in_a_namespace_tree) (file function_of_8_0_in_a_namespace_tree) (codes "a.php")
     ((codes "own"), ended)
     ((codes "own"), ended)
-unfolding builtin_rows named_constants word_constants is_same_name newer_functions newer_classes newer_constants
+unfolding builtin_rows named_constants word_constants is_same_name newer_functions newer_classes newer_constants beyond_functions beyond_classes beyond_constants
 function_of_8_0_in_a_namespace = (refl, refl)
 
 -- <?php namespace N; function StrLen($a) { return 1; }
@@ -70,7 +71,7 @@ function_of_7_4_tree =
 function_of_7_4 : Comes 200 (file function_of_7_4_tree) (file function_of_7_4_tree) (codes "a.php")
     ((codes ""), outside Declaration)
     ((codes ""), outside Declaration)
-unfolding builtin_rows named_constants word_constants is_same_name newer_functions newer_classes newer_constants
+unfolding builtin_rows named_constants word_constants is_same_name newer_functions newer_classes newer_constants beyond_functions beyond_classes beyond_constants
 function_of_7_4 = (refl, refl)
 
 -- <?php class Attribute {} echo 1;
@@ -83,7 +84,7 @@ class_of_8_0_tree =
 class_of_8_0 : Comes 200 (file class_of_8_0_tree) (file class_of_8_0_tree) (codes "a.php")
     ((codes ""), outside Declaration)
     ((codes ""), outside Declaration)
-unfolding builtin_rows named_constants word_constants is_same_name newer_functions newer_classes newer_constants
+unfolding builtin_rows named_constants word_constants is_same_name newer_functions newer_classes newer_constants beyond_functions beyond_classes beyond_constants
 class_of_8_0 = (refl, refl)
 
 -- <?php echo 1; if (true) { interface Stringable {} }
@@ -97,7 +98,7 @@ interface_of_8_0_tree =
 interface_of_8_0 : Comes 200 (file interface_of_8_0_tree) (file interface_of_8_0_tree) (codes "a.php")
     ((codes "1"), outside Declaration)
     ((codes "1"), outside Declaration)
-unfolding builtin_rows named_constants word_constants is_same_name newer_functions newer_classes newer_constants
+unfolding builtin_rows named_constants word_constants is_same_name newer_functions newer_classes newer_constants beyond_functions beyond_classes beyond_constants
 interface_of_8_0 = (refl, refl)
 
 -- <?php namespace Random; class Randomizer {}
@@ -110,7 +111,7 @@ class_of_8_2_tree =
 class_of_8_2 : Comes 200 (file class_of_8_2_tree) (file class_of_8_2_tree) (codes "a.php")
     ((codes ""), outside Declaration)
     ((codes ""), outside Declaration)
-unfolding builtin_rows named_constants word_constants is_same_name newer_functions newer_classes newer_constants
+unfolding builtin_rows named_constants word_constants is_same_name newer_functions newer_classes newer_constants beyond_functions beyond_classes beyond_constants
 class_of_8_2 = (refl, refl)
 
 -- <?php class LogicException {}
@@ -122,7 +123,7 @@ class_of_exceptions_tree =
 class_of_exceptions : Comes 200 (file class_of_exceptions_tree) (file class_of_exceptions_tree) (codes "a.php")
     ((codes ""), outside Declaration)
     ((codes ""), outside Declaration)
-unfolding builtin_rows named_constants word_constants is_same_name newer_functions newer_classes newer_constants
+unfolding builtin_rows named_constants word_constants is_same_name newer_functions newer_classes newer_constants beyond_functions beyond_classes beyond_constants
 class_of_exceptions = (refl, refl)
 
 -- <?php class StdClass {}
@@ -134,7 +135,7 @@ class_without_a_class_tree =
 class_without_a_class : Comes 200 (file class_without_a_class_tree) (file class_without_a_class_tree) (codes "a.php")
     ((codes ""), outside Declaration)
     ((codes ""), outside Declaration)
-unfolding builtin_rows named_constants word_constants is_same_name newer_functions newer_classes newer_constants
+unfolding builtin_rows named_constants word_constants is_same_name newer_functions newer_classes newer_constants beyond_functions beyond_classes beyond_constants
 class_without_a_class = (refl, refl)
 
 -- <?php const T_ENUM = 1;
@@ -146,7 +147,7 @@ constant_of_8_1_tree =
 constant_of_8_1 : Comes 200 (file constant_of_8_1_tree) (file constant_of_8_1_tree) (codes "a.php")
     ((codes ""), outside Declaration)
     ((codes ""), outside Declaration)
-unfolding builtin_rows named_constants word_constants is_same_name newer_functions newer_classes newer_constants
+unfolding builtin_rows named_constants word_constants is_same_name newer_functions newer_classes newer_constants beyond_functions beyond_classes beyond_constants
 constant_of_8_1 = (refl, refl)
 
 -- <?php echo 1; define("T_MATCH", 2);
@@ -160,7 +161,7 @@ constant_of_8_0_defined_tree =
 constant_of_8_0_defined : Comes 200 (file constant_of_8_0_defined_tree) (file constant_of_8_0_defined_tree) (codes "a.php")
     ((codes "1"), outside Declaration)
     ((codes "1"), outside Declaration)
-unfolding builtin_rows named_constants word_constants is_same_name newer_functions newer_classes newer_constants
+unfolding builtin_rows named_constants word_constants is_same_name newer_functions newer_classes newer_constants beyond_functions beyond_classes beyond_constants
 constant_of_8_0_defined = (refl, refl)
 
 -- <?php namespace N; const E_ALL2 = 1, PHP_EOL = 2;
@@ -174,7 +175,7 @@ constant_of_7_4_tree =
 constant_of_7_4 : Comes 200 (file constant_of_7_4_tree) (file constant_of_7_4_tree) (codes "a.php")
     ((codes ""), outside Declaration)
     ((codes ""), outside Declaration)
-unfolding builtin_rows named_constants word_constants is_same_name newer_functions newer_classes newer_constants
+unfolding builtin_rows named_constants word_constants is_same_name newer_functions newer_classes newer_constants beyond_functions beyond_classes beyond_constants
 constant_of_7_4 = (refl, refl)
 
 -- <?php class E extends Exception { protected int $line = 1; }
@@ -188,7 +189,7 @@ line_of_an_exception_typed_tree =
 line_of_an_exception_typed : Comes 200 (file line_of_an_exception_typed_tree) (file line_of_an_exception_typed_tree) (codes "a.php")
     ((codes ""), outside Declaration)
     ((codes ""), outside Declaration)
-unfolding builtin_rows named_constants word_constants is_same_name newer_functions newer_classes newer_constants
+unfolding builtin_rows named_constants word_constants is_same_name newer_functions newer_classes newer_constants beyond_functions beyond_classes beyond_constants
 line_of_an_exception_typed = (refl, refl)
 
 -- <?php echo 1; if (true) { class E extends Error { protected $message = "m"; } }
@@ -204,7 +205,7 @@ message_of_an_exception_declared_tree =
 message_of_an_exception_declared : Comes 200 (file message_of_an_exception_declared_tree) (file message_of_an_exception_declared_tree) (codes "a.php")
     ((codes "1"), outside Declaration)
     ((codes "1"), outside Declaration)
-unfolding builtin_rows named_constants word_constants is_same_name newer_functions newer_classes newer_constants
+unfolding builtin_rows named_constants word_constants is_same_name newer_functions newer_classes newer_constants beyond_functions beyond_classes beyond_constants
 message_of_an_exception_declared = (refl, refl)
 
 -- <?php class E extends ErrorException { protected int $severity = 1; }
@@ -218,7 +219,7 @@ severity_typed_tree =
 severity_typed : Comes 200 (file severity_typed_tree) (file severity_typed_tree) (codes "a.php")
     ((codes ""), outside Declaration)
     ((codes ""), outside Declaration)
-unfolding builtin_rows named_constants word_constants is_same_name newer_functions newer_classes newer_constants
+unfolding builtin_rows named_constants word_constants is_same_name newer_functions newer_classes newer_constants beyond_functions beyond_classes beyond_constants
 severity_typed = (refl, refl)
 
 -- <?php class E extends Exception { function m() { return $this->message; } } $e = new E("m"); echo 1, $e->m();
@@ -239,7 +240,7 @@ message_of_an_exception_read_tree =
 message_of_an_exception_read : Comes 200 (file message_of_an_exception_read_tree) (file message_of_an_exception_read_tree) (codes "a.php")
     ((codes "1"), outside NoRule)
     ((codes "1"), outside NoRule)
-unfolding builtin_rows named_constants word_constants is_same_name newer_functions newer_classes newer_constants
+unfolding builtin_rows named_constants word_constants is_same_name newer_functions newer_classes newer_constants beyond_functions beyond_classes beyond_constants
 message_of_an_exception_read = (refl, refl)
 
 -- <?php echo 1; new Exception("m", "5");
@@ -253,7 +254,7 @@ code_that_is_a_text_tree =
 code_that_is_a_text : Comes 200 (file code_that_is_a_text_tree) (file code_that_is_a_text_tree) (codes "a.php")
     ((codes "1"), outside Call)
     ((codes "1"), outside Call)
-unfolding builtin_rows named_constants word_constants is_same_name newer_functions newer_classes newer_constants
+unfolding builtin_rows named_constants word_constants is_same_name newer_functions newer_classes newer_constants beyond_functions beyond_classes beyond_constants
 code_that_is_a_text = (refl, refl)
 
 -- <?php echo 1; throw new LogicException("m", null);
@@ -268,7 +269,7 @@ code_that_is_null_tree =
 code_that_is_null : Comes 200 (file code_that_is_null_tree) (file code_that_is_null_tree) (codes "a.php")
     ((codes "1"), outside Call)
     ((codes "1"), outside Call)
-unfolding builtin_rows named_constants word_constants is_same_name newer_functions newer_classes newer_constants
+unfolding builtin_rows named_constants word_constants is_same_name newer_functions newer_classes newer_constants beyond_functions beyond_classes beyond_constants
 code_that_is_null = (refl, refl)
 
 -- <?php try { throw new RuntimeException("m", 5); } catch (Exception $e) { echo $e->getMessage(), $e->getCode(); }
@@ -288,7 +289,7 @@ code_that_is_an_int_tree =
 code_that_is_an_int : Comes 200 (file code_that_is_an_int_tree) (file code_that_is_an_int_tree) (codes "a.php")
     ((codes "m5"), ended)
     ((codes "m5"), ended)
-unfolding builtin_rows named_constants word_constants is_same_name newer_functions newer_classes newer_constants
+unfolding builtin_rows named_constants word_constants is_same_name newer_functions newer_classes newer_constants beyond_functions beyond_classes beyond_constants
 code_that_is_an_int = (refl, refl)
 
 -- <?php $s = "abc"; echo isset($s[1]) ? 1 : 2, isset($s["1"]) ? 1 : 2, isset($s[5]) ? 1 : 2; echo isset($s[true]) ? 1 : 2;
@@ -316,7 +317,7 @@ isset_at_true_of_a_text_tree =
 isset_at_true_of_a_text : Comes 200 (file isset_at_true_of_a_text_tree) (file isset_at_true_of_a_text_tree) (codes "a.php")
     ((codes "112"), outside Offset)
     ((codes "112"), outside Offset)
-unfolding builtin_rows named_constants word_constants is_same_name newer_functions newer_classes newer_constants
+unfolding builtin_rows named_constants word_constants is_same_name newer_functions newer_classes newer_constants beyond_functions beyond_classes beyond_constants
 isset_at_true_of_a_text = (refl, refl)
 
 -- <?php $s = "abc"; echo 1; echo isset($s["x"]) ? 1 : 2;
@@ -333,7 +334,7 @@ isset_at_a_word_of_a_text_tree =
 isset_at_a_word_of_a_text : Comes 200 (file isset_at_a_word_of_a_text_tree) (file isset_at_a_word_of_a_text_tree) (codes "a.php")
     ((codes "1"), outside Offset)
     ((codes "1"), outside Offset)
-unfolding builtin_rows named_constants word_constants is_same_name newer_functions newer_classes newer_constants
+unfolding builtin_rows named_constants word_constants is_same_name newer_functions newer_classes newer_constants beyond_functions beyond_classes beyond_constants
 isset_at_a_word_of_a_text = (refl, refl)
 
 -- <?php $s = "abc"; echo $s["-1"] ?? "none"; echo $s[null] ?? "none";
@@ -351,7 +352,7 @@ coalesce_at_null_of_a_text_tree =
 coalesce_at_null_of_a_text : Comes 200 (file coalesce_at_null_of_a_text_tree) (file coalesce_at_null_of_a_text_tree) (codes "a.php")
     ((codes "c"), outside Offset)
     ((codes "c"), outside Offset)
-unfolding builtin_rows named_constants word_constants is_same_name newer_functions newer_classes newer_constants
+unfolding builtin_rows named_constants word_constants is_same_name newer_functions newer_classes newer_constants beyond_functions beyond_classes beyond_constants
 coalesce_at_null_of_a_text = (refl, refl)
 
 -- <?php $s = "a0"; echo empty($s[1]) ? 1 : 2; echo empty($s[" 1"]) ? 1 : 2;
@@ -372,7 +373,7 @@ empty_at_blanks_of_a_text_tree =
 empty_at_blanks_of_a_text : Comes 200 (file empty_at_blanks_of_a_text_tree) (file empty_at_blanks_of_a_text_tree) (codes "a.php")
     ((codes "1"), outside Offset)
     ((codes "1"), outside Offset)
-unfolding builtin_rows named_constants word_constants is_same_name newer_functions newer_classes newer_constants
+unfolding builtin_rows named_constants word_constants is_same_name newer_functions newer_classes newer_constants beyond_functions beyond_classes beyond_constants
 empty_at_blanks_of_a_text = (refl, refl)
 
 -- <?php class A { private $p = 1; protected $q = 2; private static $s = 3; static $t = 4; function t() { return
@@ -422,7 +423,7 @@ isset_of_what_may_not_be_seen_tree =
 isset_of_what_may_not_be_seen : Comes 200 (file isset_of_what_may_not_be_seen_tree) (file isset_of_what_may_not_be_seen_tree) (codes "a.php")
     ((codes "21none2none1none1"), ended)
     ((codes "21none2none1none1"), ended)
-unfolding builtin_rows named_constants word_constants is_same_name newer_functions newer_classes newer_constants
+unfolding builtin_rows named_constants word_constants is_same_name newer_functions newer_classes newer_constants beyond_functions beyond_classes beyond_constants
 isset_of_what_may_not_be_seen = (refl, refl)
 
 -- <?php function f($a = 1, $b) { return $a . $b; } echo f(2, 3); function g(int $a = null, $b) { return ($a ?? "null") . $b; } echo g(null, 4);
@@ -450,7 +451,7 @@ default_before_a_required_one_tree =
 default_before_a_required_one : Comes 200 (file default_before_a_required_one_tree) (file default_before_a_required_one_tree) (codes "a.php")
     ((codes "23null4"), ended)
     ((codes "23null4"), ended)
-unfolding builtin_rows named_constants word_constants is_same_name newer_functions newer_classes newer_constants
+unfolding builtin_rows named_constants word_constants is_same_name newer_functions newer_classes newer_constants beyond_functions beyond_classes beyond_constants
 default_before_a_required_one = (refl, refl)
 
 -- <?php function f($a = 1, $b) { return $a . $b; } echo 1; f();
@@ -468,7 +469,7 @@ default_before_a_required_one_taken_tree =
 default_before_a_required_one_taken : Comes 200 (file default_before_a_required_one_taken_tree) (file default_before_a_required_one_taken_tree) (codes "a.php")
     ((codes "1"), outside Call)
     ((codes "1"), outside Call)
-unfolding builtin_rows named_constants word_constants is_same_name newer_functions newer_classes newer_constants
+unfolding builtin_rows named_constants word_constants is_same_name newer_functions newer_classes newer_constants beyond_functions beyond_classes beyond_constants
 default_before_a_required_one_taken = (refl, refl)
 
 -- <?php foreach ([1, 2] as $x) { try { echo $x; } finally { foreach ([3, 4] as $y) { if ($y == 4) break; echo $y; } } }
@@ -493,7 +494,7 @@ break_inside_finally_tree =
 break_inside_finally : Comes 200 (file break_inside_finally_tree) (file break_inside_finally_tree) (codes "a.php")
     ((codes "1323"), ended)
     ((codes "1323"), ended)
-unfolding builtin_rows named_constants word_constants is_same_name newer_functions newer_classes newer_constants
+unfolding builtin_rows named_constants word_constants is_same_name newer_functions newer_classes newer_constants beyond_functions beyond_classes beyond_constants
 break_inside_finally = (refl, refl)
 
 -- <?php foreach ([1, 2] as $x) { try { echo $x; } finally { break; } }
@@ -511,7 +512,7 @@ break_out_of_finally_tree =
 break_out_of_finally : Comes 200 (file break_out_of_finally_tree) (file break_out_of_finally_tree) (codes "a.php")
     ((codes "1"), outside NoRule)
     ((codes "1"), outside NoRule)
-unfolding builtin_rows named_constants word_constants is_same_name newer_functions newer_classes newer_constants
+unfolding builtin_rows named_constants word_constants is_same_name newer_functions newer_classes newer_constants beyond_functions beyond_classes beyond_constants
 break_out_of_finally = (refl, refl)
 
 -- <?php foreach ([1, 2] as $x) { try { throw new Error; } finally { echo $x; continue; } }
@@ -530,7 +531,7 @@ continue_out_of_finally_tree =
 continue_out_of_finally : Comes 200 (file continue_out_of_finally_tree) (file continue_out_of_finally_tree) (codes "a.php")
     ((codes "1"), outside NoRule)
     ((codes "1"), outside NoRule)
-unfolding builtin_rows named_constants word_constants is_same_name newer_functions newer_classes newer_constants
+unfolding builtin_rows named_constants word_constants is_same_name newer_functions newer_classes newer_constants beyond_functions beyond_classes beyond_constants
 continue_out_of_finally = (refl, refl)
 
 -- <?php $a = [1, 2]; $r = &$a[0]; $r = 5; echo count($a), implode(",", $a), count(array_keys($a)), is_array($a) ? 1 : 2, array_key_exists(0, $a) ? 1 : 2;
@@ -561,7 +562,7 @@ builtins_copy_nothing_tree =
 builtins_copy_nothing : Comes 200 (file builtins_copy_nothing_tree) (file builtins_copy_nothing_tree) (codes "a.php")
     ((codes "25,2211"), ended)
     ((codes "25,2211"), ended)
-unfolding builtin_rows named_constants word_constants is_same_name newer_functions newer_classes newer_constants
+unfolding builtin_rows named_constants word_constants is_same_name newer_functions newer_classes newer_constants beyond_functions beyond_classes beyond_constants
 builtins_copy_nothing = (refl, refl)
 
 -- <?php $x = 1; echo $x; $GLOBALS = [];
@@ -576,7 +577,7 @@ globals_as_a_whole_tree =
 globals_as_a_whole : Comes 200 (file globals_as_a_whole_tree) (file globals_as_a_whole_tree) (codes "a.php")
     ((codes "1"), outside NoRule)
     ((codes "1"), outside NoRule)
-unfolding builtin_rows named_constants word_constants is_same_name newer_functions newer_classes newer_constants
+unfolding builtin_rows named_constants word_constants is_same_name newer_functions newer_classes newer_constants beyond_functions beyond_classes beyond_constants
 globals_as_a_whole = (refl, refl)
 
 -- <?php echo 1; $g = &$GLOBALS;
@@ -589,7 +590,7 @@ globals_referred_to_tree =
 globals_referred_to : Comes 200 (file globals_referred_to_tree) (file globals_referred_to_tree) (codes "a.php")
     ((codes "1"), outside NoRule)
     ((codes "1"), outside NoRule)
-unfolding builtin_rows named_constants word_constants is_same_name newer_functions newer_classes newer_constants
+unfolding builtin_rows named_constants word_constants is_same_name newer_functions newer_classes newer_constants beyond_functions beyond_classes beyond_constants
 globals_referred_to = (refl, refl)
 
 -- <?php $x = 1; echo $x; echo $GLOBALS["x"];
@@ -604,7 +605,7 @@ globals_read_tree =
 globals_read : Comes 200 (file globals_read_tree) (file globals_read_tree) (codes "a.php")
     ((codes "1"), outside NoRule)
     ((codes "1"), outside NoRule)
-unfolding builtin_rows named_constants word_constants is_same_name newer_functions newer_classes newer_constants
+unfolding builtin_rows named_constants word_constants is_same_name newer_functions newer_classes newer_constants beyond_functions beyond_classes beyond_constants
 globals_read = (refl, refl)
 
 -- <?php echo 1; echo "$GLOBALS[x]";
@@ -618,7 +619,7 @@ globals_in_a_text_tree =
 globals_in_a_text : Comes 200 (file globals_in_a_text_tree) (file globals_in_a_text_tree) (codes "a.php")
     ((codes "1"), outside NoRule)
     ((codes "1"), outside NoRule)
-unfolding builtin_rows named_constants word_constants is_same_name newer_functions newer_classes newer_constants
+unfolding builtin_rows named_constants word_constants is_same_name newer_functions newer_classes newer_constants beyond_functions beyond_classes beyond_constants
 globals_in_a_text = (refl, refl)
 
 -- <?php echo 1; echo $_SERVER["argc"] ?? 0;
@@ -632,7 +633,7 @@ server_read_tree =
 server_read : Comes 200 (file server_read_tree) (file server_read_tree) (codes "a.php")
     ((codes "1"), outside NoRule)
     ((codes "1"), outside NoRule)
-unfolding builtin_rows named_constants word_constants is_same_name newer_functions newer_classes newer_constants
+unfolding builtin_rows named_constants word_constants is_same_name newer_functions newer_classes newer_constants beyond_functions beyond_classes beyond_constants
 server_read = (refl, refl)
 
 -- <?php $i = 1; $j = 2; function g() { global $j; $j = 5; return 1; } echo $i + $j++, $i . g(), $i == ($j = 1) ? 1 :
@@ -677,7 +678,7 @@ late_without_a_write_tree =
 late_without_a_write : Comes 200 (file late_without_a_write_tree) (file late_without_a_write_tree) (codes "a.php")
     ((codes "31111172"), ended)
     ((codes "31111172"), ended)
-unfolding builtin_rows named_constants word_constants is_same_name newer_functions newer_classes newer_constants
+unfolding builtin_rows named_constants word_constants is_same_name newer_functions newer_classes newer_constants beyond_functions beyond_classes beyond_constants
 late_without_a_write = (refl, refl)
 
 -- <?php $i = 1; echo $i; echo $i + $i++;
@@ -693,7 +694,7 @@ sum_read_late_tree =
 sum_read_late : Comes 200 (file sum_read_late_tree) (file sum_read_late_tree) (codes "a.php")
     ((codes "1"), outside Reference)
     ((codes "1"), outside Reference)
-unfolding builtin_rows named_constants word_constants is_same_name newer_functions newer_classes newer_constants
+unfolding builtin_rows named_constants word_constants is_same_name newer_functions newer_classes newer_constants beyond_functions beyond_classes beyond_constants
 sum_read_late = (refl, refl)
 
 -- <?php $i = 1; echo $i; echo $i . ($i = 2);
@@ -709,7 +710,7 @@ text_read_late_tree =
 text_read_late : Comes 200 (file text_read_late_tree) (file text_read_late_tree) (codes "a.php")
     ((codes "1"), outside Reference)
     ((codes "1"), outside Reference)
-unfolding builtin_rows named_constants word_constants is_same_name newer_functions newer_classes newer_constants
+unfolding builtin_rows named_constants word_constants is_same_name newer_functions newer_classes newer_constants beyond_functions beyond_classes beyond_constants
 text_read_late = (refl, refl)
 
 -- <?php $i = 1; echo $i; echo $i == ++$i ? 1 : 2;
@@ -726,7 +727,7 @@ comparison_read_late_tree =
 comparison_read_late : Comes 200 (file comparison_read_late_tree) (file comparison_read_late_tree) (codes "a.php")
     ((codes "1"), outside Reference)
     ((codes "1"), outside Reference)
-unfolding builtin_rows named_constants word_constants is_same_name newer_functions newer_classes newer_constants
+unfolding builtin_rows named_constants word_constants is_same_name newer_functions newer_classes newer_constants beyond_functions beyond_classes beyond_constants
 comparison_read_late = (refl, refl)
 
 -- <?php $k = [0, 0, 0]; $j = 1; echo $j; $k[$j] = ++$j;
@@ -747,7 +748,7 @@ key_read_late_tree =
 key_read_late : Comes 200 (file key_read_late_tree) (file key_read_late_tree) (codes "a.php")
     ((codes "1"), outside Reference)
     ((codes "1"), outside Reference)
-unfolding builtin_rows named_constants word_constants is_same_name newer_functions newer_classes newer_constants
+unfolding builtin_rows named_constants word_constants is_same_name newer_functions newer_classes newer_constants beyond_functions beyond_classes beyond_constants
 key_read_late = (refl, refl)
 
 -- <?php $i = 1; function g() { global $i; $i = 5; return 1; } echo $i; echo $i + g();
@@ -768,7 +769,7 @@ global_read_late_tree =
 global_read_late : Comes 200 (file global_read_late_tree) (file global_read_late_tree) (codes "a.php")
     ((codes "1"), outside Reference)
     ((codes "1"), outside Reference)
-unfolding builtin_rows named_constants word_constants is_same_name newer_functions newer_classes newer_constants
+unfolding builtin_rows named_constants word_constants is_same_name newer_functions newer_classes newer_constants beyond_functions beyond_classes beyond_constants
 global_read_late = (refl, refl)
 
 -- <?php $i = 1; echo $i; $a = [$i => $i++];
@@ -785,7 +786,7 @@ item_key_read_late_tree =
 item_key_read_late : Comes 200 (file item_key_read_late_tree) (file item_key_read_late_tree) (codes "a.php")
     ((codes "1"), outside Reference)
     ((codes "1"), outside Reference)
-unfolding builtin_rows named_constants word_constants is_same_name newer_functions newer_classes newer_constants
+unfolding builtin_rows named_constants word_constants is_same_name newer_functions newer_classes newer_constants beyond_functions beyond_classes beyond_constants
 item_key_read_late = (refl, refl)
 
 -- <?php class A { public $p; } $o = new A; echo 1; $o->p = ($o = new A);
@@ -802,9 +803,9 @@ object_read_late_tree =
     none))) (t token.Op ")" none))) none))) (t token.Semi ";" none)) none))))
 
 object_read_late : Comes 200 (file object_read_late_tree) (file object_read_late_tree) (codes "a.php")
-    ((codes "1"), outside Reference)
-    ((codes "1"), outside Reference)
-unfolding builtin_rows named_constants word_constants is_same_name newer_functions newer_classes newer_constants
+    ((codes "1"), ended)
+    ((codes "1"), ended)
+unfolding builtin_rows named_constants word_constants is_same_name newer_functions newer_classes newer_constants beyond_functions beyond_classes beyond_constants
 object_read_late = (refl, refl)
 
 -- <?php $i = 1; switch ($i) { case 2: echo 2; case $i++: echo "x"; }
@@ -822,7 +823,7 @@ subject_read_late_tree =
 subject_read_late : Comes 200 (file subject_read_late_tree) (file subject_read_late_tree) (codes "a.php")
     ((codes ""), outside Reference)
     ((codes ""), outside Reference)
-unfolding builtin_rows named_constants word_constants is_same_name newer_functions newer_classes newer_constants
+unfolding builtin_rows named_constants word_constants is_same_name newer_functions newer_classes newer_constants beyond_functions beyond_classes beyond_constants
 subject_read_late = (refl, refl)
 
 -- <?php $i = 1; echo $i; echo ($i) + $i++;
@@ -838,7 +839,7 @@ brackets_read_late_tree =
 brackets_read_late : Comes 200 (file brackets_read_late_tree) (file brackets_read_late_tree) (codes "a.php")
     ((codes "1"), outside Reference)
     ((codes "1"), outside Reference)
-unfolding builtin_rows named_constants word_constants is_same_name newer_functions newer_classes newer_constants
+unfolding builtin_rows named_constants word_constants is_same_name newer_functions newer_classes newer_constants beyond_functions beyond_classes beyond_constants
 brackets_read_late = (refl, refl)
 
 -- <?php echo 1; echo __line__;
@@ -851,7 +852,7 @@ line_in_lower_case_tree =
 line_in_lower_case : Comes 200 (file line_in_lower_case_tree) (file line_in_lower_case_tree) (codes "a.php")
     ((codes "1"), outside NoRule)
     ((codes "1"), outside NoRule)
-unfolding builtin_rows named_constants word_constants is_same_name newer_functions newer_classes newer_constants
+unfolding builtin_rows named_constants word_constants is_same_name newer_functions newer_classes newer_constants beyond_functions beyond_classes beyond_constants
 line_in_lower_case = (refl, refl)
 
 -- <?php function f() { echo 1; return __Function__; } f();
@@ -867,5 +868,5 @@ function_in_any_case_tree =
 function_in_any_case : Comes 200 (file function_in_any_case_tree) (file function_in_any_case_tree) (codes "a.php")
     ((codes "1"), outside NoRule)
     ((codes "1"), outside NoRule)
-unfolding builtin_rows named_constants word_constants is_same_name newer_functions newer_classes newer_constants
+unfolding builtin_rows named_constants word_constants is_same_name newer_functions newer_classes newer_constants beyond_functions beyond_classes beyond_constants
 function_in_any_case = (refl, refl)

@@ -3,6 +3,7 @@ use Rattle.std.proofs.Common.{refl, codes}
 use Rattle.php_tree.specs.declared.token.TokenKind.TheVariants as token
 use Rattle.php_tree.specs.declared.kind.NodeKind.TheVariants as kind
 use Rattle.php_tree.specs.Tree.{Forest, none, node}
+use Rattle.builtin_tables.specs.Beyond.{beyond_functions, beyond_classes, beyond_constants}
 use Rattle.builtin_tables.specs.Builtins.{builtin_rows}
 use Rattle.builtin_tables.specs.Constants.{named_constants, word_constants}
 use Rattle.builtin_tables.specs.Named.{is_same_name}
@@ -30,7 +31,7 @@ operators_tree =
 operators : Comes 200 (file operators_tree) (file operators_tree) (codes "a.php")
     ((codes "7-322-245-6"), ended)
     ((codes "7-322-245-6"), ended)
-unfolding builtin_rows named_constants word_constants is_same_name newer_functions newer_classes newer_constants
+unfolding builtin_rows named_constants word_constants is_same_name newer_functions newer_classes newer_constants beyond_functions beyond_classes beyond_constants
 operators = (refl, refl)
 
 -- <?php echo 'ab' | '  ', 'AB' ^ '  ', 'abc' & 'ab', 'a' | 'bcd';
@@ -46,7 +47,7 @@ bits_of_texts_tree =
 bits_of_texts : Comes 200 (file bits_of_texts_tree) (file bits_of_texts_tree) (codes "a.php")
     ((codes "abababccd"), ended)
     ((codes "abababccd"), ended)
-unfolding builtin_rows named_constants word_constants is_same_name newer_functions newer_classes newer_constants
+unfolding builtin_rows named_constants word_constants is_same_name newer_functions newer_classes newer_constants beyond_functions beyond_classes beyond_constants
 bits_of_texts = (refl, refl)
 
 -- <?php try { echo 1 << -1; } catch (ArithmeticError $e) { echo 'A'; }
@@ -62,7 +63,7 @@ negative_shift_tree =
 negative_shift : Comes 200 (file negative_shift_tree) (file negative_shift_tree) (codes "a.php")
     ((codes "A"), ended)
     ((codes "A"), ended)
-unfolding builtin_rows named_constants word_constants is_same_name newer_functions newer_classes newer_constants
+unfolding builtin_rows named_constants word_constants is_same_name newer_functions newer_classes newer_constants beyond_functions beyond_classes beyond_constants
 negative_shift = (refl, refl)
 
 -- <?php try { echo 1 % 0; } catch (DivisionByZeroError $e) { echo 'D'; }
@@ -78,7 +79,7 @@ remainder_by_zero_tree =
 remainder_by_zero : Comes 200 (file remainder_by_zero_tree) (file remainder_by_zero_tree) (codes "a.php")
     ((codes "D"), ended)
     ((codes "D"), ended)
-unfolding builtin_rows named_constants word_constants is_same_name newer_functions newer_classes newer_constants
+unfolding builtin_rows named_constants word_constants is_same_name newer_functions newer_classes newer_constants beyond_functions beyond_classes beyond_constants
 remainder_by_zero = (refl, refl)
 
 -- <?php echo 'a', 1 / 0;
@@ -91,7 +92,7 @@ quotient_by_zero_tree =
 quotient_by_zero : Comes 200 (file quotient_by_zero_tree) (file quotient_by_zero_tree) (codes "a.php")
     ((codes "a"), outside Overflow)
     ((codes "a"), outside Overflow)
-unfolding builtin_rows named_constants word_constants is_same_name newer_functions newer_classes newer_constants
+unfolding builtin_rows named_constants word_constants is_same_name newer_functions newer_classes newer_constants beyond_functions beyond_classes beyond_constants
 quotient_by_zero = (refl, refl)
 
 -- <?php echo 'a', 7 / 2;
@@ -104,7 +105,7 @@ quotient_that_is_no_int_tree =
 quotient_that_is_no_int : Comes 200 (file quotient_that_is_no_int_tree) (file quotient_that_is_no_int_tree) (codes "a.php")
     ((codes "a"), outside Overflow)
     ((codes "a"), outside Overflow)
-unfolding builtin_rows named_constants word_constants is_same_name newer_functions newer_classes newer_constants
+unfolding builtin_rows named_constants word_constants is_same_name newer_functions newer_classes newer_constants beyond_functions beyond_classes beyond_constants
 quotient_that_is_no_int = (refl, refl)
 
 -- <?php echo 'a' . 'b'; echo 1 + 'abc';
@@ -118,7 +119,7 @@ word_in_a_sum_tree =
 word_in_a_sum : Comes 200 (file word_in_a_sum_tree) (file word_in_a_sum_tree) (codes "a.php")
     ((codes "ab1"), ended)
     ((codes "ab"), outside Conversion)
-unfolding builtin_rows named_constants word_constants is_same_name newer_functions newer_classes newer_constants
+unfolding builtin_rows named_constants word_constants is_same_name newer_functions newer_classes newer_constants beyond_functions beyond_classes beyond_constants
 word_in_a_sum = (refl, refl)
 
 -- <?php $s = 'abc'; echo 1 + $s;
@@ -141,7 +142,7 @@ word_in_a_sum_rewritten_new_tree =
 word_in_a_sum_rewritten : Comes 200 (file word_in_a_sum_rewritten_tree) (file word_in_a_sum_rewritten_new_tree) (codes "a.php")
     ((codes "1"), ended)
     ((codes "1"), ended)
-unfolding builtin_rows named_constants word_constants is_same_name newer_functions newer_classes newer_constants
+unfolding builtin_rows named_constants word_constants is_same_name newer_functions newer_classes newer_constants beyond_functions beyond_classes beyond_constants
 word_in_a_sum_rewritten = (refl, refl)
 
 -- <?php echo 1 + '12abc', '3 apples' * 2, ' 4' + '5 ';
@@ -156,7 +157,7 @@ lead_in_a_sum_tree =
 lead_in_a_sum : Comes 200 (file lead_in_a_sum_tree) (file lead_in_a_sum_tree) (codes "a.php")
     ((codes "1369"), ended)
     ((codes "1369"), ended)
-unfolding builtin_rows named_constants word_constants is_same_name newer_functions newer_classes newer_constants
+unfolding builtin_rows named_constants word_constants is_same_name newer_functions newer_classes newer_constants beyond_functions beyond_classes beyond_constants
 lead_in_a_sum = (refl, refl)
 
 -- <?php echo 'x'; echo 1 + '1.5';
@@ -169,7 +170,7 @@ fraction_in_a_sum_tree =
 fraction_in_a_sum : Comes 200 (file fraction_in_a_sum_tree) (file fraction_in_a_sum_tree) (codes "a.php")
     ((codes "x"), outside Conversion)
     ((codes "x"), outside Conversion)
-unfolding builtin_rows named_constants word_constants is_same_name newer_functions newer_classes newer_constants
+unfolding builtin_rows named_constants word_constants is_same_name newer_functions newer_classes newer_constants beyond_functions beyond_classes beyond_constants
 fraction_in_a_sum = (refl, refl)
 
 -- <?php $i = PHP_INT_MAX; echo 'a'; $i = $i + 1; echo 'b';
@@ -186,7 +187,7 @@ past_64_bits_tree =
 past_64_bits : Comes 200 (file past_64_bits_tree) (file past_64_bits_tree) (codes "a.php")
     ((codes "a"), outside Overflow)
     ((codes "a"), outside Overflow)
-unfolding builtin_rows named_constants word_constants is_same_name newer_functions newer_classes newer_constants
+unfolding builtin_rows named_constants word_constants is_same_name newer_functions newer_classes newer_constants beyond_functions beyond_classes beyond_constants
 past_64_bits = (refl, refl)
 
 -- <?php $i = PHP_INT_MAX; echo 'a'; $i = $i + 1; echo 'b';
@@ -203,7 +204,7 @@ past_64_bits_two_turns_tree =
 past_64_bits_two_turns : Comes 2 (file past_64_bits_two_turns_tree) (file past_64_bits_two_turns_tree) (codes "a.php")
     ((codes "a"), Going)
     ((codes "a"), Going)
-unfolding builtin_rows named_constants word_constants is_same_name newer_functions newer_classes newer_constants
+unfolding builtin_rows named_constants word_constants is_same_name newer_functions newer_classes newer_constants beyond_functions beyond_classes beyond_constants
 past_64_bits_two_turns = (refl, refl)
 
 -- <?php foreach ([0, 1, '', '0', '00', 'a', null, [], [0], -1] as $v) { echo $v ? 't' : 'f'; }
@@ -227,7 +228,7 @@ truths_of_values_tree =
 truths_of_values : Comes 200 (file truths_of_values_tree) (file truths_of_values_tree) (codes "a.php")
     ((codes "ftffttfftt"), ended)
     ((codes "ftffttfftt"), ended)
-unfolding builtin_rows named_constants word_constants is_same_name newer_functions newer_classes newer_constants
+unfolding builtin_rows named_constants word_constants is_same_name newer_functions newer_classes newer_constants beyond_functions beyond_classes beyond_constants
 truths_of_values = (refl, refl)
 
 -- <?php echo (int)'12', (int)' 9x', (int)true, (int)null, (int)[], (int)[0], (int)'abc', (int)"5\n";
@@ -247,7 +248,7 @@ ints_of_casts_tree =
 ints_of_casts : Comes 200 (file ints_of_casts_tree) (file ints_of_casts_tree) (codes "a.php")
     ((codes "129100105"), ended)
     ((codes "129100105"), ended)
-unfolding builtin_rows named_constants word_constants is_same_name newer_functions newer_classes newer_constants
+unfolding builtin_rows named_constants word_constants is_same_name newer_functions newer_classes newer_constants beyond_functions beyond_classes beyond_constants
 ints_of_casts = (refl, refl)
 
 -- <?php echo (string)12, (string)true, '[', (string)false, (string)null, ']', (string)-5;
@@ -264,7 +265,7 @@ texts_of_casts_tree =
 texts_of_casts : Comes 200 (file texts_of_casts_tree) (file texts_of_casts_tree) (codes "a.php")
     ((codes "121[]-5"), ended)
     ((codes "121[]-5"), ended)
-unfolding builtin_rows named_constants word_constants is_same_name newer_functions newer_classes newer_constants
+unfolding builtin_rows named_constants word_constants is_same_name newer_functions newer_classes newer_constants beyond_functions beyond_classes beyond_constants
 texts_of_casts = (refl, refl)
 
 -- <?php echo count((array)null), count((array)'a'), ((array)5)[0], count((array)[1, 2]), (bool)'0' ? 't' : 'f';
@@ -287,7 +288,7 @@ arrays_of_casts_tree =
 arrays_of_casts : Comes 200 (file arrays_of_casts_tree) (file arrays_of_casts_tree) (codes "a.php")
     ((codes "0152f"), ended)
     ((codes "0152f"), ended)
-unfolding builtin_rows named_constants word_constants is_same_name newer_functions newer_classes newer_constants
+unfolding builtin_rows named_constants word_constants is_same_name newer_functions newer_classes newer_constants beyond_functions beyond_classes beyond_constants
 arrays_of_casts = (refl, refl)
 
 -- <?php $n = null; $n++; echo $n; $m = null; $m--; echo is_null($m) ? 'n' : 'x'; $b = true; $b++; echo $b; $i = 5; echo $i++ + $i, --$i;
@@ -316,7 +317,7 @@ steps_of_values_tree =
 steps_of_values : Comes 200 (file steps_of_values_tree) (file steps_of_values_tree) (codes "a.php")
     ((codes "1n1115"), ended)
     ((codes "1n1115"), ended)
-unfolding builtin_rows named_constants word_constants is_same_name newer_functions newer_classes newer_constants
+unfolding builtin_rows named_constants word_constants is_same_name newer_functions newer_classes newer_constants beyond_functions beyond_classes beyond_constants
 steps_of_values = (refl, refl)
 
 -- <?php echo true ? 'a' : 'b', null ?: 'c', 0 ?: 'd', 'e' ?: 'f', $u ?? 'g', null ?? 'h';
@@ -336,7 +337,7 @@ ternaries_tree =
 ternaries : Comes 200 (file ternaries_tree) (file ternaries_tree) (codes "a.php")
     ((codes "acdegh"), ended)
     ((codes "acdegh"), ended)
-unfolding builtin_rows named_constants word_constants is_same_name newer_functions newer_classes newer_constants
+unfolding builtin_rows named_constants word_constants is_same_name newer_functions newer_classes newer_constants beyond_functions beyond_classes beyond_constants
 ternaries = (refl, refl)
 
 -- <?php echo true ? 'a' : false ? 'b' : 'c';
@@ -360,7 +361,7 @@ nested_ternaries_new_tree =
 nested_ternaries : Comes 200 (file nested_ternaries_tree) (file nested_ternaries_new_tree) (codes "a.php")
     ((codes "b"), ended)
     ((codes "b"), ended)
-unfolding builtin_rows named_constants word_constants is_same_name newer_functions newer_classes newer_constants
+unfolding builtin_rows named_constants word_constants is_same_name newer_functions newer_classes newer_constants beyond_functions beyond_classes beyond_constants
 nested_ternaries = (refl, refl)
 
 -- <?php echo "sum: " . 1 + 2;
@@ -382,7 +383,7 @@ sum_behind_a_concatenation_new_tree =
 sum_behind_a_concatenation : Comes 200 (file sum_behind_a_concatenation_tree) (file sum_behind_a_concatenation_new_tree) (codes "a.php")
     ((codes "2"), ended)
     ((codes "2"), ended)
-unfolding builtin_rows named_constants word_constants is_same_name newer_functions newer_classes newer_constants
+unfolding builtin_rows named_constants word_constants is_same_name newer_functions newer_classes newer_constants beyond_functions beyond_classes beyond_constants
 sum_behind_a_concatenation = (refl, refl)
 
 -- <?php function f($n) { echo $n; return $n; } echo f(1) + f(2) * f(3), f(4) . f(5), [f(6), f(7)][f(0)];
@@ -410,7 +411,7 @@ left_to_right_tree =
 left_to_right : Comes 200 (file left_to_right_tree) (file left_to_right_tree) (codes "a.php")
     ((codes "123745456706"), ended)
     ((codes "123745456706"), ended)
-unfolding builtin_rows named_constants word_constants is_same_name newer_functions newer_classes newer_constants
+unfolding builtin_rows named_constants word_constants is_same_name newer_functions newer_classes newer_constants beyond_functions beyond_classes beyond_constants
 left_to_right = (refl, refl)
 
 -- <?php echo print 'a'; print('b') && print 'c'; echo 'd', 'e', @$nope, -1;
@@ -428,5 +429,5 @@ printing_tree =
 printing : Comes 200 (file printing_tree) (file printing_tree) (codes "a.php")
     ((codes "a1c1de-1"), ended)
     ((codes "a1c1de-1"), ended)
-unfolding builtin_rows named_constants word_constants is_same_name newer_functions newer_classes newer_constants
+unfolding builtin_rows named_constants word_constants is_same_name newer_functions newer_classes newer_constants beyond_functions beyond_classes beyond_constants
 printing = (refl, refl)

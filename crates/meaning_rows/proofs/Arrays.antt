@@ -3,6 +3,7 @@ use Rattle.std.proofs.Common.{refl, codes}
 use Rattle.php_tree.specs.declared.token.TokenKind.TheVariants as token
 use Rattle.php_tree.specs.declared.kind.NodeKind.TheVariants as kind
 use Rattle.php_tree.specs.Tree.{Forest, none, node}
+use Rattle.builtin_tables.specs.Beyond.{beyond_functions, beyond_classes, beyond_constants}
 use Rattle.builtin_tables.specs.Builtins.{builtin_rows}
 use Rattle.builtin_tables.specs.Constants.{named_constants, word_constants}
 use Rattle.builtin_tables.specs.Named.{is_same_name}
@@ -36,7 +37,7 @@ keys_tree =
 keys : Comes 200 (file keys_tree) (file keys_tree) (codes "a.php")
     ((codes "i1c s01b sd i2e s-0f i-5g "), ended)
     ((codes "i1c s01b sd i2e s-0f i-5g "), ended)
-unfolding builtin_rows named_constants word_constants is_same_name newer_functions newer_classes newer_constants
+unfolding builtin_rows named_constants word_constants is_same_name newer_functions newer_classes newer_constants beyond_functions beyond_classes beyond_constants
 keys = (refl, refl)
 
 -- <?php $a = [5 => 'a', 'b', 'x' => 'c', 'd', 2 => 'e', 'f']; foreach ($a as $k => $v) { echo $k, $v; } $b = []; $b[]
@@ -71,7 +72,7 @@ next_keys_tree =
 next_keys : Comes 200 (file next_keys_tree) (file next_keys_tree) (codes "a.php")
     ((codes "5a6bxc7d2e8f1"), ended)
     ((codes "5a6bxc7d2e8f1"), ended)
-unfolding builtin_rows named_constants word_constants is_same_name newer_functions newer_classes newer_constants
+unfolding builtin_rows named_constants word_constants is_same_name newer_functions newer_classes newer_constants beyond_functions beyond_classes beyond_constants
 next_keys = (refl, refl)
 
 -- <?php $a = [-5 => 'a', 'b', 'c']; echo implode(',', array_keys($a));
@@ -90,7 +91,7 @@ key_after_negative_tree =
 key_after_negative : Comes 200 (file key_after_negative_tree) (file key_after_negative_tree) (codes "a.php")
     ((codes "-5,0,1"), ended)
     ((codes "-5,-4,-3"), ended)
-unfolding builtin_rows named_constants word_constants is_same_name newer_functions newer_classes newer_constants
+unfolding builtin_rows named_constants word_constants is_same_name newer_functions newer_classes newer_constants beyond_functions beyond_classes beyond_constants
 key_after_negative = (refl, refl)
 
 -- <?php $a = [-5 => 'a', 'b', 'c']; echo implode(',', array_keys($a));
@@ -123,7 +124,7 @@ key_after_negative_rewritten_new_tree =
 key_after_negative_rewritten : Comes 200 (file key_after_negative_rewritten_tree) (file key_after_negative_rewritten_new_tree) (codes "a.php")
     ((codes "-5,0,1"), ended)
     ((codes "-5,0,1"), ended)
-unfolding builtin_rows named_constants word_constants is_same_name newer_functions newer_classes newer_constants
+unfolding builtin_rows named_constants word_constants is_same_name newer_functions newer_classes newer_constants beyond_functions beyond_classes beyond_constants
 key_after_negative_rewritten = (refl, refl)
 
 -- <?php $a = []; $a['x']['y'][] = 1; $a['x']['z'] = 2; $a[] = 3; unset($a['x']['y']); echo count($a), count($a['x']),
@@ -161,7 +162,7 @@ written_elements_tree =
 written_elements : Comes 200 (file written_elements_tree) (file written_elements_tree) (codes "a.php")
     ((codes "213v"), ended)
     ((codes "213v"), ended)
-unfolding builtin_rows named_constants word_constants is_same_name newer_functions newer_classes newer_constants
+unfolding builtin_rows named_constants word_constants is_same_name newer_functions newer_classes newer_constants beyond_functions beyond_classes beyond_constants
 written_elements = (refl, refl)
 
 -- <?php $a = [1, [2]]; $b = $a; $b[1][0] = 9; $b[] = 3; echo $a[1][0], count($a), $b[1][0], count($b); function f($x)
@@ -203,7 +204,7 @@ copies_tree =
 copies : Comes 200 (file copies_tree) (file copies_tree) (codes "a.php")
     ((codes "22931p"), ended)
     ((codes "22931p"), ended)
-unfolding builtin_rows named_constants word_constants is_same_name newer_functions newer_classes newer_constants
+unfolding builtin_rows named_constants word_constants is_same_name newer_functions newer_classes newer_constants beyond_functions beyond_classes beyond_constants
 copies = (refl, refl)
 
 -- <?php $a = [1, 2] + [7, 8, 9] + ['k' => 'v']; echo implode(',', $a), count($a); $a[] = 'n'; echo array_keys($a)[4];
@@ -230,7 +231,7 @@ unions_tree =
 unions : Comes 200 (file unions_tree) (file unions_tree) (codes "a.php")
     ((codes "1,2,9,v43"), ended)
     ((codes "1,2,9,v43"), ended)
-unfolding builtin_rows named_constants word_constants is_same_name newer_functions newer_classes newer_constants
+unfolding builtin_rows named_constants word_constants is_same_name newer_functions newer_classes newer_constants beyond_functions beyond_classes beyond_constants
 unions = (refl, refl)
 
 -- <?php $a = [1]; echo '[', @$a[5], @$a['x']['y'], ']', isset($a[5]) ? 't' : 'f', isset($a[0]) ? 't' : 'f', empty($a[0]) ? 't' : 'f', $a[7] ?? 'd';
@@ -262,7 +263,7 @@ missing_elements_tree =
 missing_elements : Comes 200 (file missing_elements_tree) (file missing_elements_tree) (codes "a.php")
     ((codes "[]ftfd"), ended)
     ((codes "[]ftfd"), ended)
-unfolding builtin_rows named_constants word_constants is_same_name newer_functions newer_classes newer_constants
+unfolding builtin_rows named_constants word_constants is_same_name newer_functions newer_classes newer_constants beyond_functions beyond_classes beyond_constants
 missing_elements = (refl, refl)
 
 -- <?php $a = [1, 2]; $r = &$a[0]; $r = 9; echo $a[0]; $x = 5; $b = [&$x, 1]; $b[0] = 7; echo $x;
@@ -290,7 +291,7 @@ references_to_elements_tree =
 references_to_elements : Comes 200 (file references_to_elements_tree) (file references_to_elements_tree) (codes "a.php")
     ((codes "97"), ended)
     ((codes "97"), ended)
-unfolding builtin_rows named_constants word_constants is_same_name newer_functions newer_classes newer_constants
+unfolding builtin_rows named_constants word_constants is_same_name newer_functions newer_classes newer_constants beyond_functions beyond_classes beyond_constants
 references_to_elements = (refl, refl)
 
 -- <?php $a = [1, 2]; foreach ($a as &$v) { $v = "x"; } unset($v); echo $a[0] == 0 ? 'y' : 'n';
@@ -313,7 +314,7 @@ loop_by_reference_tree =
 loop_by_reference : Comes 200 (file loop_by_reference_tree) (file loop_by_reference_tree) (codes "a.php")
     ((codes "y"), ended)
     ((codes "n"), ended)
-unfolding builtin_rows named_constants word_constants is_same_name newer_functions newer_classes newer_constants
+unfolding builtin_rows named_constants word_constants is_same_name newer_functions newer_classes newer_constants beyond_functions beyond_classes beyond_constants
 loop_by_reference = (refl, refl)
 
 -- <?php $a = [1, 2]; foreach ($a as &$v) { $v = "x"; } unset($v); echo $a[0] == 0 ? 'y' : 'n';
@@ -355,7 +356,7 @@ loop_by_reference_rewritten_new_tree =
 loop_by_reference_rewritten : Comes 200 (file loop_by_reference_rewritten_tree) (file loop_by_reference_rewritten_new_tree) (codes "a.php")
     ((codes "y"), ended)
     ((codes "y"), ended)
-unfolding builtin_rows named_constants word_constants is_same_name newer_functions newer_classes newer_constants
+unfolding builtin_rows named_constants word_constants is_same_name newer_functions newer_classes newer_constants beyond_functions beyond_classes beyond_constants
 loop_by_reference_rewritten = (refl, refl)
 
 -- <?php $a = [1, 2]; $n = 0; foreach ($a as &$v) { if ($n++ < 2) $a[] = $n * 10; echo $v, ' '; } unset($v); echo count($a);
@@ -383,7 +384,7 @@ loop_that_grows_tree =
 loop_that_grows : Comes 200 (file loop_that_grows_tree) (file loop_that_grows_tree) (codes "a.php")
     ((codes "1 2 10 20 4"), ended)
     ((codes "1 2 10 20 4"), ended)
-unfolding builtin_rows named_constants word_constants is_same_name newer_functions newer_classes newer_constants
+unfolding builtin_rows named_constants word_constants is_same_name newer_functions newer_classes newer_constants beyond_functions beyond_classes beyond_constants
 loop_that_grows = (refl, refl)
 
 -- <?php $a = [1, 2, 3]; foreach ($a as $k => $v) { if ($k == 0) { $a[] = 4; unset($a[1]); } echo $v; } echo count($a);
@@ -410,7 +411,7 @@ loop_over_a_copy_tree =
 loop_over_a_copy : Comes 200 (file loop_over_a_copy_tree) (file loop_over_a_copy_tree) (codes "a.php")
     ((codes "1233"), ended)
     ((codes "1233"), ended)
-unfolding builtin_rows named_constants word_constants is_same_name newer_functions newer_classes newer_constants
+unfolding builtin_rows named_constants word_constants is_same_name newer_functions newer_classes newer_constants beyond_functions beyond_classes beyond_constants
 loop_over_a_copy = (refl, refl)
 
 -- <?php foreach ([1, 2, 3] as $k => $v) { if ($v == 2) break; } echo $k, $v;
@@ -430,7 +431,7 @@ loop_keeps_its_variable_tree =
 loop_keeps_its_variable : Comes 200 (file loop_keeps_its_variable_tree) (file loop_keeps_its_variable_tree) (codes "a.php")
     ((codes "12"), ended)
     ((codes "12"), ended)
-unfolding builtin_rows named_constants word_constants is_same_name newer_functions newer_classes newer_constants
+unfolding builtin_rows named_constants word_constants is_same_name newer_functions newer_classes newer_constants beyond_functions beyond_classes beyond_constants
 loop_keeps_its_variable = (refl, refl)
 
 -- <?php foreach (['a' => [1, 2], 'b' => []] as $k => $vs) { echo $k; foreach ($vs as $v) { echo $v; } }
@@ -452,5 +453,5 @@ nested_loops_of_arrays_tree =
 nested_loops_of_arrays : Comes 200 (file nested_loops_of_arrays_tree) (file nested_loops_of_arrays_tree) (codes "a.php")
     ((codes "a12b"), ended)
     ((codes "a12b"), ended)
-unfolding builtin_rows named_constants word_constants is_same_name newer_functions newer_classes newer_constants
+unfolding builtin_rows named_constants word_constants is_same_name newer_functions newer_classes newer_constants beyond_functions beyond_classes beyond_constants
 nested_loops_of_arrays = (refl, refl)

@@ -3,6 +3,7 @@ use Rattle.std.proofs.Common.{refl, codes}
 use Rattle.php_tree.specs.declared.token.TokenKind.TheVariants as token
 use Rattle.php_tree.specs.declared.kind.NodeKind.TheVariants as kind
 use Rattle.php_tree.specs.Tree.{Forest, none, node}
+use Rattle.builtin_tables.specs.Beyond.{beyond_functions, beyond_classes, beyond_constants}
 use Rattle.builtin_tables.specs.Builtins.{builtin_rows}
 use Rattle.builtin_tables.specs.Constants.{named_constants, word_constants}
 use Rattle.builtin_tables.specs.Named.{is_same_name}
@@ -27,7 +28,7 @@ ints_of_values_tree =
 ints_of_values : Comes 200 (file ints_of_values_tree) (file ints_of_values_tree) (codes "a.php")
     ((codes "121070-5"), ended)
     ((codes "121070-5"), ended)
-unfolding builtin_rows named_constants word_constants is_same_name newer_functions newer_classes newer_constants
+unfolding builtin_rows named_constants word_constants is_same_name newer_functions newer_classes newer_constants beyond_functions beyond_classes beyond_constants
 ints_of_values = (refl, refl)
 
 -- <?php echo intval([1]);
@@ -40,7 +41,7 @@ int_of_an_array_tree =
 int_of_an_array : Comes 200 (file int_of_an_array_tree) (file int_of_an_array_tree) (codes "a.php")
     ((codes ""), outside Call)
     ((codes ""), outside Call)
-unfolding builtin_rows named_constants word_constants is_same_name newer_functions newer_classes newer_constants
+unfolding builtin_rows named_constants word_constants is_same_name newer_functions newer_classes newer_constants beyond_functions beyond_classes beyond_constants
 int_of_an_array = (refl, refl)
 
 -- <?php echo intdiv(7, 2), intdiv(-7, 2), intdiv(7, -2), intdiv(0, 5); try { intdiv(1, 0); } catch
@@ -73,7 +74,7 @@ divided_tree =
 divided : Comes 200 (file divided_tree) (file divided_tree) (codes "a.php")
     ((codes "3-3-30DA"), ended)
     ((codes "3-3-30DA"), ended)
-unfolding builtin_rows named_constants word_constants is_same_name newer_functions newer_classes newer_constants
+unfolding builtin_rows named_constants word_constants is_same_name newer_functions newer_classes newer_constants beyond_functions beyond_classes beyond_constants
 divided = (refl, refl)
 
 -- <?php function k($v) { echo is_int($v) ? 'i' : '-', is_string($v) ? 's' : '-', is_array($v) ? 'a' : '-',
@@ -116,7 +117,7 @@ kinds_tree =
 kinds : Comes 200 (file kinds_tree) (file kinds_tree) (codes "a.php")
     ((codes "i----- -s---- --a--- ---n-- ----b- ------ "), ended)
     ((codes "i----- -s---- --a--- ---n-- ----b- ------ "), ended)
-unfolding builtin_rows named_constants word_constants is_same_name newer_functions newer_classes newer_constants
+unfolding builtin_rows named_constants word_constants is_same_name newer_functions newer_classes newer_constants beyond_functions beyond_classes beyond_constants
 kinds = (refl, refl)
 
 -- <?php try { echo is_real(1) ? 'r' : 'n'; } catch (Error $e) { echo 'E'; }
@@ -133,7 +134,7 @@ removed_test_tree =
 removed_test : Comes 200 (file removed_test_tree) (file removed_test_tree) (codes "a.php")
     ((codes "n"), ended)
     ((codes "E"), ended)
-unfolding builtin_rows named_constants word_constants is_same_name newer_functions newer_classes newer_constants
+unfolding builtin_rows named_constants word_constants is_same_name newer_functions newer_classes newer_constants beyond_functions beyond_classes beyond_constants
 removed_test = (refl, refl)
 
 -- <?php function f() { echo 'f'; return 1; } try { is_real(f()); } catch (Error $e) { echo 'E'; }
@@ -153,7 +154,7 @@ removed_before_arguments_tree =
 removed_before_arguments : Comes 200 (file removed_before_arguments_tree) (file removed_before_arguments_tree) (codes "a.php")
     ((codes "f"), ended)
     ((codes "E"), ended)
-unfolding builtin_rows named_constants word_constants is_same_name newer_functions newer_classes newer_constants
+unfolding builtin_rows named_constants word_constants is_same_name newer_functions newer_classes newer_constants beyond_functions beyond_classes beyond_constants
 removed_before_arguments = (refl, refl)
 
 -- <?php try { echo get_magic_quotes_gpc() ? 't' : 'f', get_magic_quotes_runtime() ? 't' : 'f'; } catch (Error $e) { echo 'E'; }
@@ -172,7 +173,7 @@ removed_settings_tree =
 removed_settings : Comes 200 (file removed_settings_tree) (file removed_settings_tree) (codes "a.php")
     ((codes "ff"), ended)
     ((codes "E"), ended)
-unfolding builtin_rows named_constants word_constants is_same_name newer_functions newer_classes newer_constants
+unfolding builtin_rows named_constants word_constants is_same_name newer_functions newer_classes newer_constants beyond_functions beyond_classes beyond_constants
 removed_settings = (refl, refl)
 
 -- <?php $a = ['x' => 1, 5 => 'b', 'c']; foreach (array_keys($a) as $k => $v) { echo $k, '=', $v, ' '; } foreach
@@ -205,7 +206,7 @@ keys_and_values_tree =
 keys_and_values : Comes 200 (file keys_and_values_tree) (file keys_and_values_tree) (codes "a.php")
     ((codes "0=x 1=5 2=6 0=1 1=b 2=c 0"), ended)
     ((codes "0=x 1=5 2=6 0=1 1=b 2=c 0"), ended)
-unfolding builtin_rows named_constants word_constants is_same_name newer_functions newer_classes newer_constants
+unfolding builtin_rows named_constants word_constants is_same_name newer_functions newer_classes newer_constants beyond_functions beyond_classes beyond_constants
 keys_and_values = (refl, refl)
 
 -- <?php $x = 1; $a = [&$x]; echo count($a), implode($a[0] ? ',' : ';', $a); $b = array_values($a);
@@ -229,7 +230,7 @@ values_of_shared_tree =
 values_of_shared : Comes 200 (file values_of_shared_tree) (file values_of_shared_tree) (codes "a.php")
     ((codes "11"), outside Reference)
     ((codes "11"), outside Reference)
-unfolding builtin_rows named_constants word_constants is_same_name newer_functions newer_classes newer_constants
+unfolding builtin_rows named_constants word_constants is_same_name newer_functions newer_classes newer_constants beyond_functions beyond_classes beyond_constants
 values_of_shared = (refl, refl)
 
 -- <?php $a = [1, 2]; $r = &$a[0]; unset($r); $b = array_values($a); $b[0] = 9; echo $a[0], $b[0];
@@ -255,7 +256,7 @@ values_of_single_tree =
 values_of_single : Comes 200 (file values_of_single_tree) (file values_of_single_tree) (codes "a.php")
     ((codes "19"), ended)
     ((codes "19"), ended)
-unfolding builtin_rows named_constants word_constants is_same_name newer_functions newer_classes newer_constants
+unfolding builtin_rows named_constants word_constants is_same_name newer_functions newer_classes newer_constants beyond_functions beyond_classes beyond_constants
 values_of_single = (refl, refl)
 
 -- <?php $a = [1 => null, 'k' => 2]; echo array_key_exists(1, $a) ? 't' : 'f', array_key_exists('1', $a) ? 't' : 'f',
@@ -289,7 +290,7 @@ key_there_tree =
 key_there : Comes 200 (file key_there_tree) (file key_there_tree) (codes "a.php")
     ((codes "tttff"), ended)
     ((codes "tttff"), ended)
-unfolding builtin_rows named_constants word_constants is_same_name newer_functions newer_classes newer_constants
+unfolding builtin_rows named_constants word_constants is_same_name newer_functions newer_classes newer_constants beyond_functions beyond_classes beyond_constants
 key_there = (refl, refl)
 
 -- <?php echo strlen('a', 'b');
@@ -302,7 +303,7 @@ too_many_arguments_tree =
 too_many_arguments : Comes 200 (file too_many_arguments_tree) (file too_many_arguments_tree) (codes "a.php")
     ((codes ""), outside Call)
     ((codes ""), outside Call)
-unfolding builtin_rows named_constants word_constants is_same_name newer_functions newer_classes newer_constants
+unfolding builtin_rows named_constants word_constants is_same_name newer_functions newer_classes newer_constants beyond_functions beyond_classes beyond_constants
 too_many_arguments = (refl, refl)
 
 -- <?php echo substr('a');
@@ -314,7 +315,7 @@ too_few_arguments_tree =
 too_few_arguments : Comes 200 (file too_few_arguments_tree) (file too_few_arguments_tree) (codes "a.php")
     ((codes ""), outside Call)
     ((codes ""), outside Call)
-unfolding builtin_rows named_constants word_constants is_same_name newer_functions newer_classes newer_constants
+unfolding builtin_rows named_constants word_constants is_same_name newer_functions newer_classes newer_constants beyond_functions beyond_classes beyond_constants
 too_few_arguments = (refl, refl)
 
 -- <?php echo strlen(12);
@@ -326,7 +327,7 @@ length_of_an_int_tree =
 length_of_an_int : Comes 200 (file length_of_an_int_tree) (file length_of_an_int_tree) (codes "a.php")
     ((codes ""), outside Call)
     ((codes ""), outside Call)
-unfolding builtin_rows named_constants word_constants is_same_name newer_functions newer_classes newer_constants
+unfolding builtin_rows named_constants word_constants is_same_name newer_functions newer_classes newer_constants beyond_functions beyond_classes beyond_constants
 length_of_an_int = (refl, refl)
 
 -- <?php namespace N; class A { function n() { return get_class(); } } class B extends A {} echo (new B)->n();
@@ -346,7 +347,7 @@ class_around_tree =
 class_around : Comes 200 (file class_around_tree) (file class_around_tree) (codes "a.php")
     ((codes "N\\A"), ended)
     ((codes "N\\A"), ended)
-unfolding builtin_rows named_constants word_constants is_same_name newer_functions newer_classes newer_constants
+unfolding builtin_rows named_constants word_constants is_same_name newer_functions newer_classes newer_constants beyond_functions beyond_classes beyond_constants
 class_around = (refl, refl)
 
 -- <?php echo get_class();
@@ -358,7 +359,7 @@ class_nowhere_tree =
 class_nowhere : Comes 200 (file class_nowhere_tree) (file class_nowhere_tree) (codes "a.php")
     ((codes ""), outside Call)
     ((codes ""), outside Call)
-unfolding builtin_rows named_constants word_constants is_same_name newer_functions newer_classes newer_constants
+unfolding builtin_rows named_constants word_constants is_same_name newer_functions newer_classes newer_constants beyond_functions beyond_classes beyond_constants
 class_nowhere = (refl, refl)
 
 -- <?php namespace N; function f() { return \strlen('ab') . strlen('abc'); } echo f(); function strlen2() { return 's'; } echo strlen2();
@@ -395,7 +396,7 @@ builtin_in_a_namespace_new_tree =
 builtin_in_a_namespace : Comes 200 (file builtin_in_a_namespace_tree) (file builtin_in_a_namespace_new_tree) (codes "a.php")
     ((codes "23s"), ended)
     ((codes "23s"), ended)
-unfolding builtin_rows named_constants word_constants is_same_name newer_functions newer_classes newer_constants
+unfolding builtin_rows named_constants word_constants is_same_name newer_functions newer_classes newer_constants beyond_functions beyond_classes beyond_constants
 builtin_in_a_namespace = (refl, refl)
 
 -- <?php try { nowhere(); } catch (Error $e) { echo 'E'; }
@@ -410,7 +411,7 @@ missing_function_tree =
 missing_function : Comes 200 (file missing_function_tree) (file missing_function_tree) (codes "a.php")
     ((codes "E"), ended)
     ((codes "E"), ended)
-unfolding builtin_rows named_constants word_constants is_same_name newer_functions newer_classes newer_constants
+unfolding builtin_rows named_constants word_constants is_same_name newer_functions newer_classes newer_constants beyond_functions beyond_classes beyond_constants
 missing_function = (refl, refl)
 
 -- <?php function f() { echo 'f'; } try { nowhere(f()); } catch (Error $e) { echo 'E'; }
@@ -429,5 +430,5 @@ missing_before_arguments_tree =
 missing_before_arguments : Comes 200 (file missing_before_arguments_tree) (file missing_before_arguments_tree) (codes "a.php")
     ((codes "E"), ended)
     ((codes "E"), ended)
-unfolding builtin_rows named_constants word_constants is_same_name newer_functions newer_classes newer_constants
+unfolding builtin_rows named_constants word_constants is_same_name newer_functions newer_classes newer_constants beyond_functions beyond_classes beyond_constants
 missing_before_arguments = (refl, refl)

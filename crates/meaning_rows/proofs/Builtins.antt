@@ -3,6 +3,7 @@ use Rattle.std.proofs.Common.{[], ◌∷◌, refl, codes}
 use Rattle.php_tree.specs.declared.token.TokenKind.TheVariants as token
 use Rattle.php_tree.specs.declared.kind.NodeKind.TheVariants as kind
 use Rattle.php_tree.specs.Tree.{Forest, none, node}
+use Rattle.builtin_tables.specs.Beyond.{beyond_functions, beyond_classes, beyond_constants}
 use Rattle.builtin_tables.specs.Builtins.{builtin_rows}
 use Rattle.builtin_tables.specs.Constants.{named_constants, word_constants}
 use Rattle.builtin_tables.specs.Named.{is_same_name}
@@ -28,7 +29,7 @@ lengths_tree =
 lengths : Comes 200 (file lengths_tree) (file lengths_tree) (codes "a.php")
     ((codes "30022"), ended)
     ((codes "30022"), ended)
-unfolding builtin_rows named_constants word_constants is_same_name newer_functions newer_classes newer_constants
+unfolding builtin_rows named_constants word_constants is_same_name newer_functions newer_classes newer_constants beyond_functions beyond_classes beyond_constants
 lengths = (refl, refl)
 
 -- <?php echo substr('hello', 1), '|', substr('hello', 1, 3), '|', substr('hello', 5), '|', substr('hello', 0, 99), '|', substr('hello', 2, 0);
@@ -53,7 +54,7 @@ part_of_a_text_tree =
 part_of_a_text : Comes 200 (file part_of_a_text_tree) (file part_of_a_text_tree) (codes "a.php")
     ((codes "ello|ell||hello|"), ended)
     ((codes "ello|ell||hello|"), ended)
-unfolding builtin_rows named_constants word_constants is_same_name newer_functions newer_classes newer_constants
+unfolding builtin_rows named_constants word_constants is_same_name newer_functions newer_classes newer_constants beyond_functions beyond_classes beyond_constants
 part_of_a_text = (refl, refl)
 
 -- <?php $s = substr('ab', 3); echo $s === false ? 'f' : 't';
@@ -70,7 +71,7 @@ part_past_the_end_tree =
 part_past_the_end : Comes 200 (file part_past_the_end_tree) (file part_past_the_end_tree) (codes "a.php")
     ((codes "f"), ended)
     ((codes "t"), ended)
-unfolding builtin_rows named_constants word_constants is_same_name newer_functions newer_classes newer_constants
+unfolding builtin_rows named_constants word_constants is_same_name newer_functions newer_classes newer_constants beyond_functions beyond_classes beyond_constants
 part_past_the_end = (refl, refl)
 
 -- <?php echo substr('ab', 3), 1;
@@ -83,7 +84,7 @@ part_past_the_end_echoed_tree =
 part_past_the_end_echoed : Comes 200 (file part_past_the_end_echoed_tree) (file part_past_the_end_echoed_tree) (codes "a.php")
     ((codes "1"), ended)
     ((codes "1"), ended)
-unfolding builtin_rows named_constants word_constants is_same_name newer_functions newer_classes newer_constants
+unfolding builtin_rows named_constants word_constants is_same_name newer_functions newer_classes newer_constants beyond_functions beyond_classes beyond_constants
 part_past_the_end_echoed = (refl, refl)
 
 -- <?php echo substr('abc', -1);
@@ -96,7 +97,7 @@ negative_start_tree =
 negative_start : Comes 200 (file negative_start_tree) (file negative_start_tree) (codes "a.php")
     ((codes ""), outside Call)
     ((codes ""), outside Call)
-unfolding builtin_rows named_constants word_constants is_same_name newer_functions newer_classes newer_constants
+unfolding builtin_rows named_constants word_constants is_same_name newer_functions newer_classes newer_constants beyond_functions beyond_classes beyond_constants
 negative_start = (refl, refl)
 
 -- <?php echo substr('abc', 0, -1);
@@ -110,7 +111,7 @@ negative_length_tree =
 negative_length : Comes 200 (file negative_length_tree) (file negative_length_tree) (codes "a.php")
     ((codes ""), outside Call)
     ((codes ""), outside Call)
-unfolding builtin_rows named_constants word_constants is_same_name newer_functions newer_classes newer_constants
+unfolding builtin_rows named_constants word_constants is_same_name newer_functions newer_classes newer_constants beyond_functions beyond_classes beyond_constants
 negative_length = (refl, refl)
 
 -- <?php echo strpos('abcabc', 'c'), strpos('abc', 'abc'), strpos('abc', 'd') === false ? 'f' : 't', strpos('', 'a') === false ? 'f' : 't', strpos('aab', 'ab');
@@ -135,7 +136,7 @@ place_of_a_text_tree =
 place_of_a_text : Comes 200 (file place_of_a_text_tree) (file place_of_a_text_tree) (codes "a.php")
     ((codes "20ff1"), ended)
     ((codes "20ff1"), ended)
-unfolding builtin_rows named_constants word_constants is_same_name newer_functions newer_classes newer_constants
+unfolding builtin_rows named_constants word_constants is_same_name newer_functions newer_classes newer_constants beyond_functions beyond_classes beyond_constants
 place_of_a_text = (refl, refl)
 
 -- <?php echo strpos('AB', 66) === false ? 'f' : 't';
@@ -150,7 +151,7 @@ place_of_a_code_tree =
 place_of_a_code : Comes 200 (file place_of_a_code_tree) (file place_of_a_code_tree) (codes "a.php")
     ((codes "t"), ended)
     ((codes "f"), ended)
-unfolding builtin_rows named_constants word_constants is_same_name newer_functions newer_classes newer_constants
+unfolding builtin_rows named_constants word_constants is_same_name newer_functions newer_classes newer_constants beyond_functions beyond_classes beyond_constants
 place_of_a_code = (refl, refl)
 
 -- <?php echo strpos('AB', 66);
@@ -172,7 +173,7 @@ place_of_a_code_rewritten_new_tree =
 place_of_a_code_rewritten : Comes 200 (file place_of_a_code_rewritten_tree) (file place_of_a_code_rewritten_new_tree) (codes "a.php")
     ((codes "1"), ended)
     ((codes "1"), ended)
-unfolding builtin_rows named_constants word_constants is_same_name newer_functions newer_classes newer_constants
+unfolding builtin_rows named_constants word_constants is_same_name newer_functions newer_classes newer_constants beyond_functions beyond_classes beyond_constants
 place_of_a_code_rewritten = (refl, refl)
 
 -- <?php echo strpos('a66', 66) === false ? 'f' : 't';
@@ -187,7 +188,7 @@ place_of_digits_tree =
 place_of_digits : Comes 200 (file place_of_digits_tree) (file place_of_digits_tree) (codes "a.php")
     ((codes "f"), ended)
     ((codes "t"), ended)
-unfolding builtin_rows named_constants word_constants is_same_name newer_functions newer_classes newer_constants
+unfolding builtin_rows named_constants word_constants is_same_name newer_functions newer_classes newer_constants beyond_functions beyond_classes beyond_constants
 place_of_digits = (refl, refl)
 
 -- <?php echo strpos('ab', '') === 0 ? 'z' : 'f';
@@ -202,7 +203,7 @@ place_of_nothing_tree =
 place_of_nothing : Comes 200 (file place_of_nothing_tree) (file place_of_nothing_tree) (codes "a.php")
     ((codes "f"), ended)
     ((codes "z"), ended)
-unfolding builtin_rows named_constants word_constants is_same_name newer_functions newer_classes newer_constants
+unfolding builtin_rows named_constants word_constants is_same_name newer_functions newer_classes newer_constants beyond_functions beyond_classes beyond_constants
 place_of_nothing = (refl, refl)
 
 -- <?php echo strpos('ab', 300) === false ? 'f' : 't';
@@ -217,7 +218,7 @@ code_past_a_byte_tree =
 code_past_a_byte : Comes 200 (file code_past_a_byte_tree) (file code_past_a_byte_tree) (codes "a.php")
     ((codes ""), outside Call)
     ((codes "f"), ended)
-unfolding builtin_rows named_constants word_constants is_same_name newer_functions newer_classes newer_constants
+unfolding builtin_rows named_constants word_constants is_same_name newer_functions newer_classes newer_constants beyond_functions beyond_classes beyond_constants
 code_past_a_byte = (refl, refl)
 
 -- <?php echo implode(', ', ['a', 1, null, true, 'z']), join('-', [1, 2]), implode('', []), '.', implode('x', ['one']);
@@ -242,7 +243,7 @@ joined_tree =
 joined : Comes 200 (file joined_tree) (file joined_tree) (codes "a.php")
     ((codes "a, 1, , 1, z1-2.one"), ended)
     ((codes "a, 1, , 1, z1-2.one"), ended)
-unfolding builtin_rows named_constants word_constants is_same_name newer_functions newer_classes newer_constants
+unfolding builtin_rows named_constants word_constants is_same_name newer_functions newer_classes newer_constants beyond_functions beyond_classes beyond_constants
 joined = (refl, refl)
 
 -- <?php $a = [1, 2]; try { echo implode($a, '-'); } catch (TypeError $e) { echo 'T'; }
@@ -262,7 +263,7 @@ joined_the_other_way_tree =
 joined_the_other_way : Comes 200 (file joined_the_other_way_tree) (file joined_the_other_way_tree) (codes "a.php")
     ((codes "1-2"), ended)
     ((codes "T"), ended)
-unfolding builtin_rows named_constants word_constants is_same_name newer_functions newer_classes newer_constants
+unfolding builtin_rows named_constants word_constants is_same_name newer_functions newer_classes newer_constants beyond_functions beyond_classes beyond_constants
 joined_the_other_way = (refl, refl)
 
 -- <?php $a = [1, 2]; echo implode($a, '-');
@@ -289,7 +290,7 @@ joined_the_other_way_rewritten_new_tree =
 joined_the_other_way_rewritten : Comes 200 (file joined_the_other_way_rewritten_tree) (file joined_the_other_way_rewritten_new_tree) (codes "a.php")
     ((codes "1-2"), ended)
     ((codes "1-2"), ended)
-unfolding builtin_rows named_constants word_constants is_same_name newer_functions newer_classes newer_constants
+unfolding builtin_rows named_constants word_constants is_same_name newer_functions newer_classes newer_constants beyond_functions beyond_classes beyond_constants
 joined_the_other_way_rewritten = (refl, refl)
 
 -- <?php echo implode(',', [[1], 2]);
@@ -304,7 +305,7 @@ joined_arrays_tree =
 joined_arrays : Comes 200 (file joined_arrays_tree) (file joined_arrays_tree) (codes "a.php")
     ((codes ""), outside Call)
     ((codes ""), outside Call)
-unfolding builtin_rows named_constants word_constants is_same_name newer_functions newer_classes newer_constants
+unfolding builtin_rows named_constants word_constants is_same_name newer_functions newer_classes newer_constants beyond_functions beyond_classes beyond_constants
 joined_arrays = (refl, refl)
 
 -- <?php foreach (explode(',', 'a,b,,c') as $k => $v) { echo $k, $v, ';'; } echo count(explode('--', 'x----y')),
@@ -331,7 +332,7 @@ cut_tree =
 cut : Comes 200 (file cut_tree) (file cut_tree) (codes "a.php")
     ((codes "0a;1b;2;3c;3c1"), ended)
     ((codes "0a;1b;2;3c;3c1"), ended)
-unfolding builtin_rows named_constants word_constants is_same_name newer_functions newer_classes newer_constants
+unfolding builtin_rows named_constants word_constants is_same_name newer_functions newer_classes newer_constants beyond_functions beyond_classes beyond_constants
 cut = (refl, refl)
 
 -- <?php echo explode('', 'a');
@@ -344,7 +345,7 @@ cut_at_nothing_tree =
 cut_at_nothing : Comes 200 (file cut_at_nothing_tree) (file cut_at_nothing_tree) (codes "a.php")
     ((codes ""), outside Call)
     ((codes ""), outside Call)
-unfolding builtin_rows named_constants word_constants is_same_name newer_functions newer_classes newer_constants
+unfolding builtin_rows named_constants word_constants is_same_name newer_functions newer_classes newer_constants beyond_functions beyond_classes beyond_constants
 cut_at_nothing = (refl, refl)
 
 -- <?php echo str_repeat('ab', 3), '|', str_repeat('x', 0), '|', str_repeat('', 5);
@@ -362,7 +363,7 @@ repeated_tree =
 repeated : Comes 200 (file repeated_tree) (file repeated_tree) (codes "a.php")
     ((codes "ababab||"), ended)
     ((codes "ababab||"), ended)
-unfolding builtin_rows named_constants word_constants is_same_name newer_functions newer_classes newer_constants
+unfolding builtin_rows named_constants word_constants is_same_name newer_functions newer_classes newer_constants beyond_functions beyond_classes beyond_constants
 repeated = (refl, refl)
 
 -- <?php echo str_repeat('a', -1);
@@ -375,7 +376,7 @@ repeated_less_than_never_tree =
 repeated_less_than_never : Comes 200 (file repeated_less_than_never_tree) (file repeated_less_than_never_tree) (codes "a.php")
     ((codes ""), outside Call)
     ((codes ""), outside Call)
-unfolding builtin_rows named_constants word_constants is_same_name newer_functions newer_classes newer_constants
+unfolding builtin_rows named_constants word_constants is_same_name newer_functions newer_classes newer_constants beyond_functions beyond_classes beyond_constants
 repeated_less_than_never = (refl, refl)
 
 -- <?php echo str_replace('l', 'L', 'hello'), str_replace('aa', 'b', 'aaaaa'), str_replace('x', '', 'axbx'), str_replace('q', 'r', 's');
@@ -396,7 +397,7 @@ replaced_tree =
 replaced : Comes 200 (file replaced_tree) (file replaced_tree) (codes "a.php")
     ((codes "heLLobbaabs"), ended)
     ((codes "heLLobbaabs"), ended)
-unfolding builtin_rows named_constants word_constants is_same_name newer_functions newer_classes newer_constants
+unfolding builtin_rows named_constants word_constants is_same_name newer_functions newer_classes newer_constants beyond_functions beyond_classes beyond_constants
 replaced = (refl, refl)
 
 -- <?php echo str_replace('', 'a', 'b');
@@ -410,7 +411,7 @@ replaced_nothing_tree =
 replaced_nothing : Comes 200 (file replaced_nothing_tree) (file replaced_nothing_tree) (codes "a.php")
     ((codes ""), outside Call)
     ((codes ""), outside Call)
-unfolding builtin_rows named_constants word_constants is_same_name newer_functions newer_classes newer_constants
+unfolding builtin_rows named_constants word_constants is_same_name newer_functions newer_classes newer_constants beyond_functions beyond_classes beyond_constants
 replaced_nothing = (refl, refl)
 
 -- <?php echo '[', trim("  a b \t\n\r\0\x0B"), ']', '[', trim(''), ']', '[', trim("\x0Cx"), ']';
@@ -429,7 +430,7 @@ trimmed_tree =
 trimmed : Comes 200 (file trimmed_tree) (file trimmed_tree) (codes "a.php")
     ((91 ∷ 97 ∷ 32 ∷ 98 ∷ 93 ∷ 91 ∷ 93 ∷ 91 ∷ 12 ∷ 120 ∷ 93 ∷ []), ended)
     ((91 ∷ 97 ∷ 32 ∷ 98 ∷ 93 ∷ 91 ∷ 93 ∷ 91 ∷ 12 ∷ 120 ∷ 93 ∷ []), ended)
-unfolding builtin_rows named_constants word_constants is_same_name newer_functions newer_classes newer_constants
+unfolding builtin_rows named_constants word_constants is_same_name newer_functions newer_classes newer_constants beyond_functions beyond_classes beyond_constants
 trimmed = (refl, refl)
 
 -- <?php echo chr(65), chr(97) . chr(48), ord('A'), ord('abc'), ord(chr(200));
@@ -450,7 +451,7 @@ bytes_tree =
 bytes : Comes 200 (file bytes_tree) (file bytes_tree) (codes "a.php")
     ((codes "Aa06597200"), ended)
     ((codes "Aa06597200"), ended)
-unfolding builtin_rows named_constants word_constants is_same_name newer_functions newer_classes newer_constants
+unfolding builtin_rows named_constants word_constants is_same_name newer_functions newer_classes newer_constants beyond_functions beyond_classes beyond_constants
 bytes = (refl, refl)
 
 -- <?php echo chr(256);
@@ -462,7 +463,7 @@ code_of_no_byte_tree =
 code_of_no_byte : Comes 200 (file code_of_no_byte_tree) (file code_of_no_byte_tree) (codes "a.php")
     ((codes ""), outside Call)
     ((codes ""), outside Call)
-unfolding builtin_rows named_constants word_constants is_same_name newer_functions newer_classes newer_constants
+unfolding builtin_rows named_constants word_constants is_same_name newer_functions newer_classes newer_constants beyond_functions beyond_classes beyond_constants
 code_of_no_byte = (refl, refl)
 
 -- <?php echo ord('');
@@ -474,5 +475,5 @@ code_of_nothing_tree =
 code_of_nothing : Comes 200 (file code_of_nothing_tree) (file code_of_nothing_tree) (codes "a.php")
     ((codes ""), outside Call)
     ((codes ""), outside Call)
-unfolding builtin_rows named_constants word_constants is_same_name newer_functions newer_classes newer_constants
+unfolding builtin_rows named_constants word_constants is_same_name newer_functions newer_classes newer_constants beyond_functions beyond_classes beyond_constants
 code_of_nothing = (refl, refl)

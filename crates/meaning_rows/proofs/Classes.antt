@@ -3,6 +3,7 @@ use Rattle.std.proofs.Common.{refl, codes}
 use Rattle.php_tree.specs.declared.token.TokenKind.TheVariants as token
 use Rattle.php_tree.specs.declared.kind.NodeKind.TheVariants as kind
 use Rattle.php_tree.specs.Tree.{Forest, none, node}
+use Rattle.builtin_tables.specs.Beyond.{beyond_functions, beyond_classes, beyond_constants}
 use Rattle.builtin_tables.specs.Builtins.{builtin_rows}
 use Rattle.builtin_tables.specs.Constants.{named_constants, word_constants}
 use Rattle.builtin_tables.specs.Named.{is_same_name}
@@ -30,7 +31,7 @@ methods_tree =
 methods : Comes 200 (file methods_tree) (file methods_tree) (codes "a.php")
     ((codes "6"), ended)
     ((codes "6"), ended)
-unfolding builtin_rows named_constants word_constants is_same_name newer_functions newer_classes newer_constants
+unfolding builtin_rows named_constants word_constants is_same_name newer_functions newer_classes newer_constants beyond_functions beyond_classes beyond_constants
 methods = (refl, refl)
 
 -- <?php class A { function f() { return 'A' . $this->g(); } function g() { return 'a'; } } class B extends A {
@@ -60,7 +61,7 @@ inheritance_tree =
 inheritance : Comes 200 (file inheritance_tree) (file inheritance_tree) (codes "a.php")
     ((codes "AbaAa"), ended)
     ((codes "AbaAa"), ended)
-unfolding builtin_rows named_constants word_constants is_same_name newer_functions newer_classes newer_constants
+unfolding builtin_rows named_constants word_constants is_same_name newer_functions newer_classes newer_constants beyond_functions beyond_classes beyond_constants
 inheritance = (refl, refl)
 
 -- <?php class A { static $n = 0; const C = 'c'; static function up() { return ++self::$n . static::C; } } class B
@@ -88,7 +89,7 @@ static_members_tree =
 static_members : Comes 200 (file static_members_tree) (file static_members_tree) (codes "a.php")
     ((codes "1c2d22"), ended)
     ((codes "1c2d22"), ended)
-unfolding builtin_rows named_constants word_constants is_same_name newer_functions newer_classes newer_constants
+unfolding builtin_rows named_constants word_constants is_same_name newer_functions newer_classes newer_constants beyond_functions beyond_classes beyond_constants
 static_members = (refl, refl)
 
 -- <?php abstract class S { abstract function area(); function twice() { return $this->area() * 2; } } class Q extends
@@ -113,7 +114,7 @@ abstract_class_tree =
 abstract_class : Comes 200 (file abstract_class_tree) (file abstract_class_tree) (codes "a.php")
     ((codes "6"), ended)
     ((codes "6"), ended)
-unfolding builtin_rows named_constants word_constants is_same_name newer_functions newer_classes newer_constants
+unfolding builtin_rows named_constants word_constants is_same_name newer_functions newer_classes newer_constants beyond_functions beyond_classes beyond_constants
 abstract_class = (refl, refl)
 
 -- <?php class A { function A() { echo 1; } } new A;
@@ -138,7 +139,7 @@ old_constructor_new_tree =
 old_constructor : Comes 200 (file old_constructor_tree) (file old_constructor_new_tree) (codes "a.php")
     ((codes "1"), ended)
     ((codes "1"), ended)
-unfolding builtin_rows named_constants word_constants is_same_name newer_functions newer_classes newer_constants
+unfolding builtin_rows named_constants word_constants is_same_name newer_functions newer_classes newer_constants beyond_functions beyond_classes beyond_constants
 old_constructor = (refl, refl)
 
 -- <?php class A { function A() { echo 1; } } new A; echo 2;
@@ -154,7 +155,7 @@ old_constructor_asked_tree =
 old_constructor_asked : Comes 200 (file old_constructor_asked_tree) (file old_constructor_asked_tree) (codes "a.php")
     ((codes "12"), ended)
     ((codes "2"), ended)
-unfolding builtin_rows named_constants word_constants is_same_name newer_functions newer_classes newer_constants
+unfolding builtin_rows named_constants word_constants is_same_name newer_functions newer_classes newer_constants beyond_functions beyond_classes beyond_constants
 old_constructor_asked = (refl, refl)
 
 -- <?php class A { function f() { static $n = 0; $n++; echo $n; } } class B extends A {} (new A)->f(); (new B)->f();
@@ -177,7 +178,7 @@ inherited_static_tree =
 inherited_static : Comes 200 (file inherited_static_tree) (file inherited_static_tree) (codes "a.php")
     ((codes "11"), ended)
     ((codes "12"), ended)
-unfolding builtin_rows named_constants word_constants is_same_name newer_functions newer_classes newer_constants
+unfolding builtin_rows named_constants word_constants is_same_name newer_functions newer_classes newer_constants beyond_functions beyond_classes beyond_constants
 inherited_static = (refl, refl)
 
 -- <?php class A { function f() { return 'f'; } } try { echo A::f(); } catch (Error $e) { echo 'E'; }
@@ -196,7 +197,7 @@ static_call_of_a_method_tree =
 static_call_of_a_method : Comes 200 (file static_call_of_a_method_tree) (file static_call_of_a_method_tree) (codes "a.php")
     ((codes "f"), ended)
     ((codes "E"), ended)
-unfolding builtin_rows named_constants word_constants is_same_name newer_functions newer_classes newer_constants
+unfolding builtin_rows named_constants word_constants is_same_name newer_functions newer_classes newer_constants beyond_functions beyond_classes beyond_constants
 static_call_of_a_method = (refl, refl)
 
 -- <?php class A { public $v = 1; } function f($o) { $o->v = 2; } $a = new A; f($a); $b = $a; $b->v++; echo $a->v; $c = [$a]; $c[0]->v = 9; echo $a->v;
@@ -229,7 +230,7 @@ objects_are_shared_tree =
 objects_are_shared : Comes 200 (file objects_are_shared_tree) (file objects_are_shared_tree) (codes "a.php")
     ((codes "39"), ended)
     ((codes "39"), ended)
-unfolding builtin_rows named_constants word_constants is_same_name newer_functions newer_classes newer_constants
+unfolding builtin_rows named_constants word_constants is_same_name newer_functions newer_classes newer_constants beyond_functions beyond_classes beyond_constants
 objects_are_shared = (refl, refl)
 
 -- <?php class A { function n() { return __CLASS__ . self::class . static::class; } } class B extends A {} echo (new B)->n(), B::class;
@@ -251,7 +252,7 @@ class_names_tree =
 class_names : Comes 200 (file class_names_tree) (file class_names_tree) (codes "a.php")
     ((codes "AABB"), ended)
     ((codes "AABB"), ended)
-unfolding builtin_rows named_constants word_constants is_same_name newer_functions newer_classes newer_constants
+unfolding builtin_rows named_constants word_constants is_same_name newer_functions newer_classes newer_constants beyond_functions beyond_classes beyond_constants
 class_names = (refl, refl)
 
 -- <?php class A {} try { (new A)->f(); } catch (Error $e) { echo 'M'; } try { A::g(); } catch (Error $e) { echo 'S';
@@ -290,7 +291,7 @@ missing_members_tree =
 missing_members : Comes 200 (file missing_members_tree) (file missing_members_tree) (codes "a.php")
     ((codes "MSCPN"), ended)
     ((codes "MSCPN"), ended)
-unfolding builtin_rows named_constants word_constants is_same_name newer_functions newer_classes newer_constants
+unfolding builtin_rows named_constants word_constants is_same_name newer_functions newer_classes newer_constants beyond_functions beyond_classes beyond_constants
 missing_members = (refl, refl)
 
 -- <?php $n = null; try { $n->f(); } catch (Error $e) { echo 'E'; }
@@ -307,7 +308,7 @@ method_on_no_object_tree =
 method_on_no_object : Comes 200 (file method_on_no_object_tree) (file method_on_no_object_tree) (codes "a.php")
     ((codes "E"), ended)
     ((codes "E"), ended)
-unfolding builtin_rows named_constants word_constants is_same_name newer_functions newer_classes newer_constants
+unfolding builtin_rows named_constants word_constants is_same_name newer_functions newer_classes newer_constants beyond_functions beyond_classes beyond_constants
 method_on_no_object = (refl, refl)
 
 -- <?php class A { function A() { echo 1; } } $a = new A; $a->A();
@@ -325,5 +326,5 @@ old_constructor_called_tree =
 old_constructor_called : Comes 200 (file old_constructor_called_tree) (file old_constructor_called_tree) (codes "a.php")
     ((codes "11"), ended)
     ((codes "1"), ended)
-unfolding builtin_rows named_constants word_constants is_same_name newer_functions newer_classes newer_constants
+unfolding builtin_rows named_constants word_constants is_same_name newer_functions newer_classes newer_constants beyond_functions beyond_classes beyond_constants
 old_constructor_called = (refl, refl)

@@ -3,6 +3,7 @@ use Rattle.std.proofs.Common.{refl, codes}
 use Rattle.php_tree.specs.declared.token.TokenKind.TheVariants as token
 use Rattle.php_tree.specs.declared.kind.NodeKind.TheVariants as kind
 use Rattle.php_tree.specs.Tree.{Forest, none, node}
+use Rattle.builtin_tables.specs.Beyond.{beyond_functions, beyond_classes, beyond_constants}
 use Rattle.builtin_tables.specs.Builtins.{builtin_rows}
 use Rattle.builtin_tables.specs.Constants.{named_constants, word_constants}
 use Rattle.builtin_tables.specs.Named.{is_same_name}
@@ -22,7 +23,7 @@ int_with_word_tree =
 int_with_word : Comes 200 (file int_with_word_tree) (file int_with_word_tree) (codes "a.php")
     ((codes "1"), ended)
     ((codes "2"), ended)
-unfolding builtin_rows named_constants word_constants is_same_name newer_functions newer_classes newer_constants
+unfolding builtin_rows named_constants word_constants is_same_name newer_functions newer_classes newer_constants beyond_functions beyond_classes beyond_constants
 int_with_word = (refl, refl)
 
 -- <?php $x = 'abc'; echo 0 == $x ? 1 : 2;
@@ -48,7 +49,7 @@ int_with_word_rewritten_new_tree =
 int_with_word_rewritten : Comes 200 (file int_with_word_rewritten_tree) (file int_with_word_rewritten_new_tree) (codes "a.php")
     ((codes "1"), ended)
     ((codes "1"), ended)
-unfolding builtin_rows named_constants word_constants is_same_name newer_functions newer_classes newer_constants
+unfolding builtin_rows named_constants word_constants is_same_name newer_functions newer_classes newer_constants beyond_functions beyond_classes beyond_constants
 int_with_word_rewritten = (refl, refl)
 
 -- <?php echo 12 == '12abc' ? 'y' : 'n', '12abc' > 11 ? 'y' : 'n', 1 < '2x' ? 'y' : 'n';
@@ -67,7 +68,7 @@ int_with_lead_tree =
 int_with_lead : Comes 200 (file int_with_lead_tree) (file int_with_lead_tree) (codes "a.php")
     ((codes "yyy"), ended)
     ((codes "nyy"), ended)
-unfolding builtin_rows named_constants word_constants is_same_name newer_functions newer_classes newer_constants
+unfolding builtin_rows named_constants word_constants is_same_name newer_functions newer_classes newer_constants beyond_functions beyond_classes beyond_constants
 int_with_lead = (refl, refl)
 
 -- <?php echo 12 == '12' ? 'y' : 'n', 12 == ' 12' ? 'y' : 'n', 12 == '012' ? 'y' : 'n', 12 == '12 ' ? 'y' : 'n', -3 == '-3' ? 'y' : 'n';
@@ -91,7 +92,7 @@ int_with_whole_tree =
 int_with_whole : Comes 200 (file int_with_whole_tree) (file int_with_whole_tree) (codes "a.php")
     ((codes "yyyyy"), ended)
     ((codes "yyyyy"), ended)
-unfolding builtin_rows named_constants word_constants is_same_name newer_functions newer_classes newer_constants
+unfolding builtin_rows named_constants word_constants is_same_name newer_functions newer_classes newer_constants beyond_functions beyond_classes beyond_constants
 int_with_whole = (refl, refl)
 
 -- <?php echo '10' == '10x' ? 'y' : 'n', '10' == '010' ? 'y' : 'n', '10' < '9' ? 'y' : 'n', 'abc' < 'abd' ? 'y' : 'n', 'Z' < 'a' ? 'y' : 'n';
@@ -115,7 +116,7 @@ whole_with_whole_tree =
 whole_with_whole : Comes 200 (file whole_with_whole_tree) (file whole_with_whole_tree) (codes "a.php")
     ((codes "nynyy"), ended)
     ((codes "nynyy"), ended)
-unfolding builtin_rows named_constants word_constants is_same_name newer_functions newer_classes newer_constants
+unfolding builtin_rows named_constants word_constants is_same_name newer_functions newer_classes newer_constants beyond_functions beyond_classes beyond_constants
 whole_with_whole = (refl, refl)
 
 -- <?php echo '12' == '12 ' ? 'y' : 'n', '12 ' == ' 12' ? 'y' : 'n';
@@ -131,7 +132,7 @@ whole_with_tail_tree =
 whole_with_tail : Comes 200 (file whole_with_tail_tree) (file whole_with_tail_tree) (codes "a.php")
     ((codes "nn"), ended)
     ((codes "yy"), ended)
-unfolding builtin_rows named_constants word_constants is_same_name newer_functions newer_classes newer_constants
+unfolding builtin_rows named_constants word_constants is_same_name newer_functions newer_classes newer_constants beyond_functions beyond_classes beyond_constants
 whole_with_tail = (refl, refl)
 
 -- <?php echo 'a'; echo 1 == '1.5' ? 'y' : 'n';
@@ -145,7 +146,7 @@ fraction_compared_tree =
 fraction_compared : Comes 200 (file fraction_compared_tree) (file fraction_compared_tree) (codes "a.php")
     ((codes "a"), outside Comparison)
     ((codes "a"), outside Comparison)
-unfolding builtin_rows named_constants word_constants is_same_name newer_functions newer_classes newer_constants
+unfolding builtin_rows named_constants word_constants is_same_name newer_functions newer_classes newer_constants beyond_functions beyond_classes beyond_constants
 fraction_compared = (refl, refl)
 
 -- <?php echo null == '' ? 'y' : 'n', null == 'a' ? 'y' : 'n', null == '0' ? 'y' : 'n', null == 0 ? 'y' : 'n', null == [] ? 'y' : 'n', null < -1 ? 'y' : 'n';
@@ -172,7 +173,7 @@ null_compared_tree =
 null_compared : Comes 200 (file null_compared_tree) (file null_compared_tree) (codes "a.php")
     ((codes "ynnyyy"), ended)
     ((codes "ynnyyy"), ended)
-unfolding builtin_rows named_constants word_constants is_same_name newer_functions newer_classes newer_constants
+unfolding builtin_rows named_constants word_constants is_same_name newer_functions newer_classes newer_constants beyond_functions beyond_classes beyond_constants
 null_compared = (refl, refl)
 
 -- <?php echo true == 'a' ? 'y' : 'n', false == '0' ? 'y' : 'n', true > false ? 'y' : 'n', false == [] ? 'y' : 'n',
@@ -201,7 +202,7 @@ bool_compared_tree =
 bool_compared : Comes 200 (file bool_compared_tree) (file bool_compared_tree) (codes "a.php")
     ((codes "yyyyyy"), ended)
     ((codes "yyyyyy"), ended)
-unfolding builtin_rows named_constants word_constants is_same_name newer_functions newer_classes newer_constants
+unfolding builtin_rows named_constants word_constants is_same_name newer_functions newer_classes newer_constants beyond_functions beyond_classes beyond_constants
 bool_compared = (refl, refl)
 
 -- <?php echo [] > 5 ? 'y' : 'n', 'abc' < [] ? 'y' : 'n', [1] == 1 ? 'y' : 'n';
@@ -221,7 +222,7 @@ array_compared_tree =
 array_compared : Comes 200 (file array_compared_tree) (file array_compared_tree) (codes "a.php")
     ((codes "yyn"), ended)
     ((codes "yyn"), ended)
-unfolding builtin_rows named_constants word_constants is_same_name newer_functions newer_classes newer_constants
+unfolding builtin_rows named_constants word_constants is_same_name newer_functions newer_classes newer_constants beyond_functions beyond_classes beyond_constants
 array_compared = (refl, refl)
 
 -- <?php echo [1] == [1] ? 'y' : 'n';
@@ -236,7 +237,7 @@ arrays_compared_tree =
 arrays_compared : Comes 200 (file arrays_compared_tree) (file arrays_compared_tree) (codes "a.php")
     ((codes ""), outside Comparison)
     ((codes ""), outside Comparison)
-unfolding builtin_rows named_constants word_constants is_same_name newer_functions newer_classes newer_constants
+unfolding builtin_rows named_constants word_constants is_same_name newer_functions newer_classes newer_constants beyond_functions beyond_classes beyond_constants
 arrays_compared = (refl, refl)
 
 -- <?php echo 1 <=> 2, 2 <=> 1, 1 <=> 1, 'a' <=> 'b', '10' <=> '9', true <=> false;
@@ -255,7 +256,7 @@ spaceship_tree =
 spaceship : Comes 200 (file spaceship_tree) (file spaceship_tree) (codes "a.php")
     ((codes "-110-111"), ended)
     ((codes "-110-111"), ended)
-unfolding builtin_rows named_constants word_constants is_same_name newer_functions newer_classes newer_constants
+unfolding builtin_rows named_constants word_constants is_same_name newer_functions newer_classes newer_constants beyond_functions beyond_classes beyond_constants
 spaceship = (refl, refl)
 
 -- <?php echo 1 === 1 ? 'y' : 'n', 1 === '1' ? 'y' : 'n', [1, 'a' => [2]] === [1, 'a' => [2]] ? 'y' : 'n', [1, 2] ===
@@ -292,7 +293,7 @@ identical_tree =
 identical : Comes 200 (file identical_tree) (file identical_tree) (codes "a.php")
     ((codes "ynynyy"), ended)
     ((codes "ynynyy"), ended)
-unfolding builtin_rows named_constants word_constants is_same_name newer_functions newer_classes newer_constants
+unfolding builtin_rows named_constants word_constants is_same_name newer_functions newer_classes newer_constants beyond_functions beyond_classes beyond_constants
 identical = (refl, refl)
 
 -- <?php class A {} $a = new A; $b = $a; echo $a === $b ? 'y' : 'n', $a === new A ? 'y' : 'n', $a !== new A ? 'y' : 'n';
@@ -316,7 +317,7 @@ objects_identical_tree =
 objects_identical : Comes 200 (file objects_identical_tree) (file objects_identical_tree) (codes "a.php")
     ((codes "yny"), ended)
     ((codes "yny"), ended)
-unfolding builtin_rows named_constants word_constants is_same_name newer_functions newer_classes newer_constants
+unfolding builtin_rows named_constants word_constants is_same_name newer_functions newer_classes newer_constants beyond_functions beyond_classes beyond_constants
 objects_identical = (refl, refl)
 
 -- <?php echo 1 != '1' ? 'y' : 'n', 1 <> 2 ? 'y' : 'n', 'a' != 'b' ? 'y' : 'n';
@@ -335,5 +336,5 @@ not_equal_tree =
 not_equal : Comes 200 (file not_equal_tree) (file not_equal_tree) (codes "a.php")
     ((codes "nyy"), ended)
     ((codes "nyy"), ended)
-unfolding builtin_rows named_constants word_constants is_same_name newer_functions newer_classes newer_constants
+unfolding builtin_rows named_constants word_constants is_same_name newer_functions newer_classes newer_constants beyond_functions beyond_classes beyond_constants
 not_equal = (refl, refl)

@@ -3,6 +3,7 @@ use Rattle.std.proofs.Common.{[], refl, codes}
 use Rattle.php_tree.specs.declared.token.TokenKind.TheVariants as token
 use Rattle.php_tree.specs.declared.kind.NodeKind.TheVariants as kind
 use Rattle.php_tree.specs.Tree.{Forest, none, node}
+use Rattle.builtin_tables.specs.Beyond.{beyond_functions, beyond_classes, beyond_constants}
 use Rattle.builtin_tables.specs.Builtins.{builtin_rows}
 use Rattle.builtin_tables.specs.Constants.{named_constants, word_constants}
 use Rattle.builtin_tables.specs.Named.{is_same_name}
@@ -30,7 +31,7 @@ defined_tree =
 defined : Comes 200 (file defined_tree) (file defined_tree) (codes "a.php")
     ((codes "t1f1tx"), ended)
     ((codes "t1f1tx"), ended)
-unfolding builtin_rows named_constants word_constants is_same_name newer_functions newer_classes newer_constants
+unfolding builtin_rows named_constants word_constants is_same_name newer_functions newer_classes newer_constants beyond_functions beyond_classes beyond_constants
 defined = (refl, refl)
 
 -- <?php define('Foo', 1, true); try { echo Foo, foo, FOO; } catch (Error $e) { echo 'E'; }
@@ -49,7 +50,7 @@ defined_without_case_tree =
 defined_without_case : Comes 200 (file defined_without_case_tree) (file defined_without_case_tree) (codes "a.php")
     ((codes "111"), ended)
     ((codes "1E"), ended)
-unfolding builtin_rows named_constants word_constants is_same_name newer_functions newer_classes newer_constants
+unfolding builtin_rows named_constants word_constants is_same_name newer_functions newer_classes newer_constants beyond_functions beyond_classes beyond_constants
 defined_without_case = (refl, refl)
 
 -- <?php echo define('Foo', 1, true) ? 't' : 'f', define('foo', 2) ? 't' : 'f', define('FOO', 3) ? 't' : 'f', FOO;
@@ -71,7 +72,7 @@ defined_twice_without_case_tree =
 defined_twice_without_case : Comes 200 (file defined_twice_without_case_tree) (file defined_twice_without_case_tree) (codes "a.php")
     ((codes "tft3"), ended)
     ((codes "ttt3"), ended)
-unfolding builtin_rows named_constants word_constants is_same_name newer_functions newer_classes newer_constants
+unfolding builtin_rows named_constants word_constants is_same_name newer_functions newer_classes newer_constants beyond_functions beyond_classes beyond_constants
 defined_twice_without_case = (refl, refl)
 
 -- <?php define('C', 5, false); echo C;
@@ -85,7 +86,7 @@ third_argument_false_tree =
 third_argument_false : Comes 200 (file third_argument_false_tree) (file third_argument_false_tree) (codes "a.php")
     ((codes "5"), ended)
     ((codes "5"), ended)
-unfolding builtin_rows named_constants word_constants is_same_name newer_functions newer_classes newer_constants
+unfolding builtin_rows named_constants word_constants is_same_name newer_functions newer_classes newer_constants beyond_functions beyond_classes beyond_constants
 third_argument_false = (refl, refl)
 
 -- <?php define('A::B', 1);
@@ -98,7 +99,7 @@ defined_with_colons_tree =
 defined_with_colons : Comes 200 (file defined_with_colons_tree) (file defined_with_colons_tree) (codes "a.php")
     ((codes ""), outside Declaration)
     ((codes ""), outside Declaration)
-unfolding builtin_rows named_constants word_constants is_same_name newer_functions newer_classes newer_constants
+unfolding builtin_rows named_constants word_constants is_same_name newer_functions newer_classes newer_constants beyond_functions beyond_classes beyond_constants
 defined_with_colons = (refl, refl)
 
 -- <?php define('PHP_EOL', 1);
@@ -111,7 +112,7 @@ defined_builtin_tree =
 defined_builtin : Comes 200 (file defined_builtin_tree) (file defined_builtin_tree) (codes "a.php")
     ((codes ""), outside Declaration)
     ((codes ""), outside Declaration)
-unfolding builtin_rows named_constants word_constants is_same_name newer_functions newer_classes newer_constants
+unfolding builtin_rows named_constants word_constants is_same_name newer_functions newer_classes newer_constants beyond_functions beyond_classes beyond_constants
 defined_builtin = (refl, refl)
 
 -- <?php namespace N; const PHP_INT_MAX = 1;
@@ -124,7 +125,7 @@ const_of_builtin_name_tree =
 const_of_builtin_name : Comes 200 (file const_of_builtin_name_tree) (file const_of_builtin_name_tree) (codes "a.php")
     ((codes ""), outside Declaration)
     ((codes ""), outside Declaration)
-unfolding builtin_rows named_constants word_constants is_same_name newer_functions newer_classes newer_constants
+unfolding builtin_rows named_constants word_constants is_same_name newer_functions newer_classes newer_constants beyond_functions beyond_classes beyond_constants
 const_of_builtin_name = (refl, refl)
 
 -- <?php const A = 2, B = A . 'x'; echo A, B; namespace\f(); function f() { echo B; }
@@ -155,7 +156,7 @@ const_statement_new_tree =
 const_statement : Comes 200 (file const_statement_tree) (file const_statement_new_tree) (codes "a.php")
     ((codes "22x2x"), ended)
     ((codes "22x2x"), ended)
-unfolding builtin_rows named_constants word_constants is_same_name newer_functions newer_classes newer_constants
+unfolding builtin_rows named_constants word_constants is_same_name newer_functions newer_classes newer_constants beyond_functions beyond_classes beyond_constants
 const_statement = (refl, refl)
 
 -- <?php namespace N\M; const A = 'ns'; define('N\\M\\B', 'def'); echo A, B, \n\m\A, namespace\B;
@@ -186,7 +187,7 @@ const_in_a_namespace_new_tree =
 const_in_a_namespace : Comes 200 (file const_in_a_namespace_tree) (file const_in_a_namespace_new_tree) (codes "a.php")
     ((codes "nsdefnsdef"), ended)
     ((codes "nsdefnsdef"), ended)
-unfolding builtin_rows named_constants word_constants is_same_name newer_functions newer_classes newer_constants
+unfolding builtin_rows named_constants word_constants is_same_name newer_functions newer_classes newer_constants beyond_functions beyond_classes beyond_constants
 const_in_a_namespace = (refl, refl)
 
 -- <?php echo PHP_INT_MAX, PHP_INT_MIN, PHP_INT_SIZE, '[', PHP_EOL, ']', E_STRICT, SORT_STRING, TRUE, Null, False;
@@ -204,7 +205,7 @@ constants_there_tree =
 constants_there : Comes 200 (file constants_there_tree) (file constants_there_tree) (codes "a.php")
     ((codes "9223372036854775807-92233720368547758088[\n]204821"), ended)
     ((codes "9223372036854775807-92233720368547758088[\n]204821"), ended)
-unfolding builtin_rows named_constants word_constants is_same_name newer_functions newer_classes newer_constants
+unfolding builtin_rows named_constants word_constants is_same_name newer_functions newer_classes newer_constants beyond_functions beyond_classes beyond_constants
 constants_there = (refl, refl)
 
 -- <?php echo foo;
@@ -223,7 +224,7 @@ bare_word_new_tree =
 bare_word : Comes 200 (file bare_word_tree) (file bare_word_new_tree) (codes "a.php")
     ((codes "foo"), ended)
     ((codes "foo"), ended)
-unfolding builtin_rows named_constants word_constants is_same_name newer_functions newer_classes newer_constants
+unfolding builtin_rows named_constants word_constants is_same_name newer_functions newer_classes newer_constants beyond_functions beyond_classes beyond_constants
 bare_word = (refl, refl)
 
 -- <?php try { echo foo; } catch (Error $e) { echo 'E'; }
@@ -238,7 +239,7 @@ bare_word_asked_tree =
 bare_word_asked : Comes 200 (file bare_word_asked_tree) (file bare_word_asked_tree) (codes "a.php")
     ((codes "foo"), ended)
     ((codes "E"), ended)
-unfolding builtin_rows named_constants word_constants is_same_name newer_functions newer_classes newer_constants
+unfolding builtin_rows named_constants word_constants is_same_name newer_functions newer_classes newer_constants beyond_functions beyond_classes beyond_constants
 bare_word_asked = (refl, refl)
 
 -- <?php echo FOO;
@@ -250,7 +251,7 @@ bare_word_in_capitals_tree =
 bare_word_in_capitals : Comes 200 (file bare_word_in_capitals_tree) (file bare_word_in_capitals_tree) (codes "a.php")
     ((codes ""), outside Declaration)
     ((codes ""), outside Declaration)
-unfolding builtin_rows named_constants word_constants is_same_name newer_functions newer_classes newer_constants
+unfolding builtin_rows named_constants word_constants is_same_name newer_functions newer_classes newer_constants beyond_functions beyond_classes beyond_constants
 bare_word_in_capitals = (refl, refl)
 
 -- <?php namespace N; echo foo;
@@ -262,7 +263,7 @@ bare_word_in_a_namespace_tree =
 bare_word_in_a_namespace : Comes 200 (file bare_word_in_a_namespace_tree) (file bare_word_in_a_namespace_tree) (codes "a.php")
     ((codes ""), outside Declaration)
     ((codes ""), outside Declaration)
-unfolding builtin_rows named_constants word_constants is_same_name newer_functions newer_classes newer_constants
+unfolding builtin_rows named_constants word_constants is_same_name newer_functions newer_classes newer_constants beyond_functions beyond_classes beyond_constants
 bare_word_in_a_namespace = (refl, refl)
 
 -- <?php echo E_ALL;
@@ -274,5 +275,5 @@ constant_of_an_extension_tree =
 constant_of_an_extension : Comes 200 (file constant_of_an_extension_tree) (file constant_of_an_extension_tree) (codes "a.php")
     ([], outside Declaration)
     ([], outside Declaration)
-unfolding builtin_rows named_constants word_constants is_same_name newer_functions newer_classes newer_constants
+unfolding builtin_rows named_constants word_constants is_same_name newer_functions newer_classes newer_constants beyond_functions beyond_classes beyond_constants
 constant_of_an_extension = (refl, refl)

@@ -3,6 +3,7 @@ use Rattle.std.proofs.Common.{refl, codes}
 use Rattle.php_tree.specs.declared.token.TokenKind.TheVariants as token
 use Rattle.php_tree.specs.declared.kind.NodeKind.TheVariants as kind
 use Rattle.php_tree.specs.Tree.{Forest, none, node}
+use Rattle.builtin_tables.specs.Beyond.{beyond_functions, beyond_classes, beyond_constants}
 use Rattle.builtin_tables.specs.Builtins.{builtin_rows}
 use Rattle.builtin_tables.specs.Constants.{named_constants, word_constants}
 use Rattle.builtin_tables.specs.Named.{is_same_name}
@@ -39,7 +40,7 @@ caught_tree =
 caught : Comes 200 (file caught_tree) (file caught_tree) (codes "a.php")
     ((codes "1big7"), ended)
     ((codes "1big7"), ended)
-unfolding builtin_rows named_constants word_constants is_same_name newer_functions newer_classes newer_constants
+unfolding builtin_rows named_constants word_constants is_same_name newer_functions newer_classes newer_constants beyond_functions beyond_classes beyond_constants
 caught = (refl, refl)
 
 -- <?php function f() { try { return 'r'; } finally { echo 'f'; } } echo f(); try { try { throw new Exception('x'); }
@@ -67,7 +68,7 @@ finally_runs_tree =
 finally_runs : Comes 200 (file finally_runs_tree) (file finally_runs_tree) (codes "a.php")
     ((codes "frgx"), ended)
     ((codes "frgx"), ended)
-unfolding builtin_rows named_constants word_constants is_same_name newer_functions newer_classes newer_constants
+unfolding builtin_rows named_constants word_constants is_same_name newer_functions newer_classes newer_constants beyond_functions beyond_classes beyond_constants
 finally_runs = (refl, refl)
 
 -- <?php echo 'a'; throw new RuntimeException('x'); echo 'b';
@@ -82,7 +83,7 @@ uncaught_tree =
 uncaught : Comes 200 (file uncaught_tree) (file uncaught_tree) (codes "a.php")
     ((codes "a"), Threw (codes "RuntimeException"))
     ((codes "a"), Threw (codes "RuntimeException"))
-unfolding builtin_rows named_constants word_constants is_same_name newer_functions newer_classes newer_constants
+unfolding builtin_rows named_constants word_constants is_same_name newer_functions newer_classes newer_constants beyond_functions beyond_classes beyond_constants
 uncaught = (refl, refl)
 
 -- <?php class MyError extends Exception {} try { throw new MyError('m'); } catch (Exception $e) { echo $e->getMessage(), $e instanceof MyError ? 't' : 'f'; }
@@ -104,7 +105,7 @@ own_exception_tree =
 own_exception : Comes 200 (file own_exception_tree) (file own_exception_tree) (codes "a.php")
     ((codes "mt"), ended)
     ((codes "mt"), ended)
-unfolding builtin_rows named_constants word_constants is_same_name newer_functions newer_classes newer_constants
+unfolding builtin_rows named_constants word_constants is_same_name newer_functions newer_classes newer_constants beyond_functions beyond_classes beyond_constants
 own_exception = (refl, refl)
 
 -- <?php foreach ([new TypeError, new ArgumentCountError, new DivisionByZeroError, new ErrorException, new Exception]
@@ -136,7 +137,7 @@ parents_of_exceptions_tree =
 parents_of_exceptions : Comes 200 (file parents_of_exceptions_tree) (file parents_of_exceptions_tree) (codes "a.php")
     ((codes "ET-t ET-t E-At ---t ---t "), ended)
     ((codes "ET-t ET-t E-At ---t ---t "), ended)
-unfolding builtin_rows named_constants word_constants is_same_name newer_functions newer_classes newer_constants
+unfolding builtin_rows named_constants word_constants is_same_name newer_functions newer_classes newer_constants beyond_functions beyond_classes beyond_constants
 parents_of_exceptions = (refl, refl)
 
 -- <?php try { try { throw new Exception('one'); } catch (Exception $e) { throw new LogicException('two'); } } catch
@@ -159,7 +160,7 @@ rethrown_tree =
 rethrown : Comes 200 (file rethrown_tree) (file rethrown_tree) (codes "a.php")
     ((codes "two"), ended)
     ((codes "two"), ended)
-unfolding builtin_rows named_constants word_constants is_same_name newer_functions newer_classes newer_constants
+unfolding builtin_rows named_constants word_constants is_same_name newer_functions newer_classes newer_constants beyond_functions beyond_classes beyond_constants
 rethrown = (refl, refl)
 
 -- <?php function f() { foreach ([1, 2] as $x) { try { if ($x == 1) continue; return 'r' . $x; } finally { echo 'f', $x; } } } echo f();
@@ -184,5 +185,5 @@ nested_finally_tree =
 nested_finally : Comes 200 (file nested_finally_tree) (file nested_finally_tree) (codes "a.php")
     ((codes "f1f2r2"), ended)
     ((codes "f1f2r2"), ended)
-unfolding builtin_rows named_constants word_constants is_same_name newer_functions newer_classes newer_constants
+unfolding builtin_rows named_constants word_constants is_same_name newer_functions newer_classes newer_constants beyond_functions beyond_classes beyond_constants
 nested_finally = (refl, refl)

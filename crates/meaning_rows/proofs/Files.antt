@@ -3,6 +3,7 @@ use Rattle.std.proofs.Common.{[], ◌∷◌, refl, codes}
 use Rattle.php_tree.specs.declared.token.TokenKind.TheVariants as token
 use Rattle.php_tree.specs.declared.kind.NodeKind.TheVariants as kind
 use Rattle.php_tree.specs.Tree.{Forest, none, node}
+use Rattle.builtin_tables.specs.Beyond.{beyond_functions, beyond_classes, beyond_constants}
 use Rattle.builtin_tables.specs.Builtins.{builtin_rows}
 use Rattle.builtin_tables.specs.Constants.{named_constants, word_constants}
 use Rattle.builtin_tables.specs.Named.{is_same_name}
@@ -40,7 +41,7 @@ included : Comes 200 ((codes "lib.php", included_tree0) ∷ (codes "a.php", incl
     ((codes "lib.php", included_tree0) ∷ (codes "a.php", included_tree1) ∷ []) (codes "a.php")
     ((codes "42libht"), ended)
     ((codes "42libht"), ended)
-unfolding builtin_rows named_constants word_constants is_same_name newer_functions newer_classes newer_constants
+unfolding builtin_rows named_constants word_constants is_same_name newer_functions newer_classes newer_constants beyond_functions beyond_classes beyond_constants
 included = (refl, refl)
 
 -- sub/b.php:
@@ -63,7 +64,7 @@ required_by_folder : Comes 200 ((codes "sub/b.php", required_by_folder_tree0)
     ((codes "sub/b.php", required_by_folder_tree0) ∷ (codes "a.php", required_by_folder_tree1) ∷ []) (codes "a.php")
     ((codes "b"), ended)
     ((codes "b"), ended)
-unfolding builtin_rows named_constants word_constants is_same_name newer_functions newer_classes newer_constants
+unfolding builtin_rows named_constants word_constants is_same_name newer_functions newer_classes newer_constants beyond_functions beyond_classes beyond_constants
 required_by_folder = (refl, refl)
 
 -- <?php echo $_GET['id'], isset($_GET['no']) ? 't' : 'f', count($_POST), $_GET['id'] + 1; function f() { return $_GET['id']; } echo f();
@@ -88,7 +89,7 @@ input_tree =
 input : Comes 200 (file input_tree) (file input_tree) (codes "a.php")
     ((codes "2f032"), ended)
     ((codes "2f032"), ended)
-unfolding builtin_rows named_constants word_constants is_same_name newer_functions newer_classes newer_constants
+unfolding builtin_rows named_constants word_constants is_same_name newer_functions newer_classes newer_constants beyond_functions beyond_classes beyond_constants
 input = (refl, refl)
 
 -- <?php namespace A\B; use A\B\C as D; class C { const K = 'k'; function n() { return __NAMESPACE__; } } function f()
@@ -140,7 +141,7 @@ namespaces_new_tree =
 namespaces : Comes 200 (file namespaces_tree) (file namespaces_new_tree) (codes "a.php")
     ((codes "fffkA\\BA\\B\\C"), ended)
     ((codes "fffkA\\BA\\B\\C"), ended)
-unfolding builtin_rows named_constants word_constants is_same_name newer_functions newer_classes newer_constants
+unfolding builtin_rows named_constants word_constants is_same_name newer_functions newer_classes newer_constants beyond_functions beyond_classes beyond_constants
 namespaces = (refl, refl)
 
 -- <?php namespace A { function f() { return 'af'; } const K = 'ak'; } namespace B { use function A\f; use const A\K; echo f(), K, \strlen('x'); }
@@ -178,7 +179,7 @@ use_of_functions_new_tree =
 use_of_functions : Comes 200 (file use_of_functions_tree) (file use_of_functions_new_tree) (codes "a.php")
     ((codes "afak1"), ended)
     ((codes "afak1"), ended)
-unfolding builtin_rows named_constants word_constants is_same_name newer_functions newer_classes newer_constants
+unfolding builtin_rows named_constants word_constants is_same_name newer_functions newer_classes newer_constants beyond_functions beyond_classes beyond_constants
 use_of_functions = (refl, refl)
 
 -- in sub/a.php, b.php and sub/c.php
@@ -211,7 +212,7 @@ paths_from_the_folder : Comes 200
     (codes "sub/a.php")
     ((codes "bc1"), outside NoRule)
     ((codes "bc1"), outside NoRule)
-unfolding builtin_rows named_constants word_constants is_same_name newer_functions newer_classes newer_constants
+unfolding builtin_rows named_constants word_constants is_same_name newer_functions newer_classes newer_constants beyond_functions beyond_classes beyond_constants
 paths_from_the_folder = (refl, refl)
 
 -- <?php include 'b.php'; include 'b.php';
@@ -235,5 +236,5 @@ static_of_a_file_included_twice : Comes 200
     (codes "a.php")
     ((codes "1"), outside Declaration)
     ((codes "1"), outside Declaration)
-unfolding builtin_rows named_constants word_constants is_same_name newer_functions newer_classes newer_constants
+unfolding builtin_rows named_constants word_constants is_same_name newer_functions newer_classes newer_constants beyond_functions beyond_classes beyond_constants
 static_of_a_file_included_twice = (refl, refl)

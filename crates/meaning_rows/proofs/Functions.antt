@@ -3,6 +3,7 @@ use Rattle.std.proofs.Common.{refl, codes}
 use Rattle.php_tree.specs.declared.token.TokenKind.TheVariants as token
 use Rattle.php_tree.specs.declared.kind.NodeKind.TheVariants as kind
 use Rattle.php_tree.specs.Tree.{Forest, none, node}
+use Rattle.builtin_tables.specs.Beyond.{beyond_functions, beyond_classes, beyond_constants}
 use Rattle.builtin_tables.specs.Builtins.{builtin_rows}
 use Rattle.builtin_tables.specs.Constants.{named_constants, word_constants}
 use Rattle.builtin_tables.specs.Named.{is_same_name}
@@ -34,7 +35,7 @@ defaults_tree =
 defaults : Comes 200 (file defaults_tree) (file defaults_tree) (codes "a.php")
     ((codes "1221x21x0"), ended)
     ((codes "1221x21x0"), ended)
-unfolding builtin_rows named_constants word_constants is_same_name newer_functions newer_classes newer_constants
+unfolding builtin_rows named_constants word_constants is_same_name newer_functions newer_classes newer_constants beyond_functions beyond_classes beyond_constants
 defaults = (refl, refl)
 
 -- <?php function inc(&$n) { $n++; } $x = 1; inc($x); inc($x); echo $x; function fill(&$a) { $a['k'][] = 1; } fill($nope['z']); echo count($nope['z']['k']);
@@ -66,7 +67,7 @@ by_reference_tree =
 by_reference : Comes 200 (file by_reference_tree) (file by_reference_tree) (codes "a.php")
     ((codes "31"), ended)
     ((codes "31"), ended)
-unfolding builtin_rows named_constants word_constants is_same_name newer_functions newer_classes newer_constants
+unfolding builtin_rows named_constants word_constants is_same_name newer_functions newer_classes newer_constants beyond_functions beyond_classes beyond_constants
 by_reference = (refl, refl)
 
 -- <?php function f() { global $g; $g = "x"; } $g = 0; $h = 0; f(); echo $g == 0, $h == 0;
@@ -88,7 +89,7 @@ globals_tree =
 globals : Comes 200 (file globals_tree) (file globals_tree) (codes "a.php")
     ((codes "11"), ended)
     ((codes "1"), ended)
-unfolding builtin_rows named_constants word_constants is_same_name newer_functions newer_classes newer_constants
+unfolding builtin_rows named_constants word_constants is_same_name newer_functions newer_classes newer_constants beyond_functions beyond_classes beyond_constants
 globals = (refl, refl)
 
 -- <?php function f() { global $g; $g = "x"; } $g = 0; $h = 0; f(); echo $g == 0, $h == 0;
@@ -128,7 +129,7 @@ globals_rewritten_new_tree =
 globals_rewritten : Comes 200 (file globals_rewritten_tree) (file globals_rewritten_new_tree) (codes "a.php")
     ((codes "11"), ended)
     ((codes "11"), ended)
-unfolding builtin_rows named_constants word_constants is_same_name newer_functions newer_classes newer_constants
+unfolding builtin_rows named_constants word_constants is_same_name newer_functions newer_classes newer_constants beyond_functions beyond_classes beyond_constants
 globals_rewritten = (refl, refl)
 
 -- <?php function f() { static $n = 0; return ++$n; } f(); f(); echo f();
@@ -147,7 +148,7 @@ statics_tree =
 statics : Comes 200 (file statics_tree) (file statics_tree) (codes "a.php")
     ((codes "3"), ended)
     ((codes "3"), ended)
-unfolding builtin_rows named_constants word_constants is_same_name newer_functions newer_classes newer_constants
+unfolding builtin_rows named_constants word_constants is_same_name newer_functions newer_classes newer_constants beyond_functions beyond_classes beyond_constants
 statics = (refl, refl)
 
 -- <?php function fact($n) { return $n < 2 ? 1 : $n * fact($n - 1); } echo fact(10);
@@ -167,7 +168,7 @@ recursion_tree =
 recursion : Comes 200 (file recursion_tree) (file recursion_tree) (codes "a.php")
     ((codes "3628800"), ended)
     ((codes "3628800"), ended)
-unfolding builtin_rows named_constants word_constants is_same_name newer_functions newer_classes newer_constants
+unfolding builtin_rows named_constants word_constants is_same_name newer_functions newer_classes newer_constants beyond_functions beyond_classes beyond_constants
 recursion = (refl, refl)
 
 -- <?php function even($n) { return $n == 0 ? 'e' : odd($n - 1); } function odd($n) { return $n == 0 ? 'o' : even($n - 1); } echo even(4), odd(4);
@@ -195,7 +196,7 @@ mutual_recursion_tree =
 mutual_recursion : Comes 200 (file mutual_recursion_tree) (file mutual_recursion_tree) (codes "a.php")
     ((codes "eo"), ended)
     ((codes "eo"), ended)
-unfolding builtin_rows named_constants word_constants is_same_name newer_functions newer_classes newer_constants
+unfolding builtin_rows named_constants word_constants is_same_name newer_functions newer_classes newer_constants beyond_functions beyond_classes beyond_constants
 mutual_recursion = (refl, refl)
 
 -- <?php function f($a, $b) { return 1; } try { f(1); } catch (ArgumentCountError $e) { echo 'A'; } echo f(1, 2, 3);
@@ -217,7 +218,7 @@ missing_argument_tree =
 missing_argument : Comes 200 (file missing_argument_tree) (file missing_argument_tree) (codes "a.php")
     ((codes "A1"), ended)
     ((codes "A1"), ended)
-unfolding builtin_rows named_constants word_constants is_same_name newer_functions newer_classes newer_constants
+unfolding builtin_rows named_constants word_constants is_same_name newer_functions newer_classes newer_constants beyond_functions beyond_classes beyond_constants
 missing_argument = (refl, refl)
 
 -- <?php class P {} function f(int $i, string $s, ?array $a, bool $b = false): string { return $i . $s; } echo f(1,
@@ -258,7 +259,7 @@ types_that_pass_tree =
 types_that_pass : Comes 200 (file types_that_pass_tree) (file types_that_pass_tree) (codes "a.php")
     ((codes "1x2yno"), ended)
     ((codes "1x2yno"), ended)
-unfolding builtin_rows named_constants word_constants is_same_name newer_functions newer_classes newer_constants
+unfolding builtin_rows named_constants word_constants is_same_name newer_functions newer_classes newer_constants beyond_functions beyond_classes beyond_constants
 types_that_pass = (refl, refl)
 
 -- <?php function f(int $i) { return $i; } echo 'a'; echo f('1');
@@ -275,7 +276,7 @@ type_that_refuses_tree =
 type_that_refuses : Comes 200 (file type_that_refuses_tree) (file type_that_refuses_tree) (codes "a.php")
     ((codes "a"), outside Conversion)
     ((codes "a"), outside Conversion)
-unfolding builtin_rows named_constants word_constants is_same_name newer_functions newer_classes newer_constants
+unfolding builtin_rows named_constants word_constants is_same_name newer_functions newer_classes newer_constants beyond_functions beyond_classes beyond_constants
 type_that_refuses = (refl, refl)
 
 -- <?php function Foo() { return 'foo'; } echo foo(), FOO();
@@ -291,7 +292,7 @@ case_of_functions_tree =
 case_of_functions : Comes 200 (file case_of_functions_tree) (file case_of_functions_tree) (codes "a.php")
     ((codes "foofoo"), ended)
     ((codes "foofoo"), ended)
-unfolding builtin_rows named_constants word_constants is_same_name newer_functions newer_classes newer_constants
+unfolding builtin_rows named_constants word_constants is_same_name newer_functions newer_classes newer_constants beyond_functions beyond_classes beyond_constants
 case_of_functions = (refl, refl)
 
 -- <?php if (true) { function g() { return 'one'; } } else { function g() { return 'two'; } } echo g();
@@ -310,7 +311,7 @@ conditional_function_tree =
 conditional_function : Comes 200 (file conditional_function_tree) (file conditional_function_tree) (codes "a.php")
     ((codes "one"), ended)
     ((codes "one"), ended)
-unfolding builtin_rows named_constants word_constants is_same_name newer_functions newer_classes newer_constants
+unfolding builtin_rows named_constants word_constants is_same_name newer_functions newer_classes newer_constants beyond_functions beyond_classes beyond_constants
 conditional_function = (refl, refl)
 
 -- <?php function f($x) { if ($x) { return 'r'; } } echo f(1), is_null(f(0)) ? 'n' : 'x'; function g() { foreach ([1,
@@ -341,5 +342,5 @@ returns_tree =
 returns : Comes 200 (file returns_tree) (file returns_tree) (codes "a.php")
     ((codes "rn1"), ended)
     ((codes "rn1"), ended)
-unfolding builtin_rows named_constants word_constants is_same_name newer_functions newer_classes newer_constants
+unfolding builtin_rows named_constants word_constants is_same_name newer_functions newer_classes newer_constants beyond_functions beyond_classes beyond_constants
 returns = (refl, refl)

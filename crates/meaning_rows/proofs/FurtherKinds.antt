@@ -3,6 +3,7 @@ use Rattle.std.proofs.Common.{[], refl, codes}
 use Rattle.php_tree.specs.declared.token.TokenKind.TheVariants as token
 use Rattle.php_tree.specs.declared.kind.NodeKind.TheVariants as kind
 use Rattle.php_tree.specs.Tree.{Forest, none, node}
+use Rattle.builtin_tables.specs.Beyond.{beyond_functions, beyond_classes, beyond_constants}
 use Rattle.builtin_tables.specs.Builtins.{builtin_rows}
 use Rattle.builtin_tables.specs.Constants.{named_constants, word_constants}
 use Rattle.builtin_tables.specs.Named.{is_same_name}
@@ -42,7 +43,7 @@ if_with_colons_tree =
 if_with_colons : Comes 200 (file if_with_colons_tree) (file if_with_colons_tree) (codes "a.php")
     ((codes "onetwomanyend"), ended)
     ((codes "onetwomanyend"), ended)
-unfolding builtin_rows named_constants word_constants is_same_name newer_functions newer_classes newer_constants
+unfolding builtin_rows named_constants word_constants is_same_name newer_functions newer_classes newer_constants beyond_functions beyond_classes beyond_constants
 if_with_colons = (refl, refl)
 
 -- <?php for ($i = 0; $i < 2; $i++): echo $i; endfor; foreach ([3, 4] as $k => $v): echo $k, $v; endforeach; while ($i
@@ -78,7 +79,7 @@ loops_with_colons_tree =
 loops_with_colons : Comes 200 (file loops_with_colons_tree) (file loops_with_colons_tree) (codes "a.php")
     ((codes "01031410zero"), ended)
     ((codes "01031410zero"), ended)
-unfolding builtin_rows named_constants word_constants is_same_name newer_functions newer_classes newer_constants
+unfolding builtin_rows named_constants word_constants is_same_name newer_functions newer_classes newer_constants beyond_functions beyond_classes beyond_constants
 loops_with_colons = (refl, refl)
 
 -- <?php interface I {} class A implements I {} class B extends A {} $b = new B; $n = "A"; $a = new A; echo $b
@@ -123,7 +124,7 @@ instance_of_values_tree =
 instance_of_values : Comes 200 (file instance_of_values_tree) (file instance_of_values_tree) (codes "a.php")
     ((codes "1212121"), ended)
     ((codes "1212121"), ended)
-unfolding builtin_rows named_constants word_constants is_same_name newer_functions newer_classes newer_constants
+unfolding builtin_rows named_constants word_constants is_same_name newer_functions newer_classes newer_constants beyond_functions beyond_classes beyond_constants
 instance_of_values = (refl, refl)
 
 -- <?php class A {} $a = new A; $n = 5; try { echo $a instanceof $n; } catch (Error $e) { echo "error"; }
@@ -144,7 +145,7 @@ instance_of_an_int_throws_tree =
 instance_of_an_int_throws : Comes 200 (file instance_of_an_int_throws_tree) (file instance_of_an_int_throws_tree) (codes "a.php")
     ((codes "error"), ended)
     ((codes "error"), ended)
-unfolding builtin_rows named_constants word_constants is_same_name newer_functions newer_classes newer_constants
+unfolding builtin_rows named_constants word_constants is_same_name newer_functions newer_classes newer_constants beyond_functions beyond_classes beyond_constants
 instance_of_an_int_throws = (refl, refl)
 
 -- <?php echo ~5, " ", ~-1, " ", ~"\xce";
@@ -159,7 +160,7 @@ bits_flipped_tree =
 bits_flipped : Comes 200 (file bits_flipped_tree) (file bits_flipped_tree) (codes "a.php")
     ((codes "-6 0 1"), ended)
     ((codes "-6 0 1"), ended)
-unfolding builtin_rows named_constants word_constants is_same_name newer_functions newer_classes newer_constants
+unfolding builtin_rows named_constants word_constants is_same_name newer_functions newer_classes newer_constants beyond_functions beyond_classes beyond_constants
 bits_flipped = (refl, refl)
 
 -- <?php function t($s, $b) { echo $s; return $b; } echo (t("a", true) xor t("b", false)) ? 1 : 2, (t("c", true) XOR
@@ -194,7 +195,7 @@ one_alone_tree =
 one_alone : Comes 200 (file one_alone_tree) (file one_alone_tree) (codes "a.php")
     ((codes "ab1cd2t"), ended)
     ((codes "ab1cd2t"), ended)
-unfolding builtin_rows named_constants word_constants is_same_name newer_functions newer_classes newer_constants
+unfolding builtin_rows named_constants word_constants is_same_name newer_functions newer_classes newer_constants beyond_functions beyond_classes beyond_constants
 one_alone = (refl, refl)
 
 -- <?php $a = null; $a ??= "x"; $a ??= "y"; $b["k"] ??= 1; $b["k"] ??= 2; class C { public $p; static $s; } $o = new
@@ -252,7 +253,7 @@ assigned_where_null_tree =
 assigned_where_null : Comes 200 (file assigned_where_null_tree) (file assigned_where_null_tree) (codes "a.php")
     ((codes "fx13568"), ended)
     ((codes "fx13568"), ended)
-unfolding builtin_rows named_constants word_constants is_same_name newer_functions newer_classes newer_constants
+unfolding builtin_rows named_constants word_constants is_same_name newer_functions newer_classes newer_constants beyond_functions beyond_classes beyond_constants
 assigned_where_null = (refl, refl)
 
 -- <?php $o = new stdClass; $o->a = 1; $o->b[] = 2; $p = new \STDCLASS; echo $o->a, $o->b[0], isset($o->c) ? 1 : 2, $o
@@ -316,7 +317,7 @@ objects_without_a_class_new_tree =
 objects_without_a_class : Comes 200 (file objects_without_a_class_tree) (file objects_without_a_class_new_tree) (codes "a.php")
     ((codes "12211"), ended)
     ((codes "12211"), ended)
-unfolding builtin_rows named_constants word_constants is_same_name newer_functions newer_classes newer_constants
+unfolding builtin_rows named_constants word_constants is_same_name newer_functions newer_classes newer_constants beyond_functions beyond_classes beyond_constants
 objects_without_a_class = (refl, refl)
 
 -- <?php declare(strict_types=1); function f(int $i): string { return "n" . $i; } echo f(3);
@@ -336,7 +337,7 @@ strictness_declared_tree =
 strictness_declared : Comes 200 (file strictness_declared_tree) (file strictness_declared_tree) (codes "a.php")
     ((codes "n3"), ended)
     ((codes "n3"), ended)
-unfolding builtin_rows named_constants word_constants is_same_name newer_functions newer_classes newer_constants
+unfolding builtin_rows named_constants word_constants is_same_name newer_functions newer_classes newer_constants beyond_functions beyond_classes beyond_constants
 strictness_declared = (refl, refl)
 
 -- <?php echo 1; declare(ticks=1) { echo 2; }
@@ -351,7 +352,7 @@ ticks_declared_tree =
 ticks_declared : Comes 200 (file ticks_declared_tree) (file ticks_declared_tree) (codes "a.php")
     ((codes "1"), outside NoRule)
     ((codes "1"), outside NoRule)
-unfolding builtin_rows named_constants word_constants is_same_name newer_functions newer_classes newer_constants
+unfolding builtin_rows named_constants word_constants is_same_name newer_functions newer_classes newer_constants beyond_functions beyond_classes beyond_constants
 ticks_declared = (refl, refl)
 
 -- <?php interface I { const A = 1, B = self::A + 1; } interface J extends I { const C = I::B + 1; } abstract class P
@@ -388,7 +389,7 @@ interfaces_constants_tree =
 interfaces_constants : Comes 200 (file interfaces_constants_tree) (file interfaces_constants_tree) (codes "a.php")
     ((codes "12313"), ended)
     ((codes "12313"), ended)
-unfolding builtin_rows named_constants word_constants is_same_name newer_functions newer_classes newer_constants
+unfolding builtin_rows named_constants word_constants is_same_name newer_functions newer_classes newer_constants beyond_functions beyond_classes beyond_constants
 interfaces_constants = (refl, refl)
 
 -- <?php interface I {} interface J {} interface K extends I, J {} class A implements K {} class B extends A {}
@@ -427,7 +428,7 @@ interfaces_by_interfaces_tree =
 interfaces_by_interfaces : Comes 200 (file interfaces_by_interfaces_tree) (file interfaces_by_interfaces_tree) (codes "a.php")
     ((codes "11m"), ended)
     ((codes "11m"), ended)
-unfolding builtin_rows named_constants word_constants is_same_name newer_functions newer_classes newer_constants
+unfolding builtin_rows named_constants word_constants is_same_name newer_functions newer_classes newer_constants beyond_functions beyond_classes beyond_constants
 interfaces_by_interfaces = (refl, refl)
 
 -- <?php abstract class Shape { abstract protected function area(); final public function show() { echo $this->area(),
@@ -475,7 +476,7 @@ abstract_and_final_tree =
 abstract_and_final : Comes 200 (file abstract_and_final_tree) (file abstract_and_final_tree) (codes "a.php")
     ((codes "9;errorerror"), ended)
     ((codes "9;errorerror"), ended)
-unfolding builtin_rows named_constants word_constants is_same_name newer_functions newer_classes newer_constants
+unfolding builtin_rows named_constants word_constants is_same_name newer_functions newer_classes newer_constants beyond_functions beyond_classes beyond_constants
 abstract_and_final = (refl, refl)
 
 -- <?php final class A {} if (true) { class B extends A {} }
@@ -490,7 +491,7 @@ final_class_extended_tree =
 final_class_extended : Comes 200 (file final_class_extended_tree) (file final_class_extended_tree) (codes "a.php")
     ((codes ""), outside Declaration)
     ((codes ""), outside Declaration)
-unfolding builtin_rows named_constants word_constants is_same_name newer_functions newer_classes newer_constants
+unfolding builtin_rows named_constants word_constants is_same_name newer_functions newer_classes newer_constants beyond_functions beyond_classes beyond_constants
 final_class_extended = (refl, refl)
 
 -- <?php class A { final function m() {} } if (true) { class B extends A { function m() {} } }
@@ -508,7 +509,7 @@ final_method_overridden_tree =
 final_method_overridden : Comes 200 (file final_method_overridden_tree) (file final_method_overridden_tree) (codes "a.php")
     ((codes ""), outside Declaration)
     ((codes ""), outside Declaration)
-unfolding builtin_rows named_constants word_constants is_same_name newer_functions newer_classes newer_constants
+unfolding builtin_rows named_constants word_constants is_same_name newer_functions newer_classes newer_constants beyond_functions beyond_classes beyond_constants
 final_method_overridden = (refl, refl)
 
 -- <?php class A { function m() {} } if (true) { class B extends A { protected function m() {} } }
@@ -526,7 +527,7 @@ less_visible_tree =
 less_visible : Comes 200 (file less_visible_tree) (file less_visible_tree) (codes "a.php")
     ((codes ""), outside Declaration)
     ((codes ""), outside Declaration)
-unfolding builtin_rows named_constants word_constants is_same_name newer_functions newer_classes newer_constants
+unfolding builtin_rows named_constants word_constants is_same_name newer_functions newer_classes newer_constants beyond_functions beyond_classes beyond_constants
 less_visible = (refl, refl)
 
 -- <?php class A { public $p; } if (true) { class B extends A { private $p; } }
@@ -542,7 +543,7 @@ property_less_visible_tree =
 property_less_visible : Comes 200 (file property_less_visible_tree) (file property_less_visible_tree) (codes "a.php")
     ((codes ""), outside Declaration)
     ((codes ""), outside Declaration)
-unfolding builtin_rows named_constants word_constants is_same_name newer_functions newer_classes newer_constants
+unfolding builtin_rows named_constants word_constants is_same_name newer_functions newer_classes newer_constants beyond_functions beyond_classes beyond_constants
 property_less_visible = (refl, refl)
 
 -- <?php abstract class A { abstract function m(); } if (true) { class B extends A {} }
@@ -558,7 +559,7 @@ abstract_method_missing_tree =
 abstract_method_missing : Comes 200 (file abstract_method_missing_tree) (file abstract_method_missing_tree) (codes "a.php")
     ((codes ""), outside Declaration)
     ((codes ""), outside Declaration)
-unfolding builtin_rows named_constants word_constants is_same_name newer_functions newer_classes newer_constants
+unfolding builtin_rows named_constants word_constants is_same_name newer_functions newer_classes newer_constants beyond_functions beyond_classes beyond_constants
 abstract_method_missing = (refl, refl)
 
 -- <?php interface I { function m(); } if (true) { class B implements I {} }
@@ -574,7 +575,7 @@ interface_method_missing_tree =
 interface_method_missing : Comes 200 (file interface_method_missing_tree) (file interface_method_missing_tree) (codes "a.php")
     ((codes ""), outside Declaration)
     ((codes ""), outside Declaration)
-unfolding builtin_rows named_constants word_constants is_same_name newer_functions newer_classes newer_constants
+unfolding builtin_rows named_constants word_constants is_same_name newer_functions newer_classes newer_constants beyond_functions beyond_classes beyond_constants
 interface_method_missing = (refl, refl)
 
 -- <?php if (true) { class B implements Missing {} }
@@ -588,7 +589,7 @@ interface_missing_tree =
 interface_missing : Comes 200 (file interface_missing_tree) (file interface_missing_tree) (codes "a.php")
     ((codes ""), outside Declaration)
     ((codes ""), outside Declaration)
-unfolding builtin_rows named_constants word_constants is_same_name newer_functions newer_classes newer_constants
+unfolding builtin_rows named_constants word_constants is_same_name newer_functions newer_classes newer_constants beyond_functions beyond_classes beyond_constants
 interface_missing = (refl, refl)
 
 -- <?php class A {} if (true) { class B implements A {} }
@@ -603,7 +604,7 @@ class_as_interface_tree =
 class_as_interface : Comes 200 (file class_as_interface_tree) (file class_as_interface_tree) (codes "a.php")
     ((codes ""), outside Declaration)
     ((codes ""), outside Declaration)
-unfolding builtin_rows named_constants word_constants is_same_name newer_functions newer_classes newer_constants
+unfolding builtin_rows named_constants word_constants is_same_name newer_functions newer_classes newer_constants beyond_functions beyond_classes beyond_constants
 class_as_interface = (refl, refl)
 
 -- <?php if (true) { class B { abstract function m(); } }
@@ -618,7 +619,7 @@ abstract_in_a_plain_class_tree =
 abstract_in_a_plain_class : Comes 200 (file abstract_in_a_plain_class_tree) (file abstract_in_a_plain_class_tree) (codes "a.php")
     ((codes ""), outside Declaration)
     ((codes ""), outside Declaration)
-unfolding builtin_rows named_constants word_constants is_same_name newer_functions newer_classes newer_constants
+unfolding builtin_rows named_constants word_constants is_same_name newer_functions newer_classes newer_constants beyond_functions beyond_classes beyond_constants
 abstract_in_a_plain_class = (refl, refl)
 
 -- <?php interface I { const C = 1; } if (true) { class B implements I { const C = 2; } }
@@ -636,7 +637,7 @@ interface_constant_overridden_tree =
 interface_constant_overridden : Comes 200 (file interface_constant_overridden_tree) (file interface_constant_overridden_tree) (codes "a.php")
     ((codes ""), outside Declaration)
     ((codes ""), outside Declaration)
-unfolding builtin_rows named_constants word_constants is_same_name newer_functions newer_classes newer_constants
+unfolding builtin_rows named_constants word_constants is_same_name newer_functions newer_classes newer_constants beyond_functions beyond_classes beyond_constants
 interface_constant_overridden = (refl, refl)
 
 -- <?php if (true) { class B { function m() {} function M() {} } }
@@ -652,7 +653,7 @@ member_twice_tree =
 member_twice : Comes 200 (file member_twice_tree) (file member_twice_tree) (codes "a.php")
     ((codes ""), outside Declaration)
     ((codes ""), outside Declaration)
-unfolding builtin_rows named_constants word_constants is_same_name newer_functions newer_classes newer_constants
+unfolding builtin_rows named_constants word_constants is_same_name newer_functions newer_classes newer_constants beyond_functions beyond_classes beyond_constants
 member_twice = (refl, refl)
 
 -- <?php if (true) { class B implements Throwable {} }
@@ -666,7 +667,7 @@ throwable_implemented_tree =
 throwable_implemented : Comes 200 (file throwable_implemented_tree) (file throwable_implemented_tree) (codes "a.php")
     ((codes ""), outside Declaration)
     ((codes ""), outside Declaration)
-unfolding builtin_rows named_constants word_constants is_same_name newer_functions newer_classes newer_constants
+unfolding builtin_rows named_constants word_constants is_same_name newer_functions newer_classes newer_constants beyond_functions beyond_classes beyond_constants
 throwable_implemented = (refl, refl)
 
 -- <?php echo 1; new B; class A {} class B extends A {}
@@ -681,7 +682,7 @@ class_before_its_declaration_tree =
 class_before_its_declaration : Comes 200 (file class_before_its_declaration_tree) (file class_before_its_declaration_tree) (codes "a.php")
     ((codes "1"), outside Declaration)
     ((codes "1"), outside Declaration)
-unfolding builtin_rows named_constants word_constants is_same_name newer_functions newer_classes newer_constants
+unfolding builtin_rows named_constants word_constants is_same_name newer_functions newer_classes newer_constants beyond_functions beyond_classes beyond_constants
 class_before_its_declaration = (refl, refl)
 
 -- <?php class A { public int $n = 1; public ?string $s = null; public array $a; private static int $c = 0; public
@@ -753,7 +754,7 @@ typed_properties_tree =
 typed_properties : Comes 200 (file typed_properties_tree) (file typed_properties_tree) (codes "a.php")
     ((codes "6xy222none4"), ended)
     ((codes "6xy222none4"), ended)
-unfolding builtin_rows named_constants word_constants is_same_name newer_functions newer_classes newer_constants
+unfolding builtin_rows named_constants word_constants is_same_name newer_functions newer_classes newer_constants beyond_functions beyond_classes beyond_constants
 typed_properties = (refl, refl)
 
 -- <?php class A { public int $n = 1; } $o = new A; echo $o->n; $o->n = "5";
@@ -772,7 +773,7 @@ typed_property_of_another_type_tree =
 typed_property_of_another_type : Comes 200 (file typed_property_of_another_type_tree) (file typed_property_of_another_type_tree) (codes "a.php")
     ((codes "1"), outside Conversion)
     ((codes "1"), outside Conversion)
-unfolding builtin_rows named_constants word_constants is_same_name newer_functions newer_classes newer_constants
+unfolding builtin_rows named_constants word_constants is_same_name newer_functions newer_classes newer_constants beyond_functions beyond_classes beyond_constants
 typed_property_of_another_type = (refl, refl)
 
 -- <?php class A { static ?int $n; } A::$n = 3; echo A::$n; A::$n = false;
@@ -791,7 +792,7 @@ typed_static_of_another_type_tree =
 typed_static_of_another_type : Comes 200 (file typed_static_of_another_type_tree) (file typed_static_of_another_type_tree) (codes "a.php")
     ((codes "3"), outside Conversion)
     ((codes "3"), outside Conversion)
-unfolding builtin_rows named_constants word_constants is_same_name newer_functions newer_classes newer_constants
+unfolding builtin_rows named_constants word_constants is_same_name newer_functions newer_classes newer_constants beyond_functions beyond_classes beyond_constants
 typed_static_of_another_type = (refl, refl)
 
 -- <?php class A { public int $n; } $o = new A; echo isset($o->n) ? 1 : 2; echo $o->n;
@@ -811,7 +812,7 @@ typed_property_read_before_a_write_tree =
 typed_property_read_before_a_write : Comes 200 (file typed_property_read_before_a_write_tree) (file typed_property_read_before_a_write_tree) (codes "a.php")
     ((codes "2"), outside Reference)
     ((codes "2"), outside Reference)
-unfolding builtin_rows named_constants word_constants is_same_name newer_functions newer_classes newer_constants
+unfolding builtin_rows named_constants word_constants is_same_name newer_functions newer_classes newer_constants beyond_functions beyond_classes beyond_constants
 typed_property_read_before_a_write = (refl, refl)
 
 -- <?php class A { public int $n = 1; } $o = new A; echo 1; $r = &$o->n;
@@ -830,7 +831,7 @@ typed_property_referred_to_tree =
 typed_property_referred_to : Comes 200 (file typed_property_referred_to_tree) (file typed_property_referred_to_tree) (codes "a.php")
     ((codes "1"), outside Reference)
     ((codes "1"), outside Reference)
-unfolding builtin_rows named_constants word_constants is_same_name newer_functions newer_classes newer_constants
+unfolding builtin_rows named_constants word_constants is_same_name newer_functions newer_classes newer_constants beyond_functions beyond_classes beyond_constants
 typed_property_referred_to = (refl, refl)
 
 -- <?php echo 1; { const A = 1; }
@@ -843,7 +844,7 @@ constant_in_a_block_tree =
 constant_in_a_block : Comes 200 (file constant_in_a_block_tree) (file constant_in_a_block_tree) (codes "a.php")
     ((codes "1"), outside NoRule)
     ((codes "1"), outside NoRule)
-unfolding builtin_rows named_constants word_constants is_same_name newer_functions newer_classes newer_constants
+unfolding builtin_rows named_constants word_constants is_same_name newer_functions newer_classes newer_constants beyond_functions beyond_classes beyond_constants
 constant_in_a_block = (refl, refl)
 
 -- <?php namespace N { const A = "a"; function f() { return A . \N\A; } } namespace { use function N\f; const A = "b"; echo f(), A, \N\A; }
@@ -883,7 +884,7 @@ constants_in_braces_new_tree =
 constants_in_braces : Comes 200 (file constants_in_braces_tree) (file constants_in_braces_new_tree) (codes "a.php")
     ((codes "aaba"), ended)
     ((codes "aaba"), ended)
-unfolding builtin_rows named_constants word_constants is_same_name newer_functions newer_classes newer_constants
+unfolding builtin_rows named_constants word_constants is_same_name newer_functions newer_classes newer_constants beyond_functions beyond_classes beyond_constants
 constants_in_braces = (refl, refl)
 
 -- <?php class A { public $x = 1; protected $y = 2; private $z = 3; function az() { return $this->z; } } class B
@@ -922,7 +923,7 @@ default_that_is_overridden_tree =
 default_that_is_overridden : Comes 200 (file default_that_is_overridden_tree) (file default_that_is_overridden_tree) (codes "a.php")
     ((codes "4563"), ended)
     ((codes "4563"), ended)
-unfolding builtin_rows named_constants word_constants is_same_name newer_functions newer_classes newer_constants
+unfolding builtin_rows named_constants word_constants is_same_name newer_functions newer_classes newer_constants beyond_functions beyond_classes beyond_constants
 default_that_is_overridden = (refl, refl)
 
 -- <?php class A { private function m() { return "a"; } function t() { return $this->m(); } } class B extends A {
@@ -958,7 +959,7 @@ private_methods_of_the_class_tree =
 private_methods_of_the_class : Comes 200 (file private_methods_of_the_class_tree) (file private_methods_of_the_class_tree) (codes "a.php")
     ((codes "aba"), ended)
     ((codes "aba"), ended)
-unfolding builtin_rows named_constants word_constants is_same_name newer_functions newer_classes newer_constants
+unfolding builtin_rows named_constants word_constants is_same_name newer_functions newer_classes newer_constants beyond_functions beyond_classes beyond_constants
 private_methods_of_the_class = (refl, refl)
 
 -- <?php class A { private function __construct() { echo "made"; } static function make() { return new self; } }
@@ -984,7 +985,7 @@ private_constructor_tree =
 private_constructor : Comes 200 (file private_constructor_tree) (file private_constructor_tree) (codes "a.php")
     ((codes "madeerror"), ended)
     ((codes "madeerror"), ended)
-unfolding builtin_rows named_constants word_constants is_same_name newer_functions newer_classes newer_constants
+unfolding builtin_rows named_constants word_constants is_same_name newer_functions newer_classes newer_constants beyond_functions beyond_classes beyond_constants
 private_constructor = (refl, refl)
 
 -- <?php class A { public $n; function __construct($n) { $this->n = $n; } } class B extends A { function __construct()
@@ -1036,7 +1037,7 @@ constructors_of_parents_tree =
 constructors_of_parents : Comes 200 (file constructors_of_parents_tree) (file constructors_of_parents_tree) (codes "a.php")
     ((codes "80<m>5"), ended)
     ((codes "80<m>5"), ended)
-unfolding builtin_rows named_constants word_constants is_same_name newer_functions newer_classes newer_constants
+unfolding builtin_rows named_constants word_constants is_same_name newer_functions newer_classes newer_constants beyond_functions beyond_classes beyond_constants
 constructors_of_parents = (refl, refl)
 
 -- <?php class A { public $p = 1; private $q = 2; function q() { unset($this->q); return isset($this->q) ? 1 : 2; } }
@@ -1079,7 +1080,7 @@ property_unset_tree =
 property_unset : Comes 200 (file property_unset_tree) (file property_unset_tree) (codes "a.php")
     ((codes "232error"), ended)
     ((codes "232error"), ended)
-unfolding builtin_rows named_constants word_constants is_same_name newer_functions newer_classes newer_constants
+unfolding builtin_rows named_constants word_constants is_same_name newer_functions newer_classes newer_constants beyond_functions beyond_classes beyond_constants
 property_unset = (refl, refl)
 
 -- <?php class A {} $c = "A"; echo 1; new $c;
@@ -1094,7 +1095,7 @@ class_by_expression_tree =
 class_by_expression : Comes 200 (file class_by_expression_tree) (file class_by_expression_tree) (codes "a.php")
     ((codes "1"), outside NoRule)
     ((codes "1"), outside NoRule)
-unfolding builtin_rows named_constants word_constants is_same_name newer_functions newer_classes newer_constants
+unfolding builtin_rows named_constants word_constants is_same_name newer_functions newer_classes newer_constants beyond_functions beyond_classes beyond_constants
 class_by_expression = (refl, refl)
 
 -- <?php class A { static function f() {} } $c = "A"; echo 1; $c::f();
@@ -1112,7 +1113,7 @@ static_call_by_expression_tree =
 static_call_by_expression : Comes 200 (file static_call_by_expression_tree) (file static_call_by_expression_tree) (codes "a.php")
     ((codes "1"), outside NoRule)
     ((codes "1"), outside NoRule)
-unfolding builtin_rows named_constants word_constants is_same_name newer_functions newer_classes newer_constants
+unfolding builtin_rows named_constants word_constants is_same_name newer_functions newer_classes newer_constants beyond_functions beyond_classes beyond_constants
 static_call_by_expression = (refl, refl)
 
 -- <?php class A { public $p = 1; } $a = new A; $n = "p"; echo 1, $a->$n;
@@ -1131,7 +1132,7 @@ property_by_expression_tree =
 property_by_expression : Comes 200 (file property_by_expression_tree) (file property_by_expression_tree) (codes "a.php")
     ((codes "1"), outside NoRule)
     ((codes "1"), outside NoRule)
-unfolding builtin_rows named_constants word_constants is_same_name newer_functions newer_classes newer_constants
+unfolding builtin_rows named_constants word_constants is_same_name newer_functions newer_classes newer_constants beyond_functions beyond_classes beyond_constants
 property_by_expression = (refl, refl)
 
 -- <?php class A { function p() {} } $a = new A; $n = "p"; echo 1; $a->$n();
@@ -1151,7 +1152,7 @@ method_by_expression_tree =
 method_by_expression : Comes 200 (file method_by_expression_tree) (file method_by_expression_tree) (codes "a.php")
     ((codes "1"), outside Call)
     ((codes "1"), outside Call)
-unfolding builtin_rows named_constants word_constants is_same_name newer_functions newer_classes newer_constants
+unfolding builtin_rows named_constants word_constants is_same_name newer_functions newer_classes newer_constants beyond_functions beyond_classes beyond_constants
 method_by_expression = (refl, refl)
 
 -- <?php echo 1; $a = new class { public $p = 1; };
@@ -1166,5 +1167,5 @@ anonymous_class_tree =
 anonymous_class : Comes 200 (file anonymous_class_tree) (file anonymous_class_tree) (codes "a.php")
     ((codes "1"), outside NoRule)
     ((codes "1"), outside NoRule)
-unfolding builtin_rows named_constants word_constants is_same_name newer_functions newer_classes newer_constants
+unfolding builtin_rows named_constants word_constants is_same_name newer_functions newer_classes newer_constants beyond_functions beyond_classes beyond_constants
 anonymous_class = (refl, refl)

@@ -16,7 +16,10 @@ mod MixedNames
 mod MixedBodies
 mod FurtherKinds
 mod AgainstPhp
+mod PlacesAndLoops
 mod MixedOrders
+mod NamesAndClasses
+mod MagicMethods
 mod PageRow
 mod Premises
 mod BuiltinRows

@@ -3,6 +3,7 @@ use Rattle.std.proofs.Common.{[], refl, pos, codes}
 use Rattle.php_tree.specs.declared.token.TokenKind.TheVariants as token
 use Rattle.php_tree.specs.declared.kind.NodeKind.TheVariants as kind
 use Rattle.php_tree.specs.Tree.{Forest, none, node}
+use Rattle.builtin_tables.specs.Beyond.{beyond_functions, beyond_classes, beyond_constants}
 use Rattle.builtin_tables.specs.Builtins.{builtin_rows}
 use Rattle.builtin_tables.specs.Constants.{named_constants, word_constants}
 use Rattle.builtin_tables.specs.Named.{is_same_name}
@@ -28,7 +29,7 @@ for_with_commas_tree =
 for_with_commas : Comes 200 (file for_with_commas_tree) (file for_with_commas_tree) (codes "a.php")
     ((codes "01.2.."), ended)
     ((codes "01.2.."), ended)
-unfolding builtin_rows named_constants word_constants is_same_name newer_functions newer_classes newer_constants
+unfolding builtin_rows named_constants word_constants is_same_name newer_functions newer_classes newer_constants beyond_functions beyond_classes beyond_constants
 for_with_commas = (refl, refl)
 
 -- <?php $i = 0; while ($i < 3) $i++; do { $i--; } while ($i > 0); echo $i; do echo 'once'; while (false);
@@ -51,7 +52,7 @@ while_and_do_tree =
 while_and_do : Comes 200 (file while_and_do_tree) (file while_and_do_tree) (codes "a.php")
     ((codes "0once"), ended)
     ((codes "0once"), ended)
-unfolding builtin_rows named_constants word_constants is_same_name newer_functions newer_classes newer_constants
+unfolding builtin_rows named_constants word_constants is_same_name newer_functions newer_classes newer_constants beyond_functions beyond_classes beyond_constants
 while_and_do = (refl, refl)
 
 -- <?php foreach ([1, 2, 3] as $x) { foreach ([1, 2, 3] as $y) { if ($y == 2) continue 2; if ($x == 3) break 2; echo $x, $y, ' '; } }
@@ -78,7 +79,7 @@ breaks_tree =
 breaks : Comes 200 (file breaks_tree) (file breaks_tree) (codes "a.php")
     ((codes "11 21 "), ended)
     ((codes "11 21 "), ended)
-unfolding builtin_rows named_constants word_constants is_same_name newer_functions newer_classes newer_constants
+unfolding builtin_rows named_constants word_constants is_same_name newer_functions newer_classes newer_constants beyond_functions beyond_classes beyond_constants
 breaks = (refl, refl)
 
 -- <?php function s($v) { switch ($v) { case 1: return 'one'; case 'a': echo 'fall'; case 2: return 'two'; default:
@@ -107,7 +108,7 @@ switches_tree =
 switches : Comes 200 (file switches_tree) (file switches_tree) (codes "a.php")
     ((codes "onefalltwotwonone"), ended)
     ((codes "onefalltwotwonone"), ended)
-unfolding builtin_rows named_constants word_constants is_same_name newer_functions newer_classes newer_constants
+unfolding builtin_rows named_constants word_constants is_same_name newer_functions newer_classes newer_constants beyond_functions beyond_classes beyond_constants
 switches = (refl, refl)
 
 -- <?php switch ('abc') { case 0: echo 'zero'; break; default: echo 'other'; }
@@ -123,7 +124,7 @@ switch_of_word_tree =
 switch_of_word : Comes 200 (file switch_of_word_tree) (file switch_of_word_tree) (codes "a.php")
     ((codes "zero"), ended)
     ((codes "other"), ended)
-unfolding builtin_rows named_constants word_constants is_same_name newer_functions newer_classes newer_constants
+unfolding builtin_rows named_constants word_constants is_same_name newer_functions newer_classes newer_constants beyond_functions beyond_classes beyond_constants
 switch_of_word = (refl, refl)
 
 -- <?php echo 'a'; exit(5); echo 'b';
@@ -137,7 +138,7 @@ exits_with_status_tree =
 exits_with_status : Comes 200 (file exits_with_status_tree) (file exits_with_status_tree) (codes "a.php")
     ((codes "a"), Ended (pos 5))
     ((codes "a"), Ended (pos 5))
-unfolding builtin_rows named_constants word_constants is_same_name newer_functions newer_classes newer_constants
+unfolding builtin_rows named_constants word_constants is_same_name newer_functions newer_classes newer_constants beyond_functions beyond_classes beyond_constants
 exits_with_status = (refl, refl)
 
 -- <?php die('bye'); echo 'b';
@@ -150,7 +151,7 @@ exits_with_text_tree =
 exits_with_text : Comes 200 (file exits_with_text_tree) (file exits_with_text_tree) (codes "a.php")
     ((codes "bye"), ended)
     ((codes "bye"), ended)
-unfolding builtin_rows named_constants word_constants is_same_name newer_functions newer_classes newer_constants
+unfolding builtin_rows named_constants word_constants is_same_name newer_functions newer_classes newer_constants beyond_functions beyond_classes beyond_constants
 exits_with_text = (refl, refl)
 
 -- <?php $a = [1, 2]; $b = [3]; foreach ($a as &$b[0]) { echo 1; }
@@ -170,7 +171,7 @@ loop_by_reference_into_an_element_tree =
 loop_by_reference_into_an_element : Comes 200 (file loop_by_reference_into_an_element_tree) (file loop_by_reference_into_an_element_tree) (codes "a.php")
     ([], outside NoRule)
     ([], outside NoRule)
-unfolding builtin_rows named_constants word_constants is_same_name newer_functions newer_classes newer_constants
+unfolding builtin_rows named_constants word_constants is_same_name newer_functions newer_classes newer_constants beyond_functions beyond_classes beyond_constants
 loop_by_reference_into_an_element = (refl, refl)
 
 -- <?php for ($i = 0 ?><?php $i < 3 ?><?php $i++): echo $i; endfor;
@@ -187,5 +188,5 @@ closing_tags_in_for_tree =
 closing_tags_in_for : Comes 200 (file closing_tags_in_for_tree) (file closing_tags_in_for_tree) (codes "a.php")
     ((codes "012"), ended)
     ((codes "012"), ended)
-unfolding builtin_rows named_constants word_constants is_same_name newer_functions newer_classes newer_constants
+unfolding builtin_rows named_constants word_constants is_same_name newer_functions newer_classes newer_constants beyond_functions beyond_classes beyond_constants
 closing_tags_in_for = (refl, refl)

@@ -3,6 +3,7 @@ use Rattle.std.proofs.Common.{refl, codes}
 use Rattle.php_tree.specs.declared.token.TokenKind.TheVariants as token
 use Rattle.php_tree.specs.declared.kind.NodeKind.TheVariants as kind
 use Rattle.php_tree.specs.Tree.{Forest, none, node}
+use Rattle.builtin_tables.specs.Beyond.{beyond_functions, beyond_classes, beyond_constants}
 use Rattle.builtin_tables.specs.Builtins.{builtin_rows}
 use Rattle.builtin_tables.specs.Constants.{named_constants, word_constants}
 use Rattle.builtin_tables.specs.Named.{is_same_name}
@@ -22,7 +23,7 @@ mixed_endless_tree =
 mixed_endless : Comes 12 (file mixed_endless_tree) (file mixed_endless_tree) (codes "a.php")
     ((codes ""), Going)
     ((codes ""), Going)
-unfolding builtin_rows named_constants word_constants is_same_name newer_functions newer_classes newer_constants
+unfolding builtin_rows named_constants word_constants is_same_name newer_functions newer_classes newer_constants beyond_functions beyond_classes beyond_constants
 mixed_endless = (refl, refl)
 
 -- <?php $s = 0; for ($i = 0; $i < 100; $i++) { $s += $i; } echo $s;
@@ -42,7 +43,7 @@ mixed_long_loop_tree =
 mixed_long_loop : Comes 400 (file mixed_long_loop_tree) (file mixed_long_loop_tree) (codes "a.php")
     ((codes "4950"), ended)
     ((codes "4950"), ended)
-unfolding builtin_rows named_constants word_constants is_same_name newer_functions newer_classes newer_constants
+unfolding builtin_rows named_constants word_constants is_same_name newer_functions newer_classes newer_constants beyond_functions beyond_classes beyond_constants
 mixed_long_loop = (refl, refl)
 
 -- <?php class P {} function f(int $a, ?string $b, P $c, array $d = []): ?int { return $a; } echo f(1, null, new P), f(2, "x", new P, [1]);
@@ -69,7 +70,7 @@ mixed_typed_tree =
 mixed_typed : Comes 200 (file mixed_typed_tree) (file mixed_typed_tree) (codes "a.php")
     ((codes "12"), ended)
     ((codes "12"), ended)
-unfolding builtin_rows named_constants word_constants is_same_name newer_functions newer_classes newer_constants
+unfolding builtin_rows named_constants word_constants is_same_name newer_functions newer_classes newer_constants beyond_functions beyond_classes beyond_constants
 mixed_typed = (refl, refl)
 
 -- <?php $a = [1, 2]; $r = &$a[0]; unset($r); $b = $a; $b[0] = 9; echo $a[0], $b[0]; function id($x) { return $x; } $c = id($a); $c[1] = 7; echo $a[1], $c[1];
@@ -106,7 +107,7 @@ mixed_holders_tree =
 mixed_holders : Comes 200 (file mixed_holders_tree) (file mixed_holders_tree) (codes "a.php")
     ((codes "1927"), ended)
     ((codes "1927"), ended)
-unfolding builtin_rows named_constants word_constants is_same_name newer_functions newer_classes newer_constants
+unfolding builtin_rows named_constants word_constants is_same_name newer_functions newer_classes newer_constants beyond_functions beyond_classes beyond_constants
 mixed_holders = (refl, refl)
 
 -- <?php function f($n = null) { $n .= 'x'; return $n; } $o = new stdClass; $o->p[] = 1; $o->q += 2; $t .= 'y';
@@ -144,5 +145,5 @@ made_where_they_are_written_tree =
 made_where_they_are_written : Comes 200 (file made_where_they_are_written_tree) (file made_where_they_are_written_tree) (codes "a.php")
     ((codes "x12y3"), ended)
     ((codes "x12y3"), ended)
-unfolding builtin_rows named_constants word_constants is_same_name newer_functions newer_classes newer_constants
+unfolding builtin_rows named_constants word_constants is_same_name newer_functions newer_classes newer_constants beyond_functions beyond_classes beyond_constants
 made_where_they_are_written = (refl, refl)

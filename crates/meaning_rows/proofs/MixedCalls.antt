@@ -3,6 +3,7 @@ use Rattle.std.proofs.Common.{refl, codes}
 use Rattle.php_tree.specs.declared.token.TokenKind.TheVariants as token
 use Rattle.php_tree.specs.declared.kind.NodeKind.TheVariants as kind
 use Rattle.php_tree.specs.Tree.{Forest, none, node}
+use Rattle.builtin_tables.specs.Beyond.{beyond_functions, beyond_classes, beyond_constants}
 use Rattle.builtin_tables.specs.Builtins.{builtin_rows}
 use Rattle.builtin_tables.specs.Constants.{named_constants, word_constants}
 use Rattle.builtin_tables.specs.Named.{is_same_name}
@@ -60,7 +61,7 @@ mixed_functions_tree =
 mixed_functions : Comes 200 (file mixed_functions_tree) (file mixed_functions_tree) (codes "a.php")
     ((codes "321e12za5z3"), ended)
     ((codes "321e12za5z3"), ended)
-unfolding builtin_rows named_constants word_constants is_same_name newer_functions newer_classes newer_constants
+unfolding builtin_rows named_constants word_constants is_same_name newer_functions newer_classes newer_constants beyond_functions beyond_classes beyond_constants
 mixed_functions = (refl, refl)
 
 -- <?php if (true) { function late() { return "l"; } } echo late(); function outer() { function inner() { return "i"; } return "o"; } echo outer(), inner();
@@ -84,7 +85,7 @@ mixed_conditional_tree =
 mixed_conditional : Comes 200 (file mixed_conditional_tree) (file mixed_conditional_tree) (codes "a.php")
     ((codes "loi"), ended)
     ((codes "loi"), ended)
-unfolding builtin_rows named_constants word_constants is_same_name newer_functions newer_classes newer_constants
+unfolding builtin_rows named_constants word_constants is_same_name newer_functions newer_classes newer_constants beyond_functions beyond_classes beyond_constants
 mixed_conditional = (refl, refl)
 
 -- <?php function h() { try { return "t"; } finally { echo "F"; } } echo h(); function h2() { foreach ([1, 2] as $x) {
@@ -122,7 +123,7 @@ mixed_jumps_tree =
 mixed_jumps : Comes 200 (file mixed_jumps_tree) (file mixed_jumps_tree) (codes "a.php")
     ((codes "Ftc1c2rf"), ended)
     ((codes "Ftc1c2rf"), ended)
-unfolding builtin_rows named_constants word_constants is_same_name newer_functions newer_classes newer_constants
+unfolding builtin_rows named_constants word_constants is_same_name newer_functions newer_classes newer_constants beyond_functions beyond_classes beyond_constants
 mixed_jumps = (refl, refl)
 
 -- <?php function thrower($n) { if ($n == 0) throw new RuntimeException("deep", 4); thrower($n - 1); echo "never"; }
@@ -176,7 +177,7 @@ mixed_exceptions_tree =
 mixed_exceptions : Comes 200 (file mixed_exceptions_tree) (file mixed_exceptions_tree) (codes "a.php")
     ((codes "findeep4divargs"), Threw (codes "Exception"))
     ((codes "findeep4divargs"), Threw (codes "Exception"))
-unfolding builtin_rows named_constants word_constants is_same_name newer_functions newer_classes newer_constants
+unfolding builtin_rows named_constants word_constants is_same_name newer_functions newer_classes newer_constants beyond_functions beyond_classes beyond_constants
 mixed_exceptions = (refl, refl)
 
 -- <?php class A { public $p = 1; private $s = "sec"; protected $q = [1, 2]; function __construct($p) { $this->p = $p;
@@ -271,5 +272,5 @@ mixed_classes_tree =
 mixed_classes : Comes 200 (file mixed_classes_tree) (file mixed_classes_tree) (codes "a.php")
     ((codes "5sec2Bsec2bhEP581"), ended)
     ((codes "5sec2Bsec2bhEP581"), ended)
-unfolding builtin_rows named_constants word_constants is_same_name newer_functions newer_classes newer_constants
+unfolding builtin_rows named_constants word_constants is_same_name newer_functions newer_classes newer_constants beyond_functions beyond_classes beyond_constants
 mixed_classes = (refl, refl)

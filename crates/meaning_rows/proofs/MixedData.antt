@@ -3,6 +3,7 @@ use Rattle.std.proofs.Common.{refl, codes}
 use Rattle.php_tree.specs.declared.token.TokenKind.TheVariants as token
 use Rattle.php_tree.specs.declared.kind.NodeKind.TheVariants as kind
 use Rattle.php_tree.specs.Tree.{Forest, none, node}
+use Rattle.builtin_tables.specs.Beyond.{beyond_functions, beyond_classes, beyond_constants}
 use Rattle.builtin_tables.specs.Builtins.{builtin_rows}
 use Rattle.builtin_tables.specs.Constants.{named_constants, word_constants}
 use Rattle.builtin_tables.specs.Named.{is_same_name}
@@ -23,7 +24,7 @@ mixed_assigned_tree =
 mixed_assigned : Comes 200 (file mixed_assigned_tree) (file mixed_assigned_tree) (codes "a.php")
     ((codes "21"), ended)
     ((codes "21"), ended)
-unfolding builtin_rows named_constants word_constants is_same_name newer_functions newer_classes newer_constants
+unfolding builtin_rows named_constants word_constants is_same_name newer_functions newer_classes newer_constants beyond_functions beyond_classes beyond_constants
 mixed_assigned = (refl, refl)
 
 -- <?php $a = [1, 2]; foreach ($a as &$v) { $v = "x"; } unset($v); echo $a[0] == 0 ? "y" : "n";
@@ -46,7 +47,7 @@ mixed_loop_by_reference_tree =
 mixed_loop_by_reference : Comes 200 (file mixed_loop_by_reference_tree) (file mixed_loop_by_reference_tree) (codes "a.php")
     ((codes "y"), ended)
     ((codes "n"), ended)
-unfolding builtin_rows named_constants word_constants is_same_name newer_functions newer_classes newer_constants
+unfolding builtin_rows named_constants word_constants is_same_name newer_functions newer_classes newer_constants beyond_functions beyond_classes beyond_constants
 mixed_loop_by_reference = (refl, refl)
 
 -- <?php function f() { global $g; $g = "x"; } $g = 0; $h = 0; f(); echo $g == 0, $h == 0;
@@ -68,7 +69,7 @@ mixed_global_of_a_body_tree =
 mixed_global_of_a_body : Comes 200 (file mixed_global_of_a_body_tree) (file mixed_global_of_a_body_tree) (codes "a.php")
     ((codes "11"), ended)
     ((codes "1"), ended)
-unfolding builtin_rows named_constants word_constants is_same_name newer_functions newer_classes newer_constants
+unfolding builtin_rows named_constants word_constants is_same_name newer_functions newer_classes newer_constants beyond_functions beyond_classes beyond_constants
 mixed_global_of_a_body = (refl, refl)
 
 -- <?php $a['x'][] = 1; $a['x'][] = 2; $a['y']['z'] = 3; $b = $a; $b['x'][0] = 9; echo count($a), count($a['x']), $a['x'][0], $b['x'][0], $a['y']['z'];
@@ -105,7 +106,7 @@ mixed_nested_writes_tree =
 mixed_nested_writes : Comes 200 (file mixed_nested_writes_tree) (file mixed_nested_writes_tree) (codes "a.php")
     ((codes "22193"), ended)
     ((codes "22193"), ended)
-unfolding builtin_rows named_constants word_constants is_same_name newer_functions newer_classes newer_constants
+unfolding builtin_rows named_constants word_constants is_same_name newer_functions newer_classes newer_constants beyond_functions beyond_classes beyond_constants
 mixed_nested_writes = (refl, refl)
 
 -- <?php $a = 1; $b = &$a; $b++; $c = [1, 2]; $d = &$c[1]; $d = 7; echo $a, $c[1]; unset($b); $b = 5; echo $a;
@@ -134,7 +135,7 @@ mixed_references_tree =
 mixed_references : Comes 200 (file mixed_references_tree) (file mixed_references_tree) (codes "a.php")
     ((codes "272"), ended)
     ((codes "272"), ended)
-unfolding builtin_rows named_constants word_constants is_same_name newer_functions newer_classes newer_constants
+unfolding builtin_rows named_constants word_constants is_same_name newer_functions newer_classes newer_constants beyond_functions beyond_classes beyond_constants
 mixed_references = (refl, refl)
 
 -- <?php $i = 5; echo $i++, $i, ++$i, $i--, --$i; $i += 3; $i .= "x"; echo $i; $n = null; $n++; echo $n; $q["k"] = 1; $q["k"] += 2; echo $q["k"];
@@ -167,7 +168,7 @@ mixed_steps_tree =
 mixed_steps : Comes 200 (file mixed_steps_tree) (file mixed_steps_tree) (codes "a.php")
     ((codes "567758x13"), ended)
     ((codes "567758x13"), ended)
-unfolding builtin_rows named_constants word_constants is_same_name newer_functions newer_classes newer_constants
+unfolding builtin_rows named_constants word_constants is_same_name newer_functions newer_classes newer_constants beyond_functions beyond_classes beyond_constants
 mixed_steps = (refl, refl)
 
 -- <?php $i = 0; while ($i < 4) { $i++; if ($i == 2) continue; if ($i == 4) break; echo $i; } echo "e";
@@ -190,7 +191,7 @@ mixed_while_loop_tree =
 mixed_while_loop : Comes 200 (file mixed_while_loop_tree) (file mixed_while_loop_tree) (codes "a.php")
     ((codes "13e"), ended)
     ((codes "13e"), ended)
-unfolding builtin_rows named_constants word_constants is_same_name newer_functions newer_classes newer_constants
+unfolding builtin_rows named_constants word_constants is_same_name newer_functions newer_classes newer_constants beyond_functions beyond_classes beyond_constants
 mixed_while_loop = (refl, refl)
 
 -- <?php for ($i = 0, $j = 5; $i < $j; $i++, $j--) { if ($i == 1) continue; echo $i, $j, " "; } for (;;) { break; } echo $i;
@@ -216,7 +217,7 @@ mixed_for_loop_tree =
 mixed_for_loop : Comes 200 (file mixed_for_loop_tree) (file mixed_for_loop_tree) (codes "a.php")
     ((codes "05 23 3"), ended)
     ((codes "05 23 3"), ended)
-unfolding builtin_rows named_constants word_constants is_same_name newer_functions newer_classes newer_constants
+unfolding builtin_rows named_constants word_constants is_same_name newer_functions newer_classes newer_constants beyond_functions beyond_classes beyond_constants
 mixed_for_loop = (refl, refl)
 
 -- <?php for ($i = 0; $i < 3; $i++): foreach ([1, 2, 3] as $k => $v): if ($v == 2) continue 2; if ($i == 2) break 2;
@@ -250,7 +251,7 @@ mixed_nested_loops_tree =
 mixed_nested_loops : Comes 200 (file mixed_nested_loops_tree) (file mixed_nested_loops_tree) (codes "a.php")
     ((codes "001;101;21"), ended)
     ((codes "001;101;21"), ended)
-unfolding builtin_rows named_constants word_constants is_same_name newer_functions newer_classes newer_constants
+unfolding builtin_rows named_constants word_constants is_same_name newer_functions newer_classes newer_constants beyond_functions beyond_classes beyond_constants
 mixed_nested_loops = (refl, refl)
 
 -- <?php switch ("1") { case 1: echo "one"; case 2: echo "two"; break; default: echo "d"; } switch (9) { case 1: echo
@@ -284,7 +285,7 @@ mixed_switched_tree =
 mixed_switched : Comes 200 (file mixed_switched_tree) (file mixed_switched_tree) (codes "a.php")
     ((codes "onetwoD32"), ended)
     ((codes "onetwoD32"), ended)
-unfolding builtin_rows named_constants word_constants is_same_name newer_functions newer_classes newer_constants
+unfolding builtin_rows named_constants word_constants is_same_name newer_functions newer_classes newer_constants beyond_functions beyond_classes beyond_constants
 mixed_switched = (refl, refl)
 
 -- <?php $a = [1, 2, 3]; foreach ($a as $v) { $a[] = $v; } echo count($a); foreach ([1, 2] as $i => $i) { echo $i; } foreach (null as $z) { echo "no"; }
@@ -314,7 +315,7 @@ mixed_foreach_copy_tree =
 mixed_foreach_copy : Comes 200 (file mixed_foreach_copy_tree) (file mixed_foreach_copy_tree) (codes "a.php")
     ((codes "601"), ended)
     ((codes "601"), ended)
-unfolding builtin_rows named_constants word_constants is_same_name newer_functions newer_classes newer_constants
+unfolding builtin_rows named_constants word_constants is_same_name newer_functions newer_classes newer_constants beyond_functions beyond_classes beyond_constants
 mixed_foreach_copy = (refl, refl)
 
 -- <?php $a = [1, 2, 3]; foreach ($a as &$v) { echo $v; if ($v == 1) { $a = [7, 8, 9]; } } unset($v); $b = [1, 2]; $n
@@ -357,5 +358,5 @@ mixed_foreach_reference_tree =
 mixed_foreach_reference : Comes 200 (file mixed_foreach_reference_tree) (file mixed_foreach_reference_tree) (codes "a.php")
     ((codes "1789129995"), ended)
     ((codes "1789129995"), ended)
-unfolding builtin_rows named_constants word_constants is_same_name newer_functions newer_classes newer_constants
+unfolding builtin_rows named_constants word_constants is_same_name newer_functions newer_classes newer_constants beyond_functions beyond_classes beyond_constants
 mixed_foreach_reference = (refl, refl)

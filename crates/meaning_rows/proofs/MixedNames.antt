@@ -3,6 +3,7 @@ use Rattle.std.proofs.Common.{[], ◌∷◌, refl, pos, codes}
 use Rattle.php_tree.specs.declared.token.TokenKind.TheVariants as token
 use Rattle.php_tree.specs.declared.kind.NodeKind.TheVariants as kind
 use Rattle.php_tree.specs.Tree.{Forest, none, node}
+use Rattle.builtin_tables.specs.Beyond.{beyond_functions, beyond_classes, beyond_constants}
 use Rattle.builtin_tables.specs.Builtins.{builtin_rows}
 use Rattle.builtin_tables.specs.Constants.{named_constants, word_constants}
 use Rattle.builtin_tables.specs.Named.{is_same_name}
@@ -84,7 +85,7 @@ mixed_names_new_tree =
 mixed_names : Comes 200 (file mixed_names_tree) (file mixed_names_new_tree) (codes "a.php")
     ((codes "ns32nsccN\\M\\InnerN\\Mm"), ended)
     ((codes "ns32nsccN\\M\\InnerN\\Mm"), ended)
-unfolding builtin_rows named_constants word_constants is_same_name newer_functions newer_classes newer_constants
+unfolding builtin_rows named_constants word_constants is_same_name newer_functions newer_classes newer_constants beyond_functions beyond_classes beyond_constants
 mixed_names = (refl, refl)
 
 -- <?php function f() { echo "a"; exit(3); } f(); echo "b";
@@ -101,7 +102,7 @@ mixed_exits_tree =
 mixed_exits : Comes 200 (file mixed_exits_tree) (file mixed_exits_tree) (codes "a.php")
     ((codes "a"), Ended (pos 3))
     ((codes "a"), Ended (pos 3))
-unfolding builtin_rows named_constants word_constants is_same_name newer_functions newer_classes newer_constants
+unfolding builtin_rows named_constants word_constants is_same_name newer_functions newer_classes newer_constants beyond_functions beyond_classes beyond_constants
 mixed_exits = (refl, refl)
 
 -- <?php $x = 5; $a = ["k" => 7, 3 => 8]; $id = "z"; echo "v=$x {$a['k']} $a[k] $a[3] ${id}\n";
@@ -126,7 +127,7 @@ mixed_quoted_tree =
 mixed_quoted : Comes 200 (file mixed_quoted_tree) (file mixed_quoted_tree) (codes "a.php")
     ((codes "v=5 7 7 8 z\n"), ended)
     ((codes "v=5 7 7 8 z\n"), ended)
-unfolding builtin_rows named_constants word_constants is_same_name newer_functions newer_classes newer_constants
+unfolding builtin_rows named_constants word_constants is_same_name newer_functions newer_classes newer_constants beyond_functions beyond_classes beyond_constants
 mixed_quoted = (refl, refl)
 
 -- <?php const A = 2; echo A . PHP_EOL; try { echo foo; } catch (Error $e) { echo "E"; }
@@ -144,7 +145,7 @@ mixed_constants_tree =
 mixed_constants : Comes 200 (file mixed_constants_tree) (file mixed_constants_tree) (codes "a.php")
     ((codes "2\nfoo"), ended)
     ((codes "2\nE"), ended)
-unfolding builtin_rows named_constants word_constants is_same_name newer_functions newer_classes newer_constants
+unfolding builtin_rows named_constants word_constants is_same_name newer_functions newer_classes newer_constants beyond_functions beyond_classes beyond_constants
 mixed_constants = (refl, refl)
 
 -- <?php $a = ['x' => null, 'y' => 0]; echo isset($a['x']) ? 1 : 0, isset($a['y']) ? 1 : 0, isset($a['z']['w']) ? 1 :
@@ -198,7 +199,7 @@ mixed_tests_tree =
 mixed_tests : Comes 200 (file mixed_tests_tree) (file mixed_tests_tree) (codes "a.php")
     ((codes "01001de1FTT"), ended)
     ((codes "01001de1FTT"), ended)
-unfolding builtin_rows named_constants word_constants is_same_name newer_functions newer_classes newer_constants
+unfolding builtin_rows named_constants word_constants is_same_name newer_functions newer_classes newer_constants beyond_functions beyond_classes beyond_constants
 mixed_tests = (refl, refl)
 
 -- sub/lib.php:
@@ -229,7 +230,7 @@ mixed_includes : Comes 200 ((codes "sub/lib.php", mixed_includes_tree0) ∷ (cod
     (codes "main.php")
     ((codes "7LS1"), ended)
     ((codes "7LS1"), ended)
-unfolding builtin_rows named_constants word_constants is_same_name newer_functions newer_classes newer_constants
+unfolding builtin_rows named_constants word_constants is_same_name newer_functions newer_classes newer_constants beyond_functions beyond_classes beyond_constants
 mixed_includes = (refl, refl)
 
 -- <?php class A { function A() { echo 1; } } new A;
@@ -244,7 +245,7 @@ mixed_constructor_by_name_tree =
 mixed_constructor_by_name : Comes 200 (file mixed_constructor_by_name_tree) (file mixed_constructor_by_name_tree) (codes "a.php")
     ((codes "1"), ended)
     ((codes ""), ended)
-unfolding builtin_rows named_constants word_constants is_same_name newer_functions newer_classes newer_constants
+unfolding builtin_rows named_constants word_constants is_same_name newer_functions newer_classes newer_constants beyond_functions beyond_classes beyond_constants
 mixed_constructor_by_name = (refl, refl)
 
 -- <?php class A { function f() { return "f"; } } try { echo A::f(); } catch (Error $e) { echo "E"; }
@@ -263,7 +264,7 @@ mixed_static_call_tree =
 mixed_static_call : Comes 200 (file mixed_static_call_tree) (file mixed_static_call_tree) (codes "a.php")
     ((codes "f"), ended)
     ((codes "E"), ended)
-unfolding builtin_rows named_constants word_constants is_same_name newer_functions newer_classes newer_constants
+unfolding builtin_rows named_constants word_constants is_same_name newer_functions newer_classes newer_constants beyond_functions beyond_classes beyond_constants
 mixed_static_call = (refl, refl)
 
 -- <?php class A { const X = 1, Y = self::X . "y"; public static $n = self::Y; static function up() { self::$n .= "!";
@@ -309,7 +310,7 @@ mixed_class_constants_tree =
 mixed_class_constants : Comes 200 (file mixed_class_constants_tree) (file mixed_class_constants_tree) (codes "a.php")
     ((codes "1y1y121y!!1y!!A10E"), ended)
     ((codes "1y1y121y!!1y!!A10E"), ended)
-unfolding builtin_rows named_constants word_constants is_same_name newer_functions newer_classes newer_constants
+unfolding builtin_rows named_constants word_constants is_same_name newer_functions newer_classes newer_constants beyond_functions beyond_classes beyond_constants
 mixed_class_constants = (refl, refl)
 
 -- <?php class A { function f() { static $n = 0; $n++; echo $n; } } class B extends A {} (new A)->f(); (new B)->f();
@@ -332,5 +333,5 @@ mixed_statics_of_a_child_tree =
 mixed_statics_of_a_child : Comes 200 (file mixed_statics_of_a_child_tree) (file mixed_statics_of_a_child_tree) (codes "a.php")
     ((codes "11"), ended)
     ((codes "12"), ended)
-unfolding builtin_rows named_constants word_constants is_same_name newer_functions newer_classes newer_constants
+unfolding builtin_rows named_constants word_constants is_same_name newer_functions newer_classes newer_constants beyond_functions beyond_classes beyond_constants
 mixed_statics_of_a_child = (refl, refl)

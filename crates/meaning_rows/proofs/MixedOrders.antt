@@ -3,6 +3,7 @@ use Rattle.std.proofs.Common.{refl, codes}
 use Rattle.php_tree.specs.declared.token.TokenKind.TheVariants as token
 use Rattle.php_tree.specs.declared.kind.NodeKind.TheVariants as kind
 use Rattle.php_tree.specs.Tree.{Forest, none, node}
+use Rattle.builtin_tables.specs.Beyond.{beyond_functions, beyond_classes, beyond_constants}
 use Rattle.builtin_tables.specs.Builtins.{builtin_rows}
 use Rattle.builtin_tables.specs.Constants.{named_constants, word_constants}
 use Rattle.builtin_tables.specs.Named.{is_same_name}
@@ -52,7 +53,7 @@ mixed_private_shadow_tree =
 mixed_private_shadow : Comes 200 (file mixed_private_shadow_tree) (file mixed_private_shadow_tree) (codes "a.php")
     ((codes "155179"), ended)
     ((codes "155179"), ended)
-unfolding builtin_rows named_constants word_constants is_same_name newer_functions newer_classes newer_constants
+unfolding builtin_rows named_constants word_constants is_same_name newer_functions newer_classes newer_constants beyond_functions beyond_classes beyond_constants
 mixed_private_shadow = (refl, refl)
 
 -- <?php for ($i = 0; $i < 3; $i++) { switch ($i) { case 0: continue 2; case 1: echo "a"; break; default: echo "d"; } echo $i; }
@@ -76,7 +77,7 @@ mixed_switch_loop_tree =
 mixed_switch_loop : Comes 200 (file mixed_switch_loop_tree) (file mixed_switch_loop_tree) (codes "a.php")
     ((codes "a1d2"), ended)
     ((codes "a1d2"), ended)
-unfolding builtin_rows named_constants word_constants is_same_name newer_functions newer_classes newer_constants
+unfolding builtin_rows named_constants word_constants is_same_name newer_functions newer_classes newer_constants beyond_functions beyond_classes beyond_constants
 mixed_switch_loop = (refl, refl)
 
 -- <?php function g() { try { throw new Exception("x"); } finally { return "g"; } } echo g(); function h() { try { try
@@ -110,7 +111,7 @@ mixed_finally_jumps_tree =
 mixed_finally_jumps : Comes 200 (file mixed_finally_jumps_tree) (file mixed_finally_jumps_tree) (codes "a.php")
     ((codes "gtwo"), ended)
     ((codes "gtwo"), ended)
-unfolding builtin_rows named_constants word_constants is_same_name newer_functions newer_classes newer_constants
+unfolding builtin_rows named_constants word_constants is_same_name newer_functions newer_classes newer_constants beyond_functions beyond_classes beyond_constants
 mixed_finally_jumps = (refl, refl)
 
 -- <?php function add(&$a, $v) { $a[] = $v; } $x = []; add($x, 1); add($x["sub"], 2); echo count($x),
@@ -167,7 +168,7 @@ mixed_references_in_calls_tree =
 mixed_references_in_calls : Comes 200 (file mixed_references_in_calls_tree) (file mixed_references_in_calls_tree) (codes "a.php")
     ((codes "21211020"), ended)
     ((codes "21211020"), ended)
-unfolding builtin_rows named_constants word_constants is_same_name newer_functions newer_classes newer_constants
+unfolding builtin_rows named_constants word_constants is_same_name newer_functions newer_classes newer_constants beyond_functions beyond_classes beyond_constants
 mixed_references_in_calls = (refl, refl)
 
 -- <?php $t = "abc"; echo $t[0], $t[-1], $t["1"], isset($t[5]) ? 1 : 0, isset($t["x"]["y"]) ? 1 : 0, $t[7] ?? "d";
@@ -195,7 +196,7 @@ mixed_text_offsets_tree =
 mixed_text_offsets : Comes 200 (file mixed_text_offsets_tree) (file mixed_text_offsets_tree) (codes "a.php")
     ((codes "acb0"), outside Offset)
     ((codes "acb0"), outside Offset)
-unfolding builtin_rows named_constants word_constants is_same_name newer_functions newer_classes newer_constants
+unfolding builtin_rows named_constants word_constants is_same_name newer_functions newer_classes newer_constants beyond_functions beyond_classes beyond_constants
 mixed_text_offsets = (refl, refl)
 
 -- <?php function c() { static $n = 10; return ++$n; } c(); c(); echo c(); class K { static function s() { static $n = 0; return ++$n; } } K::s(); echo K::s();
@@ -223,7 +224,7 @@ mixed_statics_of_functions_tree =
 mixed_statics_of_functions : Comes 200 (file mixed_statics_of_functions_tree) (file mixed_statics_of_functions_tree) (codes "a.php")
     ((codes "132"), ended)
     ((codes "132"), ended)
-unfolding builtin_rows named_constants word_constants is_same_name newer_functions newer_classes newer_constants
+unfolding builtin_rows named_constants word_constants is_same_name newer_functions newer_classes newer_constants beyond_functions beyond_classes beyond_constants
 mixed_statics_of_functions = (refl, refl)
 
 -- <?php $g = 1; function f() { global $g, $h; $g++; $h = "new"; return $g; } echo f(), $g, $h; function u() { global
@@ -266,7 +267,7 @@ mixed_globals_in_bodies_tree =
 mixed_globals_in_bodies : Comes 200 (file mixed_globals_in_bodies_tree) (file mixed_globals_in_bodies_tree) (codes "a.php")
     ((codes "22new0252"), ended)
     ((codes "22new0252"), ended)
-unfolding builtin_rows named_constants word_constants is_same_name newer_functions newer_classes newer_constants
+unfolding builtin_rows named_constants word_constants is_same_name newer_functions newer_classes newer_constants beyond_functions beyond_classes beyond_constants
 mixed_globals_in_bodies = (refl, refl)
 
 -- <?php echo 1 <=> 2, "a" == 0 ? "t" : "f", "1" == "01" ? "t" : "f", null == false ? "t" : "f", [] == false ? "t" :
@@ -307,7 +308,7 @@ mixed_comparisons_tree =
 mixed_comparisons : Comes 200 (file mixed_comparisons_tree) (file mixed_comparisons_tree) (codes "a.php")
     ((codes "-1ttttftttt"), ended)
     ((codes "-1ftttftttt"), ended)
-unfolding builtin_rows named_constants word_constants is_same_name newer_functions newer_classes newer_constants
+unfolding builtin_rows named_constants word_constants is_same_name newer_functions newer_classes newer_constants beyond_functions beyond_classes beyond_constants
 mixed_comparisons = (refl, refl)
 
 -- <?php $x = 5; if ($x < 3) echo "a"; elseif ($x < 6) echo "b"; else echo "c"; if ($x > 9) { echo "d"; } else if ($x == 5) { echo "e"; }
@@ -333,7 +334,7 @@ mixed_elseif_chain_tree =
 mixed_elseif_chain : Comes 200 (file mixed_elseif_chain_tree) (file mixed_elseif_chain_tree) (codes "a.php")
     ((codes "be"), ended)
     ((codes "be"), ended)
-unfolding builtin_rows named_constants word_constants is_same_name newer_functions newer_classes newer_constants
+unfolding builtin_rows named_constants word_constants is_same_name newer_functions newer_classes newer_constants beyond_functions beyond_classes beyond_constants
 mixed_elseif_chain = (refl, refl)
 
 -- <?php $i = 1; $i += $i++; echo $i; function kk($n) { echo "k", $n; return $n; } $arr = []; $arr[kk(1)][kk(2)] =
@@ -389,7 +390,7 @@ mixed_orders_tree =
 mixed_orders : Comes 200 (file mixed_orders_tree) (file mixed_orders_tree) (codes "a.php")
     ((codes "3k1k2k3arg0000"), ended)
     ((codes "3k1k2k3arg0000"), ended)
-unfolding builtin_rows named_constants word_constants is_same_name newer_functions newer_classes newer_constants
+unfolding builtin_rows named_constants word_constants is_same_name newer_functions newer_classes newer_constants beyond_functions beyond_classes beyond_constants
 mixed_orders = (refl, refl)
 
 -- <?php class C1 { const X = C2::Y; public $d = self::X; } class C2 { const Y = 4; } echo C1::X, (new C1)->d;
@@ -450,5 +451,5 @@ mixed_late_constants_tree =
 mixed_late_constants : Comes 200 (file mixed_late_constants_tree) (file mixed_late_constants_tree) (codes "a.php")
     ((codes "44113341-1"), ended)
     ((codes "44113341-1"), ended)
-unfolding builtin_rows named_constants word_constants is_same_name newer_functions newer_classes newer_constants
+unfolding builtin_rows named_constants word_constants is_same_name newer_functions newer_classes newer_constants beyond_functions beyond_classes beyond_constants
 mixed_late_constants = (refl, refl)

@@ -4,6 +4,7 @@ use Rattle.php_tree.specs.declared.token.TokenKind.TheVariants as token
 use Rattle.php_tree.specs.declared.kind.NodeKind.TheVariants as kind
 use Rattle.php_tree.specs.declared.version.Version.TheVariants.{V74}
 use Rattle.php_tree.specs.Tree.{Forest, none, node}
+use Rattle.builtin_tables.specs.Beyond.{beyond_functions, beyond_classes, beyond_constants}
 use Rattle.builtin_tables.specs.Builtins.{builtin_rows}
 use Rattle.builtin_tables.specs.Constants.{named_constants, word_constants}
 use Rattle.builtin_tables.specs.Named.{is_same_name}
@@ -44,31 +45,31 @@ comparing_may_ask = refl
 
 -- a run that ends is covered, and so is one that goes on
 ended_is_covered : IsCovered (marked [] 10 joined_tree)
-unfolding builtin_rows named_constants word_constants is_same_name newer_functions newer_classes newer_constants
+unfolding builtin_rows named_constants word_constants is_same_name newer_functions newer_classes newer_constants beyond_functions beyond_classes beyond_constants
 ended_is_covered = record { inside = tt; unasked = refl }
 
 has_ended : (marked [] 10 joined_tree).end ≡ ended
-unfolding builtin_rows named_constants word_constants is_same_name newer_functions newer_classes newer_constants
+unfolding builtin_rows named_constants word_constants is_same_name newer_functions newer_classes newer_constants beyond_functions beyond_classes beyond_constants
 has_ended = refl
 
 going_is_covered : IsCovered (marked [] 0 joined_tree)
-unfolding builtin_rows named_constants word_constants is_same_name newer_functions newer_classes newer_constants
+unfolding builtin_rows named_constants word_constants is_same_name newer_functions newer_classes newer_constants beyond_functions beyond_classes beyond_constants
 going_is_covered = record { inside = tt; unasked = refl }
 
 goes_on : (marked [] 0 joined_tree).end ≡ Going
-unfolding builtin_rows named_constants word_constants is_same_name newer_functions newer_classes newer_constants
+unfolding builtin_rows named_constants word_constants is_same_name newer_functions newer_classes newer_constants beyond_functions beyond_classes beyond_constants
 goes_on = refl
 
 -- a file with a mark isn't started, and a node with one isn't left
 file_is_marked : without_place (marked (CompileOf (codes "a.php") ∷ []) 10 joined_tree).end ≡ outside CompileMark
-unfolding builtin_rows named_constants word_constants is_same_name newer_functions newer_classes newer_constants
+unfolding builtin_rows named_constants word_constants is_same_name newer_functions newer_classes newer_constants beyond_functions beyond_classes beyond_constants
 file_is_marked = refl
 
 node_is_marked : without_place (marked (StopAt (codes "a.php") 1 ∷ []) 10 joined_tree).end ≡ outside StopMark
-unfolding builtin_rows named_constants word_constants is_same_name newer_functions newer_classes newer_constants
+unfolding builtin_rows named_constants word_constants is_same_name newer_functions newer_classes newer_constants beyond_functions beyond_classes beyond_constants
 node_is_marked = refl
 
 -- a mark of another file stops nothing
 other_is_marked : (marked (CompileOf (codes "b.php") ∷ []) 10 joined_tree).end ≡ ended
-unfolding builtin_rows named_constants word_constants is_same_name newer_functions newer_classes newer_constants
+unfolding builtin_rows named_constants word_constants is_same_name newer_functions newer_classes newer_constants beyond_functions beyond_classes beyond_constants
 other_is_marked = refl

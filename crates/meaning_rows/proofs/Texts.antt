@@ -3,6 +3,7 @@ use Rattle.std.proofs.Common.{refl, codes}
 use Rattle.php_tree.specs.declared.token.TokenKind.TheVariants as token
 use Rattle.php_tree.specs.declared.kind.NodeKind.TheVariants as kind
 use Rattle.php_tree.specs.Tree.{Forest, none, node}
+use Rattle.builtin_tables.specs.Beyond.{beyond_functions, beyond_classes, beyond_constants}
 use Rattle.builtin_tables.specs.Builtins.{builtin_rows}
 use Rattle.builtin_tables.specs.Constants.{named_constants, word_constants}
 use Rattle.builtin_tables.specs.Named.{is_same_name}
@@ -22,7 +23,7 @@ offset_past_the_end_tree =
 offset_past_the_end : Comes 200 (file offset_past_the_end_tree) (file offset_past_the_end_tree) (codes "a.php")
     ((codes "x"), outside Offset)
     ((codes "x"), outside Offset)
-unfolding builtin_rows named_constants word_constants is_same_name newer_functions newer_classes newer_constants
+unfolding builtin_rows named_constants word_constants is_same_name newer_functions newer_classes newer_constants beyond_functions beyond_classes beyond_constants
 offset_past_the_end = (refl, refl)
 
 -- <?php $s = "abc"; echo $s{0}, "$s{0}";
@@ -48,7 +49,7 @@ brace_offsets_new_tree =
 brace_offsets : Comes 200 (file brace_offsets_tree) (file brace_offsets_new_tree) (codes "a.php")
     ((codes "aabc{0}"), ended)
     ((codes "aabc{0}"), ended)
-unfolding builtin_rows named_constants word_constants is_same_name newer_functions newer_classes newer_constants
+unfolding builtin_rows named_constants word_constants is_same_name newer_functions newer_classes newer_constants beyond_functions beyond_classes beyond_constants
 brace_offsets = (refl, refl)
 
 -- <?php $x = 1; $y = [2]; echo "${x} ${y[0]}";
@@ -79,7 +80,7 @@ dollar_braces_new_tree =
 dollar_braces : Comes 200 (file dollar_braces_tree) (file dollar_braces_new_tree) (codes "a.php")
     ((codes "1 2"), ended)
     ((codes "1 2"), ended)
-unfolding builtin_rows named_constants word_constants is_same_name newer_functions newer_classes newer_constants
+unfolding builtin_rows named_constants word_constants is_same_name newer_functions newer_classes newer_constants beyond_functions beyond_classes beyond_constants
 dollar_braces = (refl, refl)
 
 -- <?php $x = 'v'; echo <<<A
@@ -101,7 +102,7 @@ heredocs_tree =
 heredocs : Comes 200 (file heredocs_tree) (file heredocs_tree) (codes "a.php")
     ((codes "one v\n  two v|raw $x"), ended)
     ((codes "one v\n  two v|raw $x"), ended)
-unfolding builtin_rows named_constants word_constants is_same_name newer_functions newer_classes newer_constants
+unfolding builtin_rows named_constants word_constants is_same_name newer_functions newer_classes newer_constants beyond_functions beyond_classes beyond_constants
 heredocs = (refl, refl)
 
 -- <?php $s = 'a'; $s .= 'b'; $s .= 1; echo $s . 2 . 'c' . true . null . false;
@@ -122,5 +123,5 @@ concatenations_tree =
 concatenations : Comes 200 (file concatenations_tree) (file concatenations_tree) (codes "a.php")
     ((codes "ab12c1"), ended)
     ((codes "ab12c1"), ended)
-unfolding builtin_rows named_constants word_constants is_same_name newer_functions newer_classes newer_constants
+unfolding builtin_rows named_constants word_constants is_same_name newer_functions newer_classes newer_constants beyond_functions beyond_classes beyond_constants
 concatenations = (refl, refl)

@@ -1,3 +1,4 @@
 mod FactLemmas
+mod FlatLemmas
 mod KindRows
 mod Walking

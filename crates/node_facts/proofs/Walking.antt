@@ -25,7 +25,7 @@ use Rattle.std.proofs.Common.{
   append-nil,
   arith,
 }
-use Rattle.std.specs.Prelude.{Vec, map}
+use Rattle.std.specs.Prelude.{Vec}
 use Rattle.std.specs.declared.alloc.Global.{Global}
 use Rattle.php_tree.specs.declared.kind.NodeKind.{NodeKind}
 use Rattle.php_tree.specs.declared.token.Token.{Token}
@@ -38,14 +38,14 @@ use Rattle.file_declarations.specs.declared.import.Import.{Import}
 use Rattle.file_declarations.specs.Imported.{IsLonger, last_first}
 use Rattle.file_declarations.specs.Standing.{site_at as slim_at, space_or}
 use Rattle.node_facts.specs.declared.counts.Counts.{Counts}
-use Rattle.node_facts.specs.declared.node_fact.NodeFact.{NodeFact}
+use Rattle.node_facts.specs.declared.facts.FileFacts.{FileFacts}
 use Rattle.node_facts.specs.declared.opened.Opened.{Opened}
 use Rattle.node_facts.specs.declared.spot.Spot.{Spot}
 use Rattle.node_facts.specs.Named.{Named, named, named_at}
 use Rattle.node_facts.specs.Dispatch.{asks_form, form_if, named_by}
 use Rattle.node_facts.specs.Opened.{names_in}
 use Rattle.node_facts.specs.Past.{past, entered}
-use Rattle.node_facts.specs.Seen.{named_in}
+use Rattle.node_facts.specs.Flat.{facts_in}
 use Rattle.node_facts.specs.Standing.{standing_among, standing_at, site_with, stands_by, closure_by}
 use Rattle.node_facts.proofs.KindRows.{beside_named, closure_is, named_is, with_names}
 
@@ -202,27 +202,21 @@ pub among_is : (s : Spot) (own : Option (Vec ℕ Global)) (space : List ℕ) (fr
     standing_in s space from is n ≡ standing_among s own from is n
 among_is s own space from is n e = ap (λ (sp : List ℕ). standing_in s sp from is n) e
 
-map_push : {A B : Type 0} (f : A → B) (xs : List A) (x : A) → map f (xs ++ x ∷ []) ≡ map f xs ++ f x ∷ []
-map_push f [] x = refl
-map_push f (y ∷ ys) x = ap (λ zs. f y ∷ zs) (map_push f ys x)
-
 -- one more node's fact
-pub told_push : (path scene_path : List ℕ) (xs new : List NodeFact) (x : NodeFact) (k : NodeKind) (fm : Form) (c : Forest) (p q : Standing) →
-    new ≡ xs ++ x ∷ [] → scene_path ≡ path → named_in scene_path x ≡ named_by k fm c q → fm ≡ form_if (asks_form k) (form c) → q ≡ p →
-    map (named_in path) new ≡ map (named_in path) xs ++ named_at k c p ∷ []
-told_push path scene_path xs new x k fm c p q e place h fe qe =
-    ap (λ (ys : List NodeFact). map (named_in path) ys) e
-    ∙ map_push (named_in path) xs x
-    ∙ ap (λ (n : Named). map (named_in path) xs ++ n ∷ []) (
-    ap (λ (s : List ℕ). named_in s x) (sym place) ∙ h
-    ∙ ap (λ (f : Form). named_by k f c q) fe
+pub told_added : (path scene_path : List ℕ) (old new : FileFacts) (k : NodeKind) (fm : Form) (c : Forest) (p q : Standing) →
+    scene_path ≡ path → facts_in scene_path new ≡ facts_in scene_path old ++ named_by k fm c q ∷ [] → fm ≡ form_if (asks_form k) (form c) → q ≡ p →
+    facts_in path new ≡ facts_in path old ++ named_at k c p ∷ []
+told_added path scene_path old new k fm c p q place h fe qe =
+    subst (λ (s : List ℕ). facts_in s new ≡ facts_in s old ++ named_by k fm c q ∷ []) place h
+    ∙ ap (λ (n : Named). facts_in path old ++ n ∷ []) (
+    ap (λ (f : Form). named_by k f c q) fe
     ∙ ap (λ (s : Standing). named_by k (form_if (asks_form k) (form c)) c s) qe
     ∙ named_is k c p)
 
 -- what a node tells, and then what its parts do, in one file
-pub node_step : (path inner_path : List ℕ) (xs ys zs : List NodeFact) (p q : Standing) (k : NodeKind) (c : Forest) → inner_path ≡ path →
-    map (named_in path) ys ≡ map (named_in path) xs ++ named_at k c p ∷ [] → map (named_in inner_path) zs ≡ map (named_in inner_path) ys ++ named q c →
-    q ≡ stands_within k c p → map (named_in path) zs ≡ map (named_in path) xs ++ named p (alone (k, c))
+pub node_step : (path inner_path : List ℕ) (xs ys zs : FileFacts) (p q : Standing) (k : NodeKind) (c : Forest) → inner_path ≡ path →
+    facts_in path ys ≡ facts_in path xs ++ named_at k c p ∷ [] → facts_in inner_path zs ≡ facts_in inner_path ys ++ named q c →
+    q ≡ stands_within k c p → facts_in path zs ≡ facts_in path xs ++ named p (alone (k, c))
 node_step path inner_path xs ys zs p q k c e a b h =
-    node_named (map (named_in path) xs) (map (named_in path) ys) (map (named_in path) zs) p q k c a
-    (subst (λ (s : List ℕ). map (named_in s) zs ≡ map (named_in s) ys ++ named q c) e b) h
+    node_named (facts_in path xs) (facts_in path ys) (facts_in path zs) p q k c a
+    (subst (λ (s : List ℕ). facts_in s zs ≡ facts_in s ys ++ named q c) e b) h

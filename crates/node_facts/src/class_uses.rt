@@ -75,19 +75,19 @@ fn add_class(
     add_if(alloc, uses, Some(full.as_slice()))
 }
 
-/// The classes that names stand for. The only error is want of memory.
+/// The classes that names stand for, behind other names. The only error is want of memory.
 pub(crate) fn class_uses(
     alloc: Global,
+    uses: &mut Vec<NameUse>,
     scene: Scene,
     words: &[&[u8]],
-) -> Result<Vec<NameUse>, AllocError>
-    ensures { IfOk result (λ us. uses_in us.items ≡ spec.class_uses (site_of scene.entry) (texts_of words.now)) }
+) -> Result<(), AllocError>
+    ensures { OnOk result (uses_in uses.new.items ≡ uses_in uses.old.items ++ spec.class_uses (site_of scene.entry) (texts_of words.now)) }
 {
-    let mut uses = Vec::new(alloc);
     for word in words {
-        add_class(alloc, &mut uses, scene, word)?;
+        add_class(alloc, uses, scene, word)?;
     }
-    Ok(uses)
+    Ok(())
 }
 
 // Whether a word is a type and no class.
@@ -103,19 +103,22 @@ fn is_type_word(word: &[u8]) -> bool
         || is_keyword(b"object", word)
 }
 
-/// The class of a type. The only error is want of memory.
+/// The class of a type, behind other names. The only error is want of memory.
 pub(crate) fn type_uses(
     alloc: Global,
+    uses: &mut Vec<NameUse>,
     scene: Scene,
     words: &[&[u8]],
-) -> Result<Vec<NameUse>, AllocError>
-    ensures { IfOk result (λ us. uses_in us.items ≡ spec.type_uses (site_of scene.entry) (texts_of words.now)) }
+) -> Result<(), AllocError>
+    ensures { OnOk result (uses_in uses.new.items ≡ uses_in uses.old.items ++ spec.type_uses (site_of scene.entry) (texts_of words.now)) }
 {
-    let mut uses = Vec::new(alloc);
-    if let [word, ..] = words
-        && !is_type_word(word)
-    {
-        add_class(alloc, &mut uses, scene, word)?;
+    match words {
+        [] => Ok(()),
+        [word, ..] => {
+            if is_type_word(word) {
+                return Ok(());
+            }
+            add_class(alloc, uses, scene, word)
+        }
     }
-    Ok(uses)
 }

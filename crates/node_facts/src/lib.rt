@@ -5,7 +5,9 @@
 mod candidates;
 mod class_uses;
 mod counts;
+mod ends;
 mod fact;
+mod facts;
 mod form_at;
 mod inner;
 mod kinds;
@@ -24,6 +26,8 @@ mod uses;
 mod walk;
 mod whole;
 
+pub use ends::Ends;
+pub use facts::FileFacts;
 pub use name_use::NameUse;
 pub use node_fact::NodeFact;
 pub use slot_name::SlotName;

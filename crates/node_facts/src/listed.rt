@@ -58,7 +58,7 @@ fn variable_name(alloc: Global, parts: Parts) -> Result<Option<Bytes>, AllocErro
         None => Ok(None),
         Some(name) => {
             let text = bytes(alloc, name)?;
-            Ok(Some(text))
+            Ok(Some(Bytes::new(text)))
         }
     }
 }
@@ -167,20 +167,19 @@ fn add_literal(
 // The variables of a Global.
 fn globals(
     alloc: Global,
+    slots: &mut Vec<(SlotName, SlotName)>,
     scene: Scene,
     parts: Parts,
-) -> Result<Vec<(SlotName, SlotName)>, AllocError>
-    ensures { IfOk result (λ v. map (slots_in scene.entry.spot.path.now) v.items ≡ map (spec.with_global (standing_of scene.entry)) (spec.kid_variables (forest_in parts.entry))) }
+) -> Result<(), AllocError>
+    ensures { OnOk result (map (slots_in scene.entry.spot.path.now) slots.new.items ≡ map (slots_in scene.entry.spot.path.now) slots.old.items
+        ++ map (spec.with_global (standing_of scene.entry)) (spec.kid_variables (forest_in parts.entry))) }
 {
-    let mut slots = Vec::new(alloc);
     let mut left = parts;
     'parts: loop {
         match left.next() {
-            None => return Ok(slots),
+            None => return Ok(()),
             Some(Step::Leaf(_)) => {}
-            Some(Step::Child(kind, _, inner)) => add_literal(
-                alloc, &mut slots, scene, kind, inner,
-            )?,
+            Some(Step::Child(kind, _, inner)) => add_literal(alloc, slots, scene, kind, inner)?,
         }
     }
 }
@@ -188,40 +187,42 @@ fn globals(
 // The variables of a Statics.
 fn statics(
     alloc: Global,
+    slots: &mut Vec<(SlotName, SlotName)>,
     scene: Scene,
     words: &[&[u8]],
-) -> Result<Vec<(SlotName, SlotName)>, AllocError>
-    ensures { IfOk result (λ v. map (slots_in scene.entry.spot.path.now) v.items ≡ map (spec.with_static (standing_of scene.entry)) (texts_of words.now)) }
+) -> Result<(), AllocError>
+    ensures { OnOk result (map (slots_in scene.entry.spot.path.now) slots.new.items ≡ map (slots_in scene.entry.spot.path.now) slots.old.items
+        ++ map (spec.with_static (standing_of scene.entry)) (texts_of words.now)) }
 {
-    let mut slots = Vec::new(alloc);
     for name in words {
         let own = variable(alloc, scene, name)?;
         let text = bytes(alloc, name)?;
         add(
             scene.spot.path,
-            &mut slots,
+            slots,
             own,
             SlotName::Static(scene.counts.number, text),
         )?;
     }
-    Ok(slots)
+    Ok(())
 }
 
 // The variables of the catch parts of a Try.
 fn caught(
     alloc: Global,
+    slots: &mut Vec<(SlotName, SlotName)>,
     scene: Scene,
     words: &[&[u8]],
-) -> Result<Vec<(SlotName, SlotName)>, AllocError>
-    ensures { IfOk result (λ v. map (slots_in scene.entry.spot.path.now) v.items ≡ map (λ name. spec.twice (spec.variable (standing_of scene.entry) name)) (texts_of words.now)) }
+) -> Result<(), AllocError>
+    ensures { OnOk result (map (slots_in scene.entry.spot.path.now) slots.new.items ≡ map (slots_in scene.entry.spot.path.now) slots.old.items
+        ++ map (λ name. spec.twice (spec.variable (standing_of scene.entry) name)) (texts_of words.now)) }
 {
-    let mut slots = Vec::new(alloc);
     for name in words {
         let first = variable(alloc, scene, name)?;
         let second = variable(alloc, scene, name)?;
-        add(scene.spot.path, &mut slots, first, second)?;
+        add(scene.spot.path, slots, first, second)?;
     }
-    Ok(slots)
+    Ok(())
 }
 
 // Whether a keyword is among some words.
@@ -258,83 +259,89 @@ fn property(
 // The properties that a Property declares.
 fn properties(
     alloc: Global,
+    slots: &mut Vec<(SlotName, SlotName)>,
     scene: Scene,
     is_static: bool,
     words: &[&[u8]],
-) -> Result<Vec<(SlotName, SlotName)>, AllocError>
-    ensures { IfOk result (λ v. map (slots_in scene.entry.spot.path.now) v.items
-        ≡ map (λ name. spec.twice (if is_static then spec.static_property name else spec.instance_property name)) (texts_of words.now)) }
+) -> Result<(), AllocError>
+    ensures { OnOk result (map (slots_in scene.entry.spot.path.now) slots.new.items ≡ map (slots_in scene.entry.spot.path.now) slots.old.items
+        ++ map (λ name. spec.twice (if is_static then spec.static_property name else spec.instance_property name)) (texts_of words.now)) }
 {
-    let mut slots = Vec::new(alloc);
     for name in words {
         let first = property(alloc, scene.spot.path, is_static, name)?;
         let second = property(alloc, scene.spot.path, is_static, name)?;
-        add(scene.spot.path, &mut slots, first, second)?;
+        add(scene.spot.path, slots, first, second)?;
     }
-    Ok(slots)
+    Ok(())
 }
 
 // The variables of a Statics.
 fn listed_statics(
     alloc: Global,
+    slots: &mut Vec<(SlotName, SlotName)>,
     scene: Scene,
     form: &[Piece],
-) -> Result<Vec<(SlotName, SlotName)>, AllocError>
-    ensures { IfOk result (λ v. map (slots_in scene.entry.spot.path.now) v.items ≡ map (spec.with_static (standing_of scene.entry)) (spelled_variables (form_of form.now))) }
+) -> Result<(), AllocError>
+    ensures { OnOk result (map (slots_in scene.entry.spot.path.now) slots.new.items ≡ map (slots_in scene.entry.spot.path.now) slots.old.items
+        ++ map (spec.with_static (standing_of scene.entry)) (spelled_variables (form_of form.now))) }
 {
     let words = variables(alloc, form)?;
-    statics(alloc, scene, words.as_slice())
+    statics(alloc, slots, scene, words.as_slice())
 }
 
 // The variables of the catch parts of a Try.
 fn listed_caught(
     alloc: Global,
+    slots: &mut Vec<(SlotName, SlotName)>,
     scene: Scene,
     form: &[Piece],
-) -> Result<Vec<(SlotName, SlotName)>, AllocError>
-    ensures { IfOk result (λ v. map (slots_in scene.entry.spot.path.now) v.items
-        ≡ map (λ name. spec.twice (spec.variable (standing_of scene.entry) name)) (spelled_variables (form_of form.now))) }
+) -> Result<(), AllocError>
+    ensures { OnOk result (map (slots_in scene.entry.spot.path.now) slots.new.items ≡ map (slots_in scene.entry.spot.path.now) slots.old.items
+        ++ map (λ name. spec.twice (spec.variable (standing_of scene.entry) name)) (spelled_variables (form_of form.now))) }
 {
     let words = variables(alloc, form)?;
-    caught(alloc, scene, words.as_slice())
+    caught(alloc, slots, scene, words.as_slice())
 }
 
 // The properties that a Property declares.
 fn listed_properties(
     alloc: Global,
+    slots: &mut Vec<(SlotName, SlotName)>,
     scene: Scene,
     form: &[Piece],
-) -> Result<Vec<(SlotName, SlotName)>, AllocError>
-    ensures { IfOk result (λ v. map (slots_in scene.entry.spot.path.now) v.items
-        ≡ map (λ name. spec.twice (spec.declared_property (form_of form.now) name)) (spelled_variables (form_of form.now))) }
+) -> Result<(), AllocError>
+    ensures { OnOk result (map (slots_in scene.entry.spot.path.now) slots.new.items ≡ map (slots_in scene.entry.spot.path.now) slots.old.items
+        ++ map (λ name. spec.twice (spec.declared_property (form_of form.now) name)) (spelled_variables (form_of form.now))) }
 {
     let all = texts(alloc, form)?;
     let words = variables(alloc, form)?;
     properties(
         alloc,
+        slots,
         scene,
         has_keyword(b"static", all.as_slice()),
         words.as_slice(),
     )
 }
 
-/// The variables that a node of a form and of some parts lists, each with the slot to which it is linked there. The only
-/// error is want of memory.
-pub(crate) fn listed(
+/// The variables that a node of a form and of some parts lists, each with the slot to which it is linked there,
+/// behind those of other nodes. The only error is want of memory.
+pub(crate) fn add_listed(
     alloc: Global,
+    slots: &mut Vec<(SlotName, SlotName)>,
     kind: NodeKind,
     scene: Scene,
     form: &[Piece],
     parts: Parts,
-) -> Result<Vec<(SlotName, SlotName)>, AllocError>
-    ensures { IfOk result (λ v. map (slots_in scene.entry.spot.path.now) v.items
-        ≡ listed_by kind (form_of form.now) (forest_in parts.entry) (standing_of scene.entry)) }
+) -> Result<(), AllocError>
+    ensures { OnOk result (map (slots_in scene.entry.spot.path.now) slots.new.items ≡ map (slots_in scene.entry.spot.path.now) slots.old.items
+        ++ listed_by kind (form_of form.now) (forest_in parts.entry) (standing_of scene.entry)) }
 {
     match kind {
-        NodeKind::Global => globals(alloc, scene, parts),
-        NodeKind::Statics => listed_statics(alloc, scene, form),
-        NodeKind::Property => listed_properties(alloc, scene, form),
-        NodeKind::Try => listed_caught(alloc, scene, form),
+        NodeKind::Global => globals(alloc, slots, scene, parts),
+        NodeKind::Statics => listed_statics(alloc, slots, scene, form),
+        NodeKind::Property => listed_properties(alloc, slots, scene, form),
+        NodeKind::Try => listed_caught(alloc, slots, scene, form),
         NodeKind::Block
         | NodeKind::Empty
         | NodeKind::ExprStmt
@@ -406,6 +413,6 @@ pub(crate) fn listed(
         | NodeKind::CompoundAssign
         | NodeKind::InstanceOf
         | NodeKind::Print
-        | NodeKind::Yield => Ok(Vec::new(alloc)),
+        | NodeKind::Yield => Ok(()),
     }
 }

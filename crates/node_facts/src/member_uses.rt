@@ -19,58 +19,61 @@ use file_declarations::{Import, ImportSort, imports};
 use node_names::NameSort;
 use std::alloc::{AllocError, Global};
 
-// One name alone.
-fn only(alloc: Global, used: NameUse) -> Result<Vec<NameUse>, AllocError>
-    ensures { IfOk result (λ us. uses_in us.items ≡ use_in used ∷ []) }
-{
-    let mut uses = Vec::new(alloc);
-    uses.push(used)?;
-    Ok(uses)
-}
-
 // The function of a name.
-fn function(alloc: Global, scene: Scene, name: &[u8]) -> Result<Vec<NameUse>, AllocError>
-    ensures { IfOk result (λ us. uses_in us.items ≡ compared_by.use_of sorts.Function (sites.candidates (site_of scene.entry) import_spec.OfFunction name.now) ∷ []) }
+fn function(
+    alloc: Global,
+    uses: &mut Vec<NameUse>,
+    scene: Scene,
+    name: &[u8],
+) -> Result<(), AllocError>
+    ensures { OnOk result (uses_in uses.new.items ≡ uses_in uses.old.items ++ compared_by.use_of sorts.Function (sites.candidates (site_of scene.entry) import_spec.OfFunction name.now) ∷ []) }
 {
     let fulls = candidates(alloc, names_of(scene), ImportSort::Function, name)?;
     let used = use_of(alloc, NameSort::Function, fulls.as_slice())?;
-    only(alloc, used)
+    add(uses, used)
 }
 
-/// The function that the first of some words names. The only error is want of memory.
+/// The function that the first of some words names, behind other names. The only error is want of memory.
 pub(crate) fn functions(
     alloc: Global,
+    uses: &mut Vec<NameUse>,
     scene: Scene,
     words: &[&[u8]],
-) -> Result<Vec<NameUse>, AllocError>
-    ensures { IfOk result (λ us. uses_in us.items ≡ spec.functions (site_of scene.entry) (texts_of words.now)) }
+) -> Result<(), AllocError>
+    ensures { OnOk result (uses_in uses.new.items ≡ uses_in uses.old.items ++ spec.functions (site_of scene.entry) (texts_of words.now)) }
 {
     match words {
-        [] => Ok(Vec::new(alloc)),
-        [word, ..] => function(alloc, scene, word),
+        [] => Ok(()),
+        [word, ..] => function(alloc, uses, scene, word),
     }
 }
 
 // The constant of a name.
-fn constant(alloc: Global, scene: Scene, name: &[u8]) -> Result<Vec<NameUse>, AllocError>
-    ensures { IfOk result (λ us. uses_in us.items ≡ compared_by.use_of sorts.Constant (sites.candidates (site_of scene.entry) import_spec.OfConstant name.now) ∷ []) }
+fn constant(
+    alloc: Global,
+    uses: &mut Vec<NameUse>,
+    scene: Scene,
+    name: &[u8],
+) -> Result<(), AllocError>
+    ensures { OnOk result (uses_in uses.new.items ≡ uses_in uses.old.items ++ compared_by.use_of sorts.Constant (sites.candidates (site_of scene.entry) import_spec.OfConstant name.now) ∷ []) }
 {
     let fulls = candidates(alloc, names_of(scene), ImportSort::Constant, name)?;
     let used = use_of(alloc, NameSort::Constant, fulls.as_slice())?;
-    only(alloc, used)
+    add(uses, used)
 }
 
-/// The constant that the first of some words names. The only error is want of memory.
+/// The constant that the first of some words names, behind other names. The only error is want of memory.
 pub(crate) fn constants(
     alloc: Global,
+    uses: &mut Vec<NameUse>,
     scene: Scene,
     words: &[&[u8]],
-) -> Result<Vec<NameUse>, AllocError>
-    ensures { IfOk result (λ us. uses_in us.items ≡ spec.constants (site_of scene.entry) (texts_of words.now)) }
+) -> Result<(), AllocError>
+    ensures { OnOk result (uses_in uses.new.items ≡ uses_in uses.old.items ++ spec.constants (site_of scene.entry) (texts_of words.now)) }
 {
     match words {
-        [] => Ok(Vec::new(alloc)),
-        [word, ..] => constant(alloc, scene, word),
+        [] => Ok(()),
+        [word, ..] => constant(alloc, uses, scene, word),
     }
 }
 
@@ -111,21 +114,24 @@ fn import_use(alloc: Global, import: &Import) -> Result<NameUse, AllocError>
 }
 
 // What some imports use.
-fn import_uses(alloc: Global, imports: &[Import]) -> Result<Vec<NameUse>, AllocError>
-    ensures { IfOk result (λ us. uses_in us.items ≡ map spec.import_use (map import_of imports.now)) }
+fn import_uses(alloc: Global, uses: &mut Vec<NameUse>, imports: &[Import]) -> Result<(), AllocError>
+    ensures { OnOk result (uses_in uses.new.items ≡ uses_in uses.old.items ++ map spec.import_use (map import_of imports.now)) }
 {
-    let mut uses = Vec::new(alloc);
     for import in imports {
         let used = import_use(alloc, import)?;
-        add(&mut uses, used)?;
+        add(uses, used)?;
     }
-    Ok(uses)
+    Ok(())
 }
 
-/// What the words of a `use` import. The only error is want of memory.
-pub(crate) fn imported(alloc: Global, words: &[&[u8]]) -> Result<Vec<NameUse>, AllocError>
-    ensures { IfOk result (λ us. uses_in us.items ≡ map spec.import_use (imports_in (texts_of words.now))) }
+/// What the words of a `use` import, behind other names. The only error is want of memory.
+pub(crate) fn imported(
+    alloc: Global,
+    uses: &mut Vec<NameUse>,
+    words: &[&[u8]],
+) -> Result<(), AllocError>
+    ensures { OnOk result (uses_in uses.new.items ≡ uses_in uses.old.items ++ map spec.import_use (imports_in (texts_of words.now))) }
 {
     let imports = imports(alloc, words)?;
-    import_uses(alloc, imports.as_slice())
+    import_uses(alloc, uses, imports.as_slice())
 }

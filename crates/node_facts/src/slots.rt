@@ -1,8 +1,9 @@
 // Which slot a node names.
-ghost use Rattle.std.specs.Prelude.{◌≡◌, codes, IfOk, option_map};
+ghost use Rattle.std.specs.Prelude.{◌≡◌, ◌++◌, codes, map, IfOk, OnOk, option_map};
 ghost use Rattle.php_tree.specs.declared.kind.NodeKind.TheVariants as kinds;
 ghost use Rattle.node_names.specs.Seen.{form_of, text_if};
 ghost use Rattle.node_names.specs.Slots as spec;
+ghost use Rattle.node_facts.specs.Flat.{items_if};
 ghost use Rattle.node_facts.specs.Seen.{slot_in};
 ghost use Rattle.node_facts.specs.Standing.{standing_of};
 
@@ -11,7 +12,6 @@ use crate::slot_name::SlotName;
 use crate::spelled::first_variable;
 use node_names::{Piece, behind_text, first_member, variables};
 use php_tree::NodeKind;
-use span_edits::Bytes;
 use std::alloc::{AllocError, Global};
 
 // Whether a variable is that of the files' level in every body.
@@ -22,15 +22,16 @@ fn is_everywhere(name: &[u8]) -> bool
 }
 
 /// Equal bytes. The only error is want of memory.
-pub(crate) fn bytes(alloc: Global, text: &[u8]) -> Result<Bytes, AllocError>
-    ensures { IfOk result (λ b. b ≡ text.now) }
+pub(crate) fn bytes(alloc: Global, text: &[u8]) -> Result<Vec<u8>, AllocError>
+    ensures { IfOk result (λ v. v.items ≡ text.now) }
 {
-    Ok(Bytes::new(Vec::from_slice(alloc, text)?))
+    let bytes = Vec::from_slice(alloc, text)?;
+    Ok(bytes)
 }
 
 // A variable of the innermost body around.
-fn own_variable(scene: Scene, name: Bytes) -> SlotName
-    ensures { slot_in scene.entry.spot.path.now result ≡ spec.own_variable (standing_of scene.entry) name }
+fn own_variable(scene: Scene, name: Vec<u8>) -> SlotName
+    ensures { slot_in scene.entry.spot.path.now result ≡ spec.own_variable (standing_of scene.entry) name.items }
 {
     match scene.spot.closure {
         Some(number) => SlotName::Closure(number, name),
@@ -122,8 +123,8 @@ fn static_slot(alloc: Global, scene: Scene, form: &[Piece]) -> Result<Option<Slo
     }
 }
 
-/// The slot that a node of a form names, if it names one. The only error is want of memory.
-pub(crate) fn slot(
+// The slot that a node of a form names, if it names one.
+fn slot(
     alloc: Global,
     kind: NodeKind,
     scene: Scene,
@@ -209,4 +210,30 @@ pub(crate) fn slot(
         | NodeKind::Print
         | NodeKind::Yield => Ok(None),
     }
+}
+
+// A slot behind others, if there is one.
+fn add_if(path: &[u8], slots: &mut Vec<SlotName>, slot: Option<SlotName>) -> Result<(), AllocError>
+    ensures { OnOk result (map (slot_in path.now) slots.new.items ≡ map (slot_in path.now) slots.old.items ++ items_if (option_map (slot_in path.now) slot)) }
+{
+    let _path = path;
+    if let Some(one) = slot {
+        slots.push(one)?;
+    }
+    Ok(())
+}
+
+/// The slot that a node of a form names, if it names one, behind those of other nodes. The only error is want of memory.
+pub(crate) fn add_slot(
+    alloc: Global,
+    slots: &mut Vec<SlotName>,
+    kind: NodeKind,
+    scene: Scene,
+    form: &[Piece],
+) -> Result<(), AllocError>
+    ensures { OnOk result (map (slot_in scene.entry.spot.path.now) slots.new.items ≡ map (slot_in scene.entry.spot.path.now) slots.old.items
+        ++ items_if (spec.slot kind (form_of form.now) (standing_of scene.entry))) }
+{
+    let own = slot(alloc, kind, scene, form)?;
+    add_if(scene.spot.path, slots, own)
 }

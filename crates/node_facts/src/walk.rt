@@ -1,23 +1,23 @@
 // One walk over the nodes of a file.
-ghost use Rattle.std.specs.Prelude.{◌≡◌, ◌≤◌, ◌++◌, ◌∷◌, [], length, map, IfOk, OnOk};
+ghost use Rattle.std.specs.Prelude.{◌≡◌, ◌≤◌, ◌++◌, ◌∷◌, [], length, IfOk, OnOk};
 ghost use Rattle.php_tree.specs.Tree.{alone};
 ghost use Rattle.php_rows.specs.Reading.{forest_in};
 ghost use Rattle.scope_names.specs.Form.{form as form_of_forest};
 ghost use Rattle.scope_names.specs.Sites.{names_within};
 ghost use Rattle.node_names.specs.Seen.{form_of};
 ghost use Rattle.node_names.specs.Slots.{stands_within};
+ghost use Rattle.node_facts.specs.Flat.{facts_in, IsWhole};
 ghost use Rattle.node_facts.specs.Named.{named, named_at};
 ghost use Rattle.node_facts.specs.Past.{entered as entered_by, past};
-ghost use Rattle.node_facts.specs.Seen.{named_in};
 ghost use Rattle.node_facts.specs.Standing.{site_at, standing_at};
 ghost use Rattle.node_facts.specs.Opened.{names_in};
 
 use crate::counts::Counts;
-use crate::fact::fact;
+use crate::fact::add_fact;
+use crate::facts::FileFacts;
 use crate::form_at::form_at;
 use crate::inner::inner;
 use crate::kinds::entered;
-use crate::node_fact::NodeFact;
 use crate::opened::{Opened, opens};
 use crate::scene::scene_at;
 use crate::spot::Spot;
@@ -29,24 +29,25 @@ use std::alloc::{AllocError, Global};
 // What a node itself tells, and what it opens.
 fn visit(
     alloc: Global,
-    facts: &mut Vec<NodeFact>,
+    facts: &mut FileFacts,
     imports: &[Import],
     spot: Spot,
     counts: Counts,
     kind: NodeKind,
     parts: Parts,
 ) -> Result<Opened, AllocError>
-    requires { spot.from ≤ length imports.now }
-    ensures told { OnOk result (map (named_in spot.entry.path.now) facts.new.items ≡ map (named_in spot.entry.path.now) facts.old.items
+    requires within { spot.from ≤ length imports.now }
+    requires whole { IsWhole facts.old }
+    ensures told { OnOk result (facts_in spot.entry.path.now facts.new ≡ facts_in spot.entry.path.now facts.old
         ++ named_at kind (forest_in parts.entry) (standing_at spot.entry imports.now counts) ∷ []) }
+    ensures whole { OnOk result (IsWhole facts.new) }
     ensures opened { IfOk result (λ o. names_in o (site_at spot.entry imports.now counts.number)
         ≡ names_within kind (form_of_forest (forest_in parts.entry)) (site_at spot.entry imports.now counts.number)) }
 {
     let form = form_at(alloc, kind, parts)?;
     let scene = scene_at(spot, imports, counts);
-    let told = fact(alloc, kind, scene, form.as_slice(), parts)?;
+    add_fact(alloc, facts, kind, scene, form.as_slice(), parts)?;
     let opened = opens(alloc, kind, scene, form.as_slice())?;
-    facts.push(told)?;
     Ok(opened)
 }
 
@@ -54,15 +55,17 @@ fn visit(
 #[cycle(walk)]
 pub(crate) fn walk_parts(
     alloc: Global,
-    facts: &mut Vec<NodeFact>,
+    facts: &mut FileFacts,
     imports: &mut Vec<Import>,
     counts: &mut Counts,
     spot: Spot,
     parts: Parts,
 ) -> Result<(), AllocError>
-    requires { spot.from ≤ length imports.old.items }
-    ensures told { OnOk result (map (named_in spot.entry.path.now) facts.new.items ≡ map (named_in spot.entry.path.now) facts.old.items
+    requires within { spot.from ≤ length imports.old.items }
+    requires whole { IsWhole facts.old }
+    ensures told { OnOk result (facts_in spot.entry.path.now facts.new ≡ facts_in spot.entry.path.now facts.old
         ++ named (standing_at spot.entry imports.old.items counts.old) (forest_in parts.entry)) }
+    ensures whole { OnOk result (IsWhole facts.new) }
     ensures imports { OnOk result (imports.new.items ≡ imports.old.items) }
     ensures counts { OnOk result (counts.new ≡ past (forest_in parts.entry) counts.old) }
 {
@@ -96,16 +99,18 @@ pub(crate) fn walk_parts(
 #[cycle(walk)]
 fn walk_node(
     alloc: Global,
-    facts: &mut Vec<NodeFact>,
+    facts: &mut FileFacts,
     imports: &mut Vec<Import>,
     counts: &mut Counts,
     spot: Spot,
     kind: NodeKind,
     parts: Parts,
 ) -> Result<(), AllocError>
-    requires { spot.from ≤ length imports.old.items }
-    ensures told { OnOk result (map (named_in spot.entry.path.now) facts.new.items ≡ map (named_in spot.entry.path.now) facts.old.items
+    requires within { spot.from ≤ length imports.old.items }
+    requires whole { IsWhole facts.old }
+    ensures told { OnOk result (facts_in spot.entry.path.now facts.new ≡ facts_in spot.entry.path.now facts.old
         ++ named (standing_at spot.entry imports.old.items counts.old) (alone (kind, forest_in parts.entry))) }
+    ensures whole { OnOk result (IsWhole facts.new) }
     ensures imports { OnOk result (imports.new.items ≡ imports.old.items) }
     ensures counts { OnOk result (counts.new ≡ past (alone (kind, forest_in parts.entry)) counts.old) }
 {

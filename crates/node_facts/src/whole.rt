@@ -1,12 +1,12 @@
 // What the nodes of a whole file tell.
-ghost use Rattle.std.specs.Prelude.{◌≡◌, map, IfOk};
+ghost use Rattle.std.specs.Prelude.{◌≡◌, IfOk};
 ghost use Rattle.php_rows.specs.File.{file_in};
 ghost use Rattle.node_names.specs.Slots.{in_file};
+ghost use Rattle.node_facts.specs.Flat.{facts_in};
 ghost use Rattle.node_facts.specs.Named.{file_named, named};
-ghost use Rattle.node_facts.specs.Seen.{named_in};
 
 use crate::counts::Counts;
-use crate::node_fact::NodeFact;
+use crate::facts::FileFacts;
 use crate::spot::Spot;
 use crate::walk::walk_parts;
 use php_rows::RowTree;
@@ -14,10 +14,16 @@ use span_edits::PathText;
 use std::alloc::{AllocError, Global};
 
 // What the nodes of a file tell, where its first statement stands.
-fn walked(alloc: Global, path: &[u8], tree: &RowTree) -> Result<Vec<NodeFact>, AllocError>
-    ensures { IfOk result (λ xs. map (named_in path.now) xs.items ≡ named (in_file path.now) (file_in tree.now).statements) }
+fn walked(alloc: Global, path: &[u8], tree: &RowTree) -> Result<FileFacts, AllocError>
+    ensures { IfOk result (λ x. facts_in path.now x ≡ named (in_file path.now) (file_in tree.now).statements) }
 {
-    let mut facts = Vec::new(alloc);
+    let mut facts = FileFacts {
+        nodes: Vec::new(alloc),
+        declares: Vec::new(alloc),
+        uses: Vec::new(alloc),
+        slots: Vec::new(alloc),
+        listed: Vec::new(alloc),
+    };
     let mut imports = Vec::new(alloc);
     let mut counts = Counts { number: 0, next: 0 };
     let spot = Spot {
@@ -41,15 +47,11 @@ fn walked(alloc: Global, path: &[u8], tree: &RowTree) -> Result<Vec<NodeFact>, A
     Ok(facts)
 }
 
-/// What the nodes of the file with a path tell of names, in preorder. The only error is want of memory, of which 2^32 nodes
-/// are one.
+/// What the nodes of the file with a path tell of names, in preorder. The only error is want of memory, of which 2^32 items
+/// of one list are one.
 #[tactic(auto, using(crate::proofs::FactLemmas::named_file))]
-pub fn file_facts(
-    alloc: Global,
-    path: &PathText,
-    tree: &RowTree,
-) -> Result<Vec<NodeFact>, AllocError>
-    ensures { IfOk result (λ xs. map (named_in path.now) xs.items ≡ file_named path.now (file_in tree.now).statements) }
+pub fn file_facts(alloc: Global, path: &PathText, tree: &RowTree) -> Result<FileFacts, AllocError>
+    ensures told { IfOk result (λ x. facts_in path.now x ≡ file_named path.now (file_in tree.now).statements) }
 {
     walked(alloc, path.as_str().as_bytes(), tree)
 }

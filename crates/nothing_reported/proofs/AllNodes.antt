@@ -17,7 +17,7 @@ use Rattle.syntax_upgrade.specs.Found.{Report, undecided}
 use Rattle.rule_tables.specs.declared.cause.Cause.TheVariants.{Shape}
 use Rattle.rule_tables.specs.declared.rule.RuleId.TheVariants as rule
 use Rattle.syntax_upgrade.specs.Found.{text_start}
-use Rattle.syntax_upgrade.specs.Reports.{at_node, cast_reports, reports_in}
+use Rattle.syntax_upgrade.specs.Reports.{at_node, cast_reports, reports, reports_in}
 use Rattle.syntax_upgrade.specs.NameHeads.{head_at}
 use Rattle.syntax_upgrade.specs.ReservedName as own
 use Rattle.syntax_upgrade.specs.ReservedName.{Standing, at_first, class_by, of_reserved, past, past_node, refused_if, refused_tokens}
@@ -25,7 +25,7 @@ use Rattle.syntax_upgrade.specs.Enums.{enums}
 use Rattle.rewritten_shapes.specs.Laws.{AreSpelled, NoneReported}
 use Rattle.rewritten_shapes.specs.RefusedWords as words
 use Rattle.rewritten_shapes.specs.RefusedWords.{has_refused}
-use Rattle.nothing_reported.specs.Laws.{HasNoName, NothingReported}
+use Rattle.nothing_reported.specs.Laws.{HasNoName}
 use Rattle.nothing_reported.proofs.Fronts.{or_none}
 use Rattle.nothing_reported.proofs.OwnWords.{none_anywhere, none_before, same_keyword, same_match}
 use Rattle.nothing_reported.proofs.ClassWords.{none_in_class}
@@ -76,11 +76,11 @@ none_refused kind.LabelStmt c at s n e = no_keyword kind.LabelStmt (λ s x y. re
 none_refused kind.Declare c at s n e = no_keyword kind.Declare (λ s x y. refl) c at e
 none_refused _ c at s n e = refl
 
-only_if : (b : Bool) (r : Report) → (if b then r ∷ [] else []) ≡ [] → b ≡ false
+pub only_if : (b : Bool) (r : Report) → (if b then r ∷ [] else []) ≡ [] → b ≡ false
 only_if false r e = refl
 only_if true r e = absurd cc
 
-empty_both : (ps qs : List Report) → ps ++ qs ≡ [] → (ps ≡ []) × (qs ≡ [])
+pub empty_both : (ps qs : List Report) → ps ++ qs ≡ [] → (ps ≡ []) × (qs ≡ [])
 empty_both [] qs e = (refl, e)
 empty_both (p ∷ ps) qs e = absurd cc
 
@@ -119,11 +119,12 @@ all_none k st more at (node j b f) s n e =
 tokens_of : (bytes : List ℕ) (f : File) → Reads V74 bytes f → TokensOf V74 bytes (file_leaves f)
 tokens_of bytes f r = subst (TokensOf V74 bytes) r.parsed.text r.lexed
 
-pub nothing_reported : NothingReported
-nothing_reported = record {
-  by_words = λ f s n e. (all_none kind.Block at_first zero 0 f.statements s n e).0;
-  by_reports = λ bytes f r e.
-      let tokens = tokens_of bytes f r in
-      (all_none kind.Block at_first zero 0 f.statements (sources_are_spelled V74 bytes f tokens) (old_sources bytes f.statements (f.end ∷ []) tokens)
-      (empty_both (reports_in kind.Block at_first zero 0 f.statements) (enums t.End 0 (file_leaves f)) e).0).0;
-}
+pub none_by_words : (f : File) → AreSpelled f.statements → HasNoName f.statements → reports_in kind.Block at_first zero 0 f.statements ≡ []
+    → NoneReported f.statements
+none_by_words f s n e = (all_none kind.Block at_first zero 0 f.statements s n e).0
+
+pub none_by_reports : (bytes : List ℕ) (f : File) → Reads V74 bytes f → reports f ≡ [] → NoneReported f.statements
+none_by_reports bytes f r e =
+    let tokens = tokens_of bytes f r in
+    none_by_words f (sources_are_spelled V74 bytes f tokens) (old_sources bytes f.statements (f.end ∷ []) tokens)
+    (empty_both (reports_in kind.Block at_first zero 0 f.statements) (enums t.End 0 (file_leaves f)) e).0

@@ -7,3 +7,5 @@ pub mod UsedNames
 pub mod UsedWords
 pub mod NoNames
 pub mod AllNodes
+pub mod Forms
+pub mod Whole

@@ -1,4 +1,4 @@
--- Quoted texts.
+-- Quoted texts (PHP manual, "Strings: Variable interpolation").
 use Rattle.std.specs.Prelude.{List, [], ◌∷◌}
 use Rattle.php_terminals.specs.declared.terminal.Terminal.{Terminal}
 use Rattle.php_terminals.specs.declared.terminal.Terminal.TheVariants as t
@@ -17,7 +17,7 @@ quoted_parts_name _ = Word t.DollarBrace ∷ any ∷ Word t.CloseBrace ∷ []
 abbrev pub quoted_parts : Terminal → Terminal → List Item
 quoted_parts t.Piece following = Word t.Piece ∷ []
 quoted_parts t.Variable following = Node s.Interpolated ∷ []
-quoted_parts t.CurlyOpen following = Word t.CurlyOpen ∷ any ∷ Word t.CloseBrace ∷ []
+quoted_parts t.CurlyOpen following = Word t.CurlyOpen ∷ Node s.Embedded ∷ Word t.CloseBrace ∷ []
 quoted_parts t.DollarBrace following = quoted_parts_name following
 quoted_parts _ following = []
 

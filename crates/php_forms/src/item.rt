@@ -39,6 +39,8 @@ pub enum Sort {
     ClassRef,
     /// A variable in a quoted text, with a simple offset or property.
     Interpolated,
+    /// A variable expression behind `{` in a quoted text: a variable with its offsets, members and calls.
+    Embedded,
 }
 
 /// Parts of a node that stand together. Each is chosen by the tokens that come.

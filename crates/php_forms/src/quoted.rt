@@ -12,7 +12,7 @@ static QUOTED_PARTS_VARIABLE: [Item; 1] = [Node(Sort::Interpolated)];
 
 static QUOTED_PARTS_CURLY_OPEN: [Item; 3] = [
     Word(Terminal::CurlyOpen),
-    Node(Sort::Operand(ANY)),
+    Node(Sort::Embedded),
     Word(Terminal::CloseBrace),
 ];
 

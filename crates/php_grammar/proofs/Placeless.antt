@@ -364,6 +364,7 @@ form_p v s.SimpleVariable ts = simple_p ts
 form_p v s.PlainVariable ts = rw (first_p ts) refl
 form_p v s.ClassRef ts = class_ref_p ts
 form_p v s.Interpolated ts = rw (first_p ts) refl
+form_p v s.Embedded ts = simple_p ts
 
 -- ---- groups
 
@@ -635,6 +636,7 @@ tail_by_p v s.Target kind own bad ts = rw (postfix_p v kind ts) refl
 tail_by_p v s.Place kind own bad ts = rw (postfix_p v kind ts) refl
 tail_by_p v s.ClassRef kind own bad ts = class_tail_p v kind ts
 tail_by_p v s.Interpolated kind own bad ts = interpolated_p kind ts
+tail_by_p v s.Embedded kind own bad ts = rw (postfix_p v kind ts) refl
 tail_by_p v _ kind own bad ts = refl
 
 abbrev pub tree_placeless : Tree → Tree

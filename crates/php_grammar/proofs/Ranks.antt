@@ -14,7 +14,7 @@ use Rattle.php_forms.specs.declared.item.Group.{Group}
 use Rattle.php_forms.specs.declared.item.Group.TheVariants as g
 use Rattle.php_forms.specs.declared.item.Item.{Item}
 use Rattle.php_terminals.specs.Ahead.{behind_name, first_of, is_called, past_group, second_of, third_of}
-use Rattle.php_grammar.specs.Bases.{is_callee, is_class_base, is_list, is_member_base, is_offset_base, is_target, is_variable}
+use Rattle.php_grammar.specs.Bases.{is_callee, is_class_base, is_list, is_member_base, is_offset_base, is_target, is_variable, is_variable_expression}
 use Rattle.php_terminals.specs.Classify.{is_any_label}
 use Rattle.php_forms.specs.Forms.{or_else, refused, when}
 use Rattle.php_forms.specs.Grammar.{Form, IsNested, Ranked}
@@ -74,6 +74,7 @@ use Rattle.php_grammar.specs.Tails.{
   brace_tail,
   chosen_tail,
   class_ref_by,
+  embedded_tail,
   entry_end,
   entry_tail,
   interpolated_by,
@@ -1034,6 +1035,11 @@ class_ref_tail_nested v k t.Arrow ts = (omega arith, tt)
 class_ref_tail_nested v k t.DoubleColon ts = when_nested (is_variable_start (second_of ts)) _ (omega arith, tt)
 class_ref_tail_nested v k _ ts = tt
 
+embedded_nested : (v : Version) (k : NodeKind) (ts : List Token) → IfSome (embedded_tail v k ts) Nested
+embedded_nested v k ts =
+    or_else_nested (postfix_tail v k ts) (refused_unless (is_variable_expression k)) (postfix_nested v k (first_of ts) ts)
+    (refused_nested (is_variable_expression k))
+
 interpolated_nested : (k : NodeKind) (x : Terminal) → IfSome (interpolated_by k x) Nested
 interpolated_nested k t.OpenBracket = when_nested (is_variable k) _ (omega arith, tt)
 interpolated_nested k t.Arrow = when_nested (is_variable k) _ tt
@@ -1064,6 +1070,7 @@ form_nested v s.SimpleVariable ts = simple_variable_nested (first_of ts) ts
 form_nested v s.PlainVariable ts = plain_variable_nested (first_of ts)
 form_nested v s.ClassRef ts = class_ref_nested ts
 form_nested v s.Interpolated ts = plain_variable_nested (first_of ts)
+form_nested v s.Embedded ts = simple_variable_nested (first_of ts) ts
 
 tail_nested : (v : Version) (o : Sort) (x : Tree) (ts : List Token) → IfSome (tail v o x ts) Nested
 tail_nested v (s.Operand limit) x ts = read_tail_nested v limit x ts
@@ -1072,6 +1079,7 @@ tail_nested v s.Target x ts = target_tail_nested v x ts
 tail_nested v s.Place x ts = place_tail_nested v x ts
 tail_nested v s.ClassRef x ts = class_ref_tail_nested v x.0 (first_of ts) ts
 tail_nested v s.Interpolated x ts = interpolated_nested x.0 (first_of ts)
+tail_nested v s.Embedded x ts = embedded_nested v x.0 ts
 tail_nested v _ x ts = tt
 
 parts_nested : (v : Version) (group : Group) (ts : List Token) → IsNested rank (rank group) (parts v group ts)

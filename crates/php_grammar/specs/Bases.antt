@@ -101,6 +101,17 @@ is_short_ternary_role _ = false
 abbrev pub is_short_ternary : NodeKind → Bool
 is_short_ternary kind = is_short_ternary_role (role_of kind)
 
+-- a variable expression (`variable` in PHP's grammar, `zend_language_parser.y`)
+abbrev pub is_variable_expression_role : Role → Bool
+is_variable_expression_role r.Variable = true
+is_variable_expression_role r.Element = true
+is_variable_expression_role r.Property = true
+is_variable_expression_role r.Call = true
+is_variable_expression_role _ = false
+
+abbrev pub is_variable_expression : NodeKind → Bool
+is_variable_expression kind = is_variable_expression_role (role_of kind)
+
 -- a variable
 abbrev pub is_variable_role : Role → Bool
 is_variable_role r.Variable = true

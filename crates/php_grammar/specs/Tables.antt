@@ -89,7 +89,7 @@ use Rattle.php_forms.specs.Grammar.{Form, Tables}
 use Rattle.php_forms.specs.Heads.{attribute, case_form, member_form, statement_form}
 use Rattle.php_grammar.specs.Operands.{class_ref_form, created, entry_form, instance_ref, operand_form, place_form, simple_variable_form, target_form, yield_value}
 use Rattle.php_grammar.specs.Edges.{edge}
-use Rattle.php_grammar.specs.Tails.{class_ref_tail, entry_by, interpolated_tail, place_by, read_by, target_by}
+use Rattle.php_grammar.specs.Tails.{class_ref_tail, embedded_tail, entry_by, interpolated_tail, place_by, read_by, target_by}
 use Rattle.php_terminals.specs.Indents.{is_misindented}
 
 -- a variable alone
@@ -116,6 +116,7 @@ form v s.SimpleVariable ts = simple_variable_form ts
 form v s.PlainVariable ts = plain_variable_form (first_of ts)
 form v s.ClassRef ts = class_ref_form ts
 form v s.Interpolated ts = plain_variable_form (first_of ts)
+form v s.Embedded ts = simple_variable_form ts
 
 -- the items of a group, or none where it isn't there
 abbrev pub parts : Version → Group → List Token → List Item
@@ -225,6 +226,7 @@ tail_by v s.Target kind own misindented ts = target_by v kind misindented ts
 tail_by v s.Place kind own misindented ts = place_by v kind misindented ts
 tail_by v s.ClassRef kind own misindented ts = class_ref_tail v kind ts
 tail_by v s.Interpolated kind own misindented ts = interpolated_tail kind ts
+tail_by v s.Embedded kind own misindented ts = embedded_tail v kind ts
 tail_by v _ kind own misindented ts = None
 
 -- the form that goes on behind a node, or none where the node ends

@@ -13,7 +13,7 @@ use Rattle.php_forms.specs.declared.item.Sort.TheVariants as s
 use Rattle.php_forms.specs.declared.item.Group.TheVariants as g
 use Rattle.php_forms.specs.declared.item.Item.TheVariants.{Word, Node, Part}
 use Rattle.php_terminals.specs.Ahead.{first_of, is_called, second_of}
-use Rattle.php_grammar.specs.Bases.{is_callee, is_class_base, is_list, is_member_base, is_offset_base, is_short_ternary, is_target, is_variable}
+use Rattle.php_grammar.specs.Bases.{is_callee, is_class_base, is_list, is_member_base, is_offset_base, is_short_ternary, is_target, is_variable, is_variable_expression}
 use Rattle.php_grammar.specs.Edges.{edge}
 use Rattle.php_forms.specs.Forms.{any, or_else, refused, when}
 use Rattle.php_forms.specs.Grammar.{Form}
@@ -152,6 +152,11 @@ target_by v kind misindented ts = cond (is_list kind) None (place_by v kind misi
 -- how a target goes on: a list form ends
 abbrev pub target_tail : Version → Tree → List Token → Option Form
 target_tail v x ts = target_by v x.0 (is_misindented x) ts
+
+-- how a variable expression in a quoted text goes on: with offsets, members and calls, and with no operator; a constant of
+-- a class is no variable
+abbrev pub embedded_tail : Version → NodeKind → List Token → Option Form
+embedded_tail v kind ts = or_else (postfix_tail v kind ts) (refused_unless (is_variable_expression kind))
 
 abbrev pub class_ref_by : Version → NodeKind → Terminal → List Token → Option Form
 class_ref_by v kind t.OpenBracket ts = Some offset_form

@@ -1,6 +1,6 @@
 // Which nodes may stand before what.
 ghost use Rattle.std.specs.Prelude.{◌≡◌};
-ghost use Rattle.php_grammar.specs.Bases.{is_callee, is_class_base, is_list, is_member_base, is_offset_base, is_short_ternary, is_target, is_variable, role_of};
+ghost use Rattle.php_grammar.specs.Bases.{is_callee, is_class_base, is_list, is_member_base, is_offset_base, is_short_ternary, is_target, is_variable, is_variable_expression, role_of};
 
 use php_tree::NodeKind;
 
@@ -212,6 +212,21 @@ pub fn is_short_ternary(kind: NodeKind) -> bool
         | Role::Constant
         | Role::Paren
         | Role::List
+        | Role::Other => false,
+    }
+}
+
+// A variable expression.
+pub fn is_variable_expression(kind: NodeKind) -> bool
+    ensures { result ≡ is_variable_expression kind }
+{
+    match role_of(kind) {
+        Role::Variable | Role::Element | Role::Property | Role::Call => true,
+        Role::Literal
+        | Role::Constant
+        | Role::Paren
+        | Role::List
+        | Role::ShortTernary
         | Role::Other => false,
     }
 }

@@ -15,6 +15,7 @@ use crate::operands::simple_variable_form;
 use crate::operands::target_form;
 use crate::operands::yield_value;
 use crate::tails::class_ref_tail;
+use crate::tails::embedded_tail;
 use crate::tails::entry_tail;
 use crate::tails::interpolated_tail;
 use crate::tails::place_tail;
@@ -165,6 +166,7 @@ pub fn form_of(version: Version, sort: Sort, tokens: Tokens<'_>) -> Option<Form>
         Sort::PlainVariable => plain_variable_form(tokens.first()),
         Sort::ClassRef => class_ref_form(tokens),
         Sort::Interpolated => plain_variable_form(tokens.first()),
+        Sort::Embedded => simple_variable_form(tokens),
     }
 }
 
@@ -295,5 +297,6 @@ pub fn tail_of(
         Sort::SimpleVariable | Sort::PlainVariable => None,
         Sort::ClassRef => class_ref_tail(version, kind, tokens),
         Sort::Interpolated => interpolated_tail(kind, tokens),
+        Sort::Embedded => embedded_tail(version, kind, tokens),
     }
 }

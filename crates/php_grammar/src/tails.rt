@@ -2,11 +2,11 @@
 ghost use Rattle.std.specs.Prelude.{◌≡◌};
 ghost use Rattle.php_terminals.specs.Tokens.{tokens_in};
 ghost use Rattle.php_forms.specs.Forms.{form_view, when};
-ghost use Rattle.php_grammar.specs.Tails.{assign_tail, binary_tail, brace_tail, chosen_tail, class_ref_tail, entry_by, entry_end, interpolated_tail, left_by, left_fits, member_tail, operand_by, operator_tail, place_by, postfix_tail, read_by, refused_unless, short_left_fits, static_tail, target_by, ternary_tail};
+ghost use Rattle.php_grammar.specs.Tails.{assign_tail, binary_tail, brace_tail, chosen_tail, class_ref_tail, embedded_tail, entry_by, entry_end, interpolated_tail, left_by, left_fits, member_tail, operand_by, operator_tail, place_by, postfix_tail, read_by, refused_unless, short_left_fits, static_tail, target_by, ternary_tail};
 
 use crate::bases::{
     is_callee, is_class_base, is_list, is_member_base, is_offset_base, is_short_ternary, is_target,
-    is_variable,
+    is_variable, is_variable_expression,
 };
 use crate::levels::{binary_items, binary_level, left_limit};
 use php_forms::forms::or_else;
@@ -370,6 +370,16 @@ pub fn target_tail(
     } else {
         place_tail(version, kind, misindented, tokens)
     }
+}
+
+/// How a variable expression in a quoted text goes on.
+pub fn embedded_tail(version: Version, kind: NodeKind, tokens: Tokens<'_>) -> Option<Form>
+    ensures { form_view result ≡ embedded_tail version kind (tokens_in tokens.entry) }
+{
+    or_else(
+        postfix_tail(version, kind, tokens),
+        refused_unless(is_variable_expression(kind)),
+    )
 }
 
 /// How an expression that names a class goes on.

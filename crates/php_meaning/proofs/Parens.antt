@@ -10,16 +10,17 @@ use Rattle.php_tree.specs.declared.version.Version.TheVariants.{V74, V83}
 use Rattle.php_tree.specs.Tree.{Forest, none, leaf, node}
 use Rattle.php_meaning.specs.values.Value.{Value}
 use Rattle.php_meaning.specs.runs.World.{Bytes}
-use Rattle.php_meaning.specs.runs.Script.{Mode, Read, Quiet, Write, Later, Top, Unchanged, Standing, Location}
+use Rattle.php_meaning.specs.runs.Script.{Mode, Read, Quiet, Write, Later, Top, Unchanged, Early, Found, FoundQuietly, Placed, Location}
 use Rattle.scope_names.specs.Slot.{Declared}
 use Rattle.scope_names.specs.Form.{Form, Part, word, child, part_of, part_before, parts, bits, form, kids, joins, is_name_part, is_namespace, first_is, is_backslash}
 use Rattle.scope_names.specs.Sites.{Site, file_site, is_declaration, declarations, one_if, declared_here, within, within_form, beside, names_beside}
 use Rattle.php_meaning.specs.runs.Kinds.{is_expression}
-use Rattle.php_meaning.specs.names.Tables.{Tables, tables_of, listed, entry, holder, keeps_top, kid_forms, kid_before}
+use Rattle.php_meaning.specs.names.Refused.{kid_forms, kid_form, kid_before, is_type, is_parameter, type_bits, Around, no_loops, refuses, inside, judged, refused}
+use Rattle.php_meaning.specs.names.Tables.{Tables, tables_of, listed, entry, holder, keeps_top, refused_file, file_entry}
 use Rattle.php_meaning.specs.statements.Loops.{switch}
 use Rattle.php_meaning.specs.calls.Bodies.{global_all}
 use Rattle.php_meaning.specs.expressions.Expressions.{array_literal, isset, unset_all}
-use Rattle.php_meaning.specs.Rules.{rule, reading, reading_quietly, locating, running, run_all, return, choices, exit, echo_all, ternary, at_top, held_again, standing_still}
+use Rattle.php_meaning.specs.Rules.{rule, reading, reading_quietly, locating, running, run_all, return, choices, exit, echo_all, ternary, at_top, held_again, evaluating_early, finding, finding_quietly, placing}
 use Rattle.php_meaning.specs.runs.Run.{Program, is_newer, run}
 use Rattle.php_meaning.specs.laws.Laws.{
   IsInside,
@@ -159,14 +160,48 @@ files_kept t (file {path} p ps) = one_more (scripts_kept t (file_site path) p) (
 
 -- ---- tables
 
+pub no_type : (k : NodeKind) → IsTrue (is_expression k) → is_type k ≡ false
+no_type kind.TypeName h = absurd (true≢false (sym h))
+no_type k h = refl
+
+type_bits_same : {f g : Forest} → Parenthesized f g → type_bits g ≡ type_bits f
+type_bits_same ends = refl
+type_bits_same (token k e d) = type_bits_same d
+type_bits_same (inner {k} {c} {d} {f} {g} p q) =
+    ap (λ x. cond (is_type k) x (type_bits g)) (forms_same p) ∙ ap (λ x. cond (is_type k) (form c) x) (type_bits_same q)
+type_bits_same (parens {k} {j} {c} {d} {f} {g} h p q) =
+    type_bits_same q ∙ ap (λ b. cond b (form c) (type_bits f)) (sym (no_type k h))
+
+kid_form_same : (k : NodeKind) {c d : Forest} → Parenthesized c d → kid_form k d ≡ kid_form k c
+kid_form_same k {c} {d} p =
+    ap (λ x. cond (is_parameter k) (type_bits d) [] ++ x) (forms_same p)
+    ∙ ap (λ x. cond (is_parameter k) x [] ++ form c) (type_bits_same p)
+
 kid_forms_same : {f g : Forest} → Parenthesized f g → kid_forms g ≡ kid_forms f
 kid_forms_same ends = refl
 kid_forms_same (token k e d) = kid_forms_same d
 kid_forms_same (inner {k} {c} {d} {f} {g} p q) =
-    ap (λ x. kid_before (is_expression k) (k, x) (kid_forms g)) (forms_same p)
-    ∙ ap (λ ks. kid_before (is_expression k) (k, form c) ks) (kid_forms_same q)
+    ap (λ x. kid_before (is_expression k) (k, x) (kid_forms g)) (kid_form_same k p)
+    ∙ ap (λ ks. kid_before (is_expression k) (k, kid_form k c) ks) (kid_forms_same q)
 kid_forms_same (parens {k} {j} {c} {d} {f} {g} h p q) =
-    kid_forms_same q ∙ subst (λ b. kid_forms f ≡ kid_before b (k, form c) (kid_forms f)) (sym h) refl
+    kid_forms_same q ∙ subst (λ b. kid_forms f ≡ kid_before b (k, kid_form k c) (kid_forms f)) (sym h) refl
+
+refused_same : {f g : Forest} → Parenthesized f g → (a : Around) → refused a g ≡ refused a f
+refused_same ends a = refl
+refused_same (token k e d) a = refused_same d a
+refused_same (inner {k} {c} {d} {f} {g} p q) a =
+    ap (λ x. judged (is_expression k) (refuses a k x) (refused (inside a k x (kid_forms d)) d) || refused a g) (forms_same p)
+    ∙ ap (λ x. judged (is_expression k) (refuses a k (form c)) (refused (inside a k (form c) x) d) || refused a g) (kid_forms_same p)
+    ∙ ap (λ x. judged (is_expression k) (refuses a k (form c)) x || refused a g) (refused_same p (inside a k (form c) (kid_forms c)))
+    ∙ ap (λ x. judged (is_expression k) (refuses a k (form c)) (refused (inside a k (form c) (kid_forms c)) c) || x) (refused_same q a)
+refused_same (parens {k} {j} {c} {d} {f} {g} h p q) a =
+    refused_same q a
+    ∙ ap (λ b. judged b (refuses a k (form c)) (refused (inside a k (form c) (kid_forms c)) c) || refused a f) (sym h)
+
+entry_same : {f g : Forest} → Parenthesized f g → (path : Bytes) → file_entry path g ≡ file_entry path f
+entry_same {f} {g} p path =
+    ap (λ b. entry b (refused_file path (declarations g)) []) (refused_same p no_loops)
+    ∙ ap (λ n. entry (refused no_loops f) (refused_file path n) []) (declarations_same p)
 
 listed_same : {f g : Forest} → Parenthesized f g → (s : Site) (of : Option Declared) (top : Bool) → listed s of top g ≡ listed s of top f
 listed_same ends s of top = refl
@@ -204,7 +239,9 @@ listed_same (parens {k} {j} {c} {d} {f} {g} {o} {p} h q r) s of top =
 tables_same : {fs gs : List (Bytes × Forest)} → AreParenthesized fs gs → tables_of gs ≡ tables_of fs
 tables_same no_files = refl
 tables_same (file {path} {f} {g} {fs} {gs} p ps) =
-    ap (λ x. x ++ tables_of gs) (listed_same p (file_site path) None true) ∙ ap (λ x. listed (file_site path) None true f ++ x) (tables_same ps)
+    ap (λ x. x ++ (file_entry path g ++ tables_of gs)) (listed_same p (file_site path) None true)
+    ∙ ap (λ x. listed (file_site path) None true f ++ (x ++ tables_of gs)) (entry_same p path)
+    ∙ ap (λ x. listed (file_site path) None true f ++ (file_entry path f ++ x)) (tables_same ps)
 
 -- the premises on two programs of which the second has expressions in parentheses
 record AlikeFiles (source written : Program) : Type 0 where
@@ -383,20 +420,48 @@ unchanged_counts kind.EvalTest v f g h = refl
 unchanged_counts kind.Yield v f g h = refl
 unchanged_counts k v f g h = refl
 
-standing_counts : (k : NodeKind) (l : Location) (f g : Form) → standing_still k l g ≡ standing_still k l f
-standing_counts kind.Variable l f g = refl
-standing_counts kind.StaticProp l f g = refl
-standing_counts kind.Offset l f g = refl
-standing_counts kind.BraceOffset l f g = refl
-standing_counts kind.Prop l f g = refl
-standing_counts k l f g = refl
+early_counts : (t : Tables) (s : Site) (k : NodeKind) (f g : Form) → kids g ≡ kids f → IsTrue (counts_children k) → evaluating_early t s k g ≡ evaluating_early t s k f
+early_counts t s kind.Variable f g e h = absurd (true≢false (sym h))
+early_counts t s kind.StaticProp f g e h = absurd (true≢false (sym h))
+early_counts t s kind.Offset f g e h = absurd (true≢false (sym h))
+early_counts t s kind.BraceOffset f g e h = absurd (true≢false (sym h))
+early_counts t s kind.Prop f g e h = absurd (true≢false (sym h))
+early_counts t s k f g e h = reading_counts t s k f g e h
+
+finding_counts : (t : Tables) (s : Site) (k : NodeKind) (l : Location) (f g : Form) → IsTrue (counts_children k) → finding t s k l g ≡ finding t s k l f
+finding_counts t s kind.Variable l f g h = absurd (true≢false (sym h))
+finding_counts t s kind.StaticProp l f g h = absurd (true≢false (sym h))
+finding_counts t s kind.Offset l f g h = absurd (true≢false (sym h))
+finding_counts t s kind.BraceOffset l f g h = absurd (true≢false (sym h))
+finding_counts t s kind.Prop l f g h = absurd (true≢false (sym h))
+finding_counts t s k l f g h = refl
+
+found_quietly_counts : (t : Tables) (s : Site) (k : NodeKind) (l : Location) (f g : Form) → IsTrue (counts_children k)
+    → finding_quietly t s k l g ≡ finding_quietly t s k l f
+found_quietly_counts t s kind.Variable l f g h = absurd (true≢false (sym h))
+found_quietly_counts t s kind.StaticProp l f g h = absurd (true≢false (sym h))
+found_quietly_counts t s kind.Offset l f g h = absurd (true≢false (sym h))
+found_quietly_counts t s kind.BraceOffset l f g h = absurd (true≢false (sym h))
+found_quietly_counts t s kind.Prop l f g h = absurd (true≢false (sym h))
+found_quietly_counts t s k l f g h = refl
+
+placing_counts : (t : Tables) (s : Site) (k : NodeKind) (l : Location) (f g : Form) → IsTrue (counts_children k) → placing t s k l g ≡ placing t s k l f
+placing_counts t s kind.Variable l f g h = absurd (true≢false (sym h))
+placing_counts t s kind.StaticProp l f g h = absurd (true≢false (sym h))
+placing_counts t s kind.Offset l f g h = absurd (true≢false (sym h))
+placing_counts t s kind.BraceOffset l f g h = absurd (true≢false (sym h))
+placing_counts t s kind.Prop l f g h = absurd (true≢false (sym h))
+placing_counts t s k l f g h = refl
 
 pub other_tokens_count_nothing : OtherTokensCountNothing
 other_tokens_count_nothing t s kind.Paren m f g h e = refl
 other_tokens_count_nothing t s k Read f g h e = reading_counts t s k f g e h
 other_tokens_count_nothing t s k Top f g h e = top_counts t s k f g e h
 other_tokens_count_nothing t s k (Unchanged v) f g h e = unchanged_counts k v f g h
-other_tokens_count_nothing t s k (Standing l) f g h e = standing_counts k l f g
+other_tokens_count_nothing t s k Early f g h e = early_counts t s k f g e h
+other_tokens_count_nothing t s k (Found l) f g h e = finding_counts t s k l f g h
+other_tokens_count_nothing t s k (FoundQuietly l) f g h e = found_quietly_counts t s k l f g h
+other_tokens_count_nothing t s k (Placed l) f g h e = placing_counts t s k l f g h
 other_tokens_count_nothing t s k Quiet f g h e = quietly_counts t s k f g e h
 other_tokens_count_nothing t s k Write f g h e = locating_counts t s k f g h
 other_tokens_count_nothing t s k m f g h e = running_counts t s k m f g h

@@ -6,6 +6,7 @@ use Rattle.php_tree.specs.declared.token.TokenKind.{TokenKind}
 use Rattle.php_tree.specs.declared.token.TokenKind.TheVariants as token
 use Rattle.php_tree.specs.declared.kind.NodeKind.TheVariants as kind
 use Rattle.php_tree.specs.Tree.{Forest, none, leaf, node}
+use Rattle.builtin_tables.specs.Beyond.{beyond_functions, beyond_classes, beyond_constants}
 use Rattle.builtin_tables.specs.Builtins.{builtin_rows}
 use Rattle.builtin_tables.specs.Constants.{named_constants, word_constants}
 use Rattle.builtin_tables.specs.Named.{is_same_name}
@@ -31,7 +32,7 @@ finally_after_return_tree =
     token.Label "f" (t token.Op "(" (node kind.Args none (t token.Op ")" none)))) (t token.Semi ";" none))) none))
 
 finally_after_return : ComesIn 30 finally_after_return_tree (codes "21", Ended (pos 0)) (codes "21", Ended (pos 0))
-unfolding builtin_rows named_constants word_constants is_same_name newer_functions newer_classes newer_constants
+unfolding builtin_rows named_constants word_constants is_same_name newer_functions newer_classes newer_constants beyond_functions beyond_classes beyond_constants
 finally_after_return = (refl, refl)
 
 -- <?php class A { private $p = 1; } $a = new A; try { echo $a->p; } catch (Error $e) { echo 2; }
@@ -50,7 +51,7 @@ private_from_outside_tree =
     token.Op "}" none))) none)))))))) none)))
 
 private_from_outside : ComesIn 30 private_from_outside_tree (codes "2", Ended (pos 0)) (codes "2", Ended (pos 0))
-unfolding builtin_rows named_constants word_constants is_same_name newer_functions newer_classes newer_constants
+unfolding builtin_rows named_constants word_constants is_same_name newer_functions newer_classes newer_constants beyond_functions beyond_classes beyond_constants
 private_from_outside = (refl, refl)
 
 -- <?php class A { function f() { static $n = 0; $n++; echo $n; } } class B extends A {} (new A)->f(); (new B)->f();
@@ -73,7 +74,7 @@ statics_of_a_child_tree =
     ";" none)) none))))
 
 statics_of_a_child : ComesIn 30 statics_of_a_child_tree (codes "11", Ended (pos 0)) (codes "12", Ended (pos 0))
-unfolding builtin_rows named_constants word_constants is_same_name newer_functions newer_classes newer_constants
+unfolding builtin_rows named_constants word_constants is_same_name newer_functions newer_classes newer_constants beyond_functions beyond_classes beyond_constants
 statics_of_a_child = (refl, refl)
 
 -- <?php echo foo;
@@ -84,5 +85,47 @@ undefined_constant_tree =
     none))) none)
 
 undefined_constant : ComesIn 30 undefined_constant_tree (codes "foo", Ended (pos 0)) ([], Threw (codes "Error"))
-unfolding builtin_rows named_constants word_constants is_same_name newer_functions newer_classes newer_constants
+unfolding builtin_rows named_constants word_constants is_same_name newer_functions newer_classes newer_constants beyond_functions beyond_classes beyond_constants
 undefined_constant = (refl, refl)
+
+-- <?php $a = [1]; foreach ($a as &$v) { if ($v < 3) $a[] = $v + 1; echo $v; }
+-- (PHP manual, "foreach": by reference the loop goes on to entries that are added behind)
+abbrev meets_what_is_added_tree : Forest
+meets_what_is_added_tree =
+    (node kind.ExprStmt (node kind.Assign (node kind.Variable (t token.Variable "$a" none) (t token.Op "="
+    (node kind.Array (t token.Op "[" (node kind.Item (node kind.Number (t token.Int "1" none) none) (t
+    token.Op "]" none))) none))) (t token.Semi ";" none)) (node kind.Foreach (t token.Keyword "foreach" (t
+    token.Op "(" (node kind.Variable (t token.Variable "$a" none) (t token.Keyword "as" (t token.Op "&" (node
+    kind.Variable (t token.Variable "$v" none) (t token.Op ")" (node kind.Block (t token.Op "{" (node kind.If
+    (t token.Keyword "if" (t token.Op "(" (node kind.Binary (node kind.Variable (t token.Variable "$v" none)
+    (t token.Op "<" (node kind.Number (t token.Int "3" none) none))) (t token.Op ")" (node kind.ExprStmt (node
+    kind.Assign (node kind.Offset (node kind.Variable (t token.Variable "$a" none) (t token.Op "[" (t token.Op
+    "]" none))) (t token.Op "=" (node kind.Binary (node kind.Variable (t token.Variable "$v" none) (t token.Op
+    "+" (node kind.Number (t token.Int "1" none) none))) none))) (t token.Semi ";" none)) none))))) (node
+    kind.Echo (t token.Keyword "echo" (node kind.Variable (t token.Variable "$v" none) (t token.Semi ";"
+    none))) (t token.Op "}" none)))) none)))))))) none))
+
+meets_what_is_added : ComesIn 30 meets_what_is_added_tree (codes "123", Ended (pos 0)) (codes "123", Ended (pos 0))
+unfolding builtin_rows named_constants word_constants is_same_name newer_functions newer_classes newer_constants beyond_functions beyond_classes beyond_constants
+meets_what_is_added = (refl, refl)
+
+-- <?php if (isset($n)) { echo $n; } else { function f() { $n = 1; include "a.php"; } f(); echo 2; }
+-- (PHP manual, "include": the file shares the variables of the code that includes it)
+abbrev include_in_a_function_tree : Forest
+include_in_a_function_tree =
+    (node kind.If (t token.Keyword "if" (t token.Op "(" (node kind.Isset (t token.Keyword "isset" (t token.Op
+    "(" (node kind.Variable (t token.Variable "$n" none) (t token.Op ")" none)))) (t token.Op ")" (node
+    kind.Block (t token.Op "{" (node kind.Echo (t token.Keyword "echo" (node kind.Variable (t token.Variable
+    "$n" none) (t token.Semi ";" none))) (t token.Op "}" none))) (t token.Keyword "else" (node kind.Block (t
+    token.Op "{" (node kind.Function (t token.Keyword "function" (t token.Label "f" (t token.Op "(" (t
+    token.Op ")" (node kind.Block (t token.Op "{" (node kind.ExprStmt (node kind.Assign (node kind.Variable (t
+    token.Variable "$n" none) (t token.Op "=" (node kind.Number (t token.Int "1" none) none))) (t token.Semi
+    ";" none)) (node kind.ExprStmt (node kind.Include (t token.Keyword "include" (node kind.Text (t token.Text
+    "\"a.php\"" none) none)) (t token.Semi ";" none)) (t token.Op "}" none)))) none))))) (node kind.ExprStmt
+    (node kind.Call (t token.Label "f" (t token.Op "(" (node kind.Args none (t token.Op ")" none)))) (t
+    token.Semi ";" none)) (node kind.Echo (t token.Keyword "echo" (node kind.Number (t token.Int "2" none) (t
+    token.Semi ";" none))) (t token.Op "}" none))))) none))))))) none)
+
+include_in_a_function : ComesIn 30 include_in_a_function_tree (codes "12", Ended (pos 0)) (codes "12", Ended (pos 0))
+unfolding builtin_rows named_constants word_constants is_same_name newer_functions newer_classes newer_constants beyond_functions beyond_classes beyond_constants
+include_in_a_function = (refl, refl)

@@ -50,7 +50,10 @@ use Rattle.php_meaning.specs.runs.Script.{
   Top,
   Name,
   Unchanged,
-  Standing,
+  Early,
+  Found,
+  FoundQuietly,
+  Placed,
   Location,
   location_then,
 }
@@ -58,6 +61,7 @@ use Rattle.php_meaning.specs.values.Arithmetic.{joined}
 use Rattle.php_meaning.specs.expressions.Operators.{of_values, binary}
 use Rattle.php_meaning.specs.literals.Literals.{constant_named, name_of}
 use Rattle.php_meaning.specs.literals.TextLiterals.{text_literal}
+use Rattle.php_meaning.specs.classes.Declaring.{is_compiled_file, is_bound_file}
 use Rattle.php_meaning.specs.Rules.{
   first_text,
   run_all,
@@ -78,7 +82,10 @@ use Rattle.php_meaning.specs.Rules.{
   run_top,
   is_unfit,
   held_again,
-  standing_still,
+  evaluating_early,
+  finding,
+  finding_quietly,
+  placing,
 }
 use Rattle.php_meaning.specs.runs.Kinds.{is_statement}
 use Rattle.php_meaning.specs.runs.Run.{
@@ -168,11 +175,13 @@ declare_early_never : (t : Tables) (path : Bytes) (ds : Tables) (k : Script) →
 declare_early_never t path [] k h = h
 declare_early_never t path (d ∷ ds) k h =
     cond_never (is_early d && bytes_eq d.at.file path) _ _
-    (λ s. cond_never (is_unfit t s.declared d) _ _ tt (λ u. declare_early_never t path ds k h))
+    (λ s. cond_never (is_unfit t s d) _ _ tt (λ u. declare_early_never t path ds k h))
     (declare_early_never t path ds k h)
 
 file_script_never : (t : Tables) (path : Bytes) (n : ℕ) → NeverAsks (file_script t path n)
-file_script_never t path n = declare_early_never t path t (run_top 0 n) (run_top_never 0 n)
+file_script_never t path n =
+    cond_never (is_compiled_file t path t) _ _
+    (λ s. cond_never (is_bound_file t s path) _ _ (declare_early_never t path t (run_top 0 n) (run_top_never 0 n)) tt) tt
 
 echo_all_never : (i n : ℕ) → NeverAsks (echo_all i n)
 echo_all_never i zero = tt
@@ -278,20 +287,47 @@ unchanged_never kind.EvalTest v f h = tt
 unchanged_never kind.Yield v f h = tt
 unchanged_never k v f h = tt
 
-standing_never : (k : NodeKind) (l : Location) (f : Form) → IsTrue (not (may_ask k (texts f))) → NeverAsks (standing_still k l f)
-standing_never kind.Variable l f h = cc
-standing_never kind.StaticProp l f h = cc
-standing_never kind.Offset l f h = cc
-standing_never kind.BraceOffset l f h = cc
-standing_never kind.Prop l f h = cc
-standing_never k l f h = tt
+early_never : (t : Tables) (s : Site) (k : NodeKind) (f : Form) → IsTrue (not (may_ask k (texts f))) → NeverAsks (evaluating_early t s k f)
+early_never t s kind.Variable f h = cc
+early_never t s kind.StaticProp f h = cc
+early_never t s kind.Offset f h = cc
+early_never t s kind.BraceOffset f h = cc
+early_never t s kind.Prop f h = cc
+early_never t s k f h = reading_never t s k f h
+
+finding_never : (t : Tables) (s : Site) (k : NodeKind) (l : Location) (f : Form) → IsTrue (not (may_ask k (texts f))) → NeverAsks (finding t s k l f)
+finding_never t s kind.Variable l f h = cc
+finding_never t s kind.StaticProp l f h = cc
+finding_never t s kind.Offset l f h = cc
+finding_never t s kind.BraceOffset l f h = cc
+finding_never t s kind.Prop l f h = cc
+finding_never t s k l f h = tt
+
+found_quietly_never : (t : Tables) (s : Site) (k : NodeKind) (l : Location) (f : Form) → IsTrue (not (may_ask k (texts f))) → NeverAsks (finding_quietly t s k l f)
+found_quietly_never t s kind.Variable l f h = cc
+found_quietly_never t s kind.StaticProp l f h = cc
+found_quietly_never t s kind.Offset l f h = cc
+found_quietly_never t s kind.BraceOffset l f h = cc
+found_quietly_never t s kind.Prop l f h = cc
+found_quietly_never t s k l f h = tt
+
+placing_never : (t : Tables) (s : Site) (k : NodeKind) (l : Location) (f : Form) → IsTrue (not (may_ask k (texts f))) → NeverAsks (placing t s k l f)
+placing_never t s kind.Variable l f h = cc
+placing_never t s kind.StaticProp l f h = cc
+placing_never t s kind.Offset l f h = cc
+placing_never t s kind.BraceOffset l f h = cc
+placing_never t s kind.Prop l f h = cc
+placing_never t s k l f h = tt
 
 rule_never : (t : Tables) (s : Site) (k : NodeKind) (m : Mode) (f : Form) → IsTrue (not (may_ask k (texts f))) → NeverAsks (rule t s k m f)
 rule_never t s kind.Paren m f h = λ o. tt
 rule_never t s k Read f h = reading_never t s k f h
 rule_never t s k Top f h = top_never t s k f h
 rule_never t s k (Unchanged v) f h = unchanged_never k v f h
-rule_never t s k (Standing l) f h = standing_never k l f h
+rule_never t s k Early f h = early_never t s k f h
+rule_never t s k (Found l) f h = finding_never t s k l f h
+rule_never t s k (FoundQuietly l) f h = found_quietly_never t s k l f h
+rule_never t s k (Placed l) f h = placing_never t s k l f h
 rule_never t s k Quiet f h = quietly_never t s k f h
 rule_never t s k Write f h = locating_never t s k f h
 rule_never t s k m f h = running_never t s k m f h

@@ -8,6 +8,7 @@ use Rattle.php_tree.specs.declared.kind.NodeKind.TheVariants as kind
 use Rattle.php_tree.specs.declared.version.Version.TheVariants.{V74}
 use Rattle.php_tree.specs.Tree.{Forest, none, leaf, node}
 use Rattle.scope_names.specs.Slot.{Slot, FileVariable, BodyVariable}
+use Rattle.builtin_tables.specs.Beyond.{beyond_functions, beyond_classes, beyond_constants}
 use Rattle.builtin_tables.specs.Builtins.{builtin_rows}
 use Rattle.builtin_tables.specs.Constants.{named_constants, word_constants}
 use Rattle.builtin_tables.specs.Named.{is_same_name}
@@ -47,7 +48,7 @@ unset_tree =
 
 -- a variable that is written or unset tells none, nor does a statement
 unset_tells_no_value : values_told (visits_of unset_tree) ≡ (Some 7, Null) ∷ (Some 1, Int (pos 1)) ∷ (Some 3, Int (pos 1)) ∷ []
-unfolding builtin_rows named_constants word_constants is_same_name newer_functions newer_classes newer_constants
+unfolding builtin_rows named_constants word_constants is_same_name newer_functions newer_classes newer_constants beyond_functions beyond_classes beyond_constants
 unset_tells_no_value = refl
 
 -- <?php function f(&$p) {} $a = [1]; $r = &$a[0]; f($a[1]); $b = [1]; foreach ($b as &$v) {}
@@ -72,10 +73,10 @@ taken_tree =
 
 -- a reference to an element makes a cell with the slot of the variable, and of the parameter
 slots_of_what_takes : slots_in (codes "a") (visits_of taken_tree) ≡ FileVariable (codes "r") ∷ BodyVariable (record { file = codes "a.php"; number = 0 }) (codes "p") ∷ []
-unfolding builtin_rows named_constants word_constants is_same_name newer_functions newer_classes newer_constants
+unfolding builtin_rows named_constants word_constants is_same_name newer_functions newer_classes newer_constants beyond_functions beyond_classes beyond_constants
 slots_of_what_takes = refl
 
 -- and of the loop's variable
 slot_of_the_loop : slots_in (codes "b") (visits_of taken_tree) ≡ FileVariable (codes "v") ∷ []
-unfolding builtin_rows named_constants word_constants is_same_name newer_functions newer_classes newer_constants
+unfolding builtin_rows named_constants word_constants is_same_name newer_functions newer_classes newer_constants beyond_functions beyond_classes beyond_constants
 slot_of_the_loop = refl

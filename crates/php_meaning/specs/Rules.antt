@@ -41,6 +41,7 @@ use Rattle.php_meaning.specs.values.Arithmetic.{incremented, decremented, joined
 use Rattle.php_meaning.specs.literals.Literals.{int_literal, constant_named, found, name_of, behind_backslash}
 use Rattle.php_meaning.specs.literals.TextLiterals.{text_literal}
 use Rattle.php_meaning.specs.values.Offsets.{Strict}
+use Rattle.php_meaning.specs.values.Identical.{is_same_int}
 use Rattle.php_meaning.specs.values.Offsets as offsets
 use Rattle.php_meaning.specs.runs.World.{Bytes, Store}
 use Rattle.scope_names.specs.Form.{Form, texts, kids, Word, Child}
@@ -57,6 +58,7 @@ use Rattle.php_meaning.specs.runs.Script.{
   Break,
   Continue,
   Out,
+  Fresh,
   At,
   Jump,
   Mode,
@@ -95,7 +97,10 @@ use Rattle.php_meaning.specs.runs.Script.{
   throws,
   Top,
   Unchanged,
-  Standing,
+  Early,
+  Found,
+  FoundQuietly,
+  Placed,
   Location,
   stands,
 }
@@ -124,8 +129,11 @@ use Rattle.php_meaning.specs.expressions.Expressions.{
   one_alone,
   compound_by,
   variable_still,
-  offset_standing,
-  property_standing,
+  early_offset,
+  early_property,
+  found_offset,
+  found_object,
+  placed_offset,
 }
 use Rattle.php_meaning.specs.literals.Nowdocs.{is_blank}
 use Rattle.php_meaning.specs.expressions.QuotedTexts.{quoted_text, is_filled}
@@ -145,8 +153,9 @@ use Rattle.php_meaning.specs.calls.Bodies.{
   declare,
 }
 use Rattle.php_meaning.specs.classes.Lines.{is_early_class}
-use Rattle.php_meaning.specs.classes.Declaring.{is_class_fit, reach_class}
+use Rattle.php_meaning.specs.classes.Declaring.{is_class_fit, is_compiled_file, is_bound_file, reach_class}
 use Rattle.php_meaning.specs.classes.Types.{type_against}
+use Rattle.php_meaning.specs.names.Refused.{levels}
 use Rattle.php_meaning.specs.names.Reserved.{is_function_taken}
 use Rattle.php_meaning.specs.values.Bits.{complement}
 use Rattle.php_meaning.specs.classes.Properties.{property_value, property_quietly, member_word, properties_at, unset_property}
@@ -218,19 +227,17 @@ are_strictness (w ∷ ws) =
     (is_keyword (codes "declare") w || is_keyword (codes "strict_types") w || bytes_eq w (codes "(") || bytes_eq w (codes "=")
     || bytes_eq w (codes ")")) && are_strictness ws
 
+-- the file's types are strict, or not
+abbrev pub with_strictness : Site → Script → Value → Script
+with_strictness s k (Int i) =
+    if is_same_int i (pos 1) then Look (λ st. Put (record st { strict = s.file ∷ st.strict }) k)
+    else (if is_same_int i (pos 0) then k else Stop NoRule)
+with_strictness s k v = Stop NoRule
+
 -- a `declare` with one directive and the statement behind it
-abbrev pub declared : List Bytes → ℕ → ℕ → Script
-declared ws i (suc (suc zero)) = cond (are_strictness ws) (Run (Kid 1 Read) Give) (Stop NoRule)
-declared ws i n = Stop NoRule
-
-abbrev pub number_of : ℤ → ℕ
-number_of (pos k) = k
-number_of i = 0
-
--- how many loops are left or gone on with
-abbrev pub levels : List Bytes → ℕ
-levels (w ∷ n ∷ ws) = if is_end n then 1 else number_of (int_literal n)
-levels ws = 1
+abbrev pub declared : Site → List Bytes → ℕ → Script
+declared s ws (suc (suc zero)) = cond (are_strictness ws) (child_value 0 (with_strictness s (Run (Kid 1 Read) Give))) (Stop NoRule)
+declared s ws n = Stop NoRule
 
 abbrev pub return : ℕ → Script
 return zero = Give (Jump (Return Null))
@@ -352,8 +359,8 @@ exit (suc n) = child_value 0 exit_with
 
 abbrev pub call_named : Tables → Site → List Bytes → Script
 call_named t s names = Look (λ st. elim (function_named t st.declared names) [
-  | Some d ↦ call 0 d None None Give
-  | None ↦ if is_some st.here.item then Stop Call else call_builtin s 0 (builtin_named names)
+  | Some d ↦ call 0 d None None None Give
+  | None ↦ if is_some st.here.item then Stop Call else call_builtin s 0 names (builtin_named names)
 ])
 
 abbrev pub function_call : Tables → Site → Form → Script
@@ -365,7 +372,7 @@ function_call t s f = elim (before_word (codes "(") (texts f)) [
 -- ---- includes
 
 abbrev pub included : Out → Script
-included (Jump (Return v)) = give v
+included (Jump (Return v)) = Give (Fresh v)
 included (Jump (Throw n)) = Give (Jump (Throw n))
 included (Jump w) = Stop NoRule
 included o = give (Int (pos 1))
@@ -394,21 +401,25 @@ abbrev pub is_early : table.Declaration → Bool
 is_early d = (d.is_top && is_function d.kind) || is_early_class d
 
 -- whether it can't take place: it is there already, or PHP refuses it
-abbrev pub is_unfit : Tables → List Declared → table.Declaration → Bool
-is_unfit t ds d =
-    if is_function d.kind then is_some (declared_function t ds (function_name d)) || is_function_taken (function_name d)
-    else not (is_class_fit t ds d)
+abbrev pub is_unfit : Tables → Store → table.Declaration → Bool
+is_unfit t st d =
+    if is_function d.kind then is_some (declared_function t st.declared (function_name d)) || is_function_taken (function_name d)
+    else not (is_class_fit t st d)
 
 -- the declarations of a file that take place when it starts, and then its statements
 abbrev pub declare_early : Tables → Bytes → Tables → Script → Script
 declare_early t path [] k = k
 declare_early t path (d ∷ ds) k =
     if is_early d && bytes_eq d.at.file path
-    then Look (λ s. if is_unfit t s.declared d then Stop Declaration else declare d.at (declare_early t path ds k))
+    then Look (λ s. if is_unfit t s d then Stop Declaration else declare d.at (declare_early t path ds k))
     else declare_early t path ds k
 
+-- A file that PHP doesn't compile is outside from its start.
 abbrev pub file_script : Tables → Bytes → ℕ → Script
-file_script t path n = declare_early t path t (run_top 0 n)
+file_script t path n =
+    if is_compiled_file t path t
+    then Look (λ s. if is_bound_file t s path then declare_early t path t (run_top 0 n) else Stop Declaration)
+    else Stop Declaration
 
 -- ---- rules
 
@@ -447,8 +458,8 @@ reading t s kind.ClassConstant f = class_constant t s f
 reading t s kind.StaticProp f = static_value t s f
 reading t s kind.InstanceOf f = instance_of t s f
 reading t s kind.Array f = array_literal (kids f)
-reading t s kind.Offset f = read_offset Read Strict f
-reading t s kind.BraceOffset f = read_offset Read Strict f
+reading t s kind.Offset f = read_offset Found Strict f
+reading t s kind.BraceOffset f = read_offset Found Strict f
 reading t s kind.Prop f = child_value 0 (λ v. property_value t s v (member_word 1 f))
 reading t s kind.Call f = function_call t s f
 reading t s kind.MethodCall f = method_call t s f
@@ -474,8 +485,8 @@ reading t s k f = Stop NoRule
 abbrev pub reading_quietly : Tables → Site → NodeKind → Form → Script
 reading_quietly t s kind.Variable f =
     cond (nat_eq (kids f) 0) (variable_quietly (plain_name (first_text (texts f)))) (Stop NoRule)
-reading_quietly t s kind.Offset f = read_offset Quiet offsets.Quiet f
-reading_quietly t s kind.BraceOffset f = read_offset Quiet offsets.Quiet f
+reading_quietly t s kind.Offset f = read_offset FoundQuietly offsets.Quiet f
+reading_quietly t s kind.BraceOffset f = read_offset FoundQuietly offsets.Quiet f
 reading_quietly t s kind.Prop f = Run (Kid 0 Quiet) (value_then (λ v. property_quietly t s v (member_word 1 f) give))
 reading_quietly t s kind.StaticProp f = static_quietly t s f
 reading_quietly t s k f = reading t s k f
@@ -508,9 +519,9 @@ running t s kind.Case (Against v) f = case_against f v
 running t s kind.TypeName (Against v) f = type_against t s (texts f) v
 running t s kind.Item (Into a) f = with_array a (item (properties_at t s) s f)
 running t s kind.Args (Given marks) f = cond (has_word (codes "...") (texts f)) (Stop NoRule) (arguments (properties_at t s) s 0 (kids f) marks entries.none)
-running t s kind.Args Handed f = cond (has_word (codes "...") (texts f)) (Stop NoRule) (handed 0 (kids f) entries.none)
-running t s kind.Function Entered f = body_script f
-running t s kind.Method Entered f = body_script f
+running t s kind.Args Handed f = cond (has_word (codes "...") (texts f)) (Stop NoRule) (handed 0 (kids f) entries.none (λ k. k))
+running t s kind.Function Entered f = body_script t s f
+running t s kind.Method Entered f = body_script t s f
 running t s kind.Param Entered f = Look (λ st. parameter t s f st st.here.arguments)
 running t s kind.Property (Item i) f = Run (Kid i Read) Give
 running t s kind.ClassConst (Item i) f = Run (Kid i Read) Give
@@ -521,7 +532,7 @@ abbrev pub at_top : Tables → Site → NodeKind → Form → Script
 at_top t s kind.Const f = define_all s 0 (texts f)
 at_top t s kind.Namespace f = run_top 0 (kids f)
 at_top t s kind.Use f = give Null
-at_top t s kind.Declare f = declared (texts f) 0 (kids f)
+at_top t s kind.Declare f = declared s (texts f) (kids f)
 at_top t s k f = reading t s k f
 
 -- What gave a value before. A plain variable has to hold it still, and what has no rule has none here either.
@@ -536,14 +547,41 @@ held_again kind.EvalTest v f = Stop NoRule
 held_again kind.Yield v f = Stop NoRule
 held_again k v f = Give stands
 
--- what came to a location before: the plain variables among its keys, and one that it is a property of, hold what they held
-abbrev pub standing_still : NodeKind → Location → Form → Script
-standing_still kind.Variable l f = Give stands
-standing_still kind.StaticProp l f = Give stands
-standing_still kind.Offset l f = offset_standing l
-standing_still kind.BraceOffset l f = offset_standing l
-standing_still kind.Prop l f = property_standing l l.root
-standing_still k l f = Stop NoRule
+-- as a base or a target: variables, offsets and properties are found later, and anything else is evaluated
+abbrev pub evaluating_early : Tables → Site → NodeKind → Form → Script
+evaluating_early t s kind.Variable f = cond (nat_eq (kids f) 0) (Give (At (in_variable (plain_name (first_text (texts f)))))) (Stop NoRule)
+evaluating_early t s kind.StaticProp f = Give (At (in_variable []))
+evaluating_early t s kind.Offset f = early_offset f
+evaluating_early t s kind.BraceOffset f = early_offset f
+evaluating_early t s kind.Prop f = early_property
+evaluating_early t s k f = reading t s k f
+
+-- found then: for its value
+abbrev pub finding : Tables → Site → NodeKind → Location → Form → Script
+finding t s kind.Variable l f = reading t s kind.Variable f
+finding t s kind.StaticProp l f = reading t s kind.StaticProp f
+finding t s kind.Offset l f = found_offset Found Strict l
+finding t s kind.BraceOffset l f = found_offset Found Strict l
+finding t s kind.Prop l f = found_object Found l (λ v. property_value t s v (member_word 1 f))
+finding t s k l f = Stop NoRule
+
+-- for its value where nothing is said of what isn't there
+abbrev pub finding_quietly : Tables → Site → NodeKind → Location → Form → Script
+finding_quietly t s kind.Variable l f = reading_quietly t s kind.Variable f
+finding_quietly t s kind.StaticProp l f = reading_quietly t s kind.StaticProp f
+finding_quietly t s kind.Offset l f = found_offset FoundQuietly offsets.Quiet l
+finding_quietly t s kind.BraceOffset l f = found_offset FoundQuietly offsets.Quiet l
+finding_quietly t s kind.Prop l f = found_object FoundQuietly l (λ v. property_quietly t s v (member_word 1 f) give)
+finding_quietly t s k l f = Stop NoRule
+
+-- as location
+abbrev pub placing : Tables → Site → NodeKind → Location → Form → Script
+placing t s kind.Variable l f = locating t s kind.Variable f
+placing t s kind.StaticProp l f = locating t s kind.StaticProp f
+placing t s kind.Offset l f = placed_offset l
+placing t s kind.BraceOffset l f = placed_offset l
+placing t s kind.Prop l f = found_object Found l (λ v. Give (At (record { root = InProperty v (member_word 1 f); offsets = [] })))
+placing t s k l f = Stop NoRule
 
 -- Parentheses are what stands in them, however they are evaluated.
 abbrev pub rule : Tables → Site → NodeKind → Mode → Form → Script
@@ -551,7 +589,10 @@ rule t s kind.Paren m f = Run (Kid 0 m) Give
 rule t s k Read f = reading t s k f
 rule t s k Top f = at_top t s k f
 rule t s k (Unchanged v) f = held_again k v f
-rule t s k (Standing l) f = standing_still k l f
+rule t s k Early f = evaluating_early t s k f
+rule t s k (Found l) f = finding t s k l f
+rule t s k (FoundQuietly l) f = finding_quietly t s k l f
+rule t s k (Placed l) f = placing t s k l f
 rule t s k Quiet f = reading_quietly t s k f
 rule t s k Write f = locating t s k f
 rule t s k m f = running t s k m f

@@ -4,6 +4,7 @@ pub mod Members
 pub mod Declaring
 pub mod Types
 pub mod Properties
+pub mod Preparing
 pub mod Making
 pub mod Methods
 pub mod Statics

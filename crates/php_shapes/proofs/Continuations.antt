@@ -9,7 +9,7 @@ use Rattle.php_tree.specs.declared.version.Version.TheVariants.{V74, V83}
 use Rattle.php_tree.specs.Tree.{Forest, none, node, leaves}
 use Rattle.php_terminals.specs.declared.terminal.Terminal.{Terminal}
 use Rattle.php_terminals.specs.declared.terminal.Terminal.TheVariants as t
-use Rattle.php_terminals.specs.Ahead.{first_of}
+use Rattle.php_terminals.specs.Ahead.{first_of, is_called}
 use Rattle.php_terminals.specs.Indents.{is_misindented}
 use Rattle.php_terminals.specs.Marks.{is_double_arrow, is_variable_start}
 use Rattle.php_forms.specs.declared.item.Item.{Item}
@@ -17,7 +17,7 @@ use Rattle.php_forms.specs.declared.item.Sort.{Sort}
 use Rattle.php_forms.specs.declared.item.Sort.TheVariants as s
 use Rattle.php_forms.specs.Forms.{or_else, refused}
 use Rattle.php_forms.specs.Grammar.{Form}
-use Rattle.php_grammar.specs.Bases.{is_class_base, is_list, is_member_base, is_offset_base, is_target, is_variable}
+use Rattle.php_grammar.specs.Bases.{is_callee, is_class_base, is_list, is_member_base, is_offset_base, is_target, is_variable, is_variable_expression}
 use Rattle.php_grammar.specs.Tables as ft
 use Rattle.php_grammar.specs.Tails as ta
 use Rattle.php_shapes.specs.Postfixes as po
@@ -25,12 +25,12 @@ use Rattle.php_shapes.specs.Quoted as qu
 use Rattle.php_shapes.specs.Forms.{form}
 use Rattle.php_shapes.specs.Nearest.{is_nearest}
 use Rattle.php_shapes.specs.Notation.{Rule, word, place, ◌~◌, maybe, expr, brackets, braces}
-use Rattle.php_shapes.specs.Places.{MemberBase, OffsetBase, begins_with_class_name, is_class_name}
+use Rattle.php_shapes.specs.Places.{MemberBase, OffsetBase, begins_with_class_name, begins_with_variable, is_class_name, is_postfixed}
 use Rattle.php_shapes.specs.Shapes.{Fits, IsNode, is_node, is_place, is_inside, is_both, is_first, is_second}
 use Rattle.php_shapes.proofs.Entries.{Meet, entries}
 use Rattle.php_shapes.proofs.Sequences.{Gives, whole}
 use Rattle.php_shapes.proofs.Follows.{false_is}
-use Rattle.php_shapes.proofs.Standing.{Closed, Stands, cond_option, is_operand, is_quiet, or_else_form, quiet, quiet_fine, when_form}
+use Rattle.php_shapes.proofs.Standing.{Closed, Stands, cond_form, cond_option, is_operand, is_quiet, or_else_form, quiet, quiet_fine, when_form}
 use Rattle.php_shapes.proofs.Never.{no_such}
 use Rattle.php_shapes.proofs.Operations.{GrowsOn, operator_grows}
 use Rattle.php_shapes.proofs.Additions.{Adds, postfix_adds}
@@ -226,6 +226,65 @@ interpolated_goes v j b ts p near t.Arrow =
     })
 interpolated_goes v j b ts p near _ = tt
 
+-- ---- variable expressions in quoted texts
+
+abbrev Postfixed : Form → Type 0
+Postfixed fm = is_postfixed fm.0 ≡ true
+
+static_tail_postfixed : (ts : List Token) → Postfixed (ta.static_tail ts)
+static_tail_postfixed ts =
+    cond_form Postfixed (is_called ts) _ _ refl (cond_form Postfixed (is_variable_start (first_of ts)) _ _ refl refl)
+
+brace_postfixed : (v : Version) (j : NodeKind) → IfSome (ta.brace_tail v j) Postfixed
+brace_postfixed V74 j = when_form Postfixed (is_offset_base j) _ (λ e. refl)
+brace_postfixed V83 j = tt
+
+-- what goes on behind a base is an offset, a member or a call
+postfix_kinds : (v : Version) (j : NodeKind) (x : Terminal) (ts : List Token) → IfSome (ta.postfix_by v j x ts) Postfixed
+postfix_kinds v j t.OpenBracket ts = when_form Postfixed (is_offset_base j) _ (λ e. refl)
+postfix_kinds v j t.OpenBrace ts = brace_postfixed v j
+postfix_kinds v j t.Arrow ts = when_form Postfixed (is_member_base j) _ (λ e. cond_form Postfixed (is_called (drop 1 ts)) _ _ refl refl)
+postfix_kinds v j t.DoubleColon ts = when_form Postfixed (is_class_base j) _ (λ e. static_tail_postfixed (drop 1 ts))
+postfix_kinds v j t.OpenParen ts = when_form Postfixed (is_callee j) _ (λ e. refl)
+postfix_kinds v j _ ts = tt
+
+postfixed_quiet : (j : NodeKind) → is_postfixed j ≡ true → is_quiet j ≡ true
+postfixed_quiet k.If e = false_is e
+postfixed_quiet k.Yield e = false_is e
+postfixed_quiet k.Text e = false_is e
+postfixed_quiet k.Quoted e = false_is e
+postfixed_quiet _ e = refl
+
+or_second : (a b : Bool) → b ≡ true → (a || b) ≡ true
+or_second true b e = refl
+or_second false b e = e
+
+as_embedded : (v : Version) (j : NodeKind) (b : Forest) (ts : List Token) → begins_with_variable (node j b none) ≡ true → (fm : Form) → Adds v j b fm
+    → Postfixed fm → GoesOn v s.Embedded j b ts fm
+as_embedded v j b ts w fm a p = record {
+  goes = λ f rest same m.
+      let x = a.adds f rest m in (
+        (
+          record { fits = x.fits; fine = quiet_fine fm.0 (node j b f) (postfixed_quiet fm.0 p) },
+          or_second (is_variable fm.0) _ (ap (λ (y : Bool). y && begins_with_variable (node j b none)) p ∙ w),
+        ),
+        x.shut,
+      );
+}
+
+both_each : (P Q R : Form → Type 0) → ((fm : Form) → P fm → Q fm → R fm) → (o : Option Form) → IfSome o P → IfSome o Q → IfSome o R
+both_each P Q R f None p q = tt
+both_each P Q R f (Some fm) p q = f fm p q
+
+pub embedded_goes : (v : Version) (j : NodeKind) (b : Forest) (ts : List Token) → IsNode v j b → begins_with_variable (node j b none) ≡ true
+    → IfSome (ta.embedded_tail v j ts) (GoesOn v s.Embedded j b ts)
+embedded_goes v j b ts n w =
+    let P = GoesOn v s.Embedded j b ts in
+    or_else_form P (ta.postfix_tail v j ts) (ta.refused_unless (is_variable_expression j))
+    (both_each (Adds v j b) Postfixed P (as_embedded v j b ts w) (ta.postfix_tail v j ts) (postfix_adds v j b n ts)
+    (postfix_kinds v j (first_of ts) ts))
+    (refused_unless_goes v s.Embedded j b ts (is_variable_expression j))
+
 -- A node of each sort goes on as its kind's form says.
 pub goes_good : (v : Version) (s : Sort) (j : NodeKind) (b : Forest) (ts : List Token) → Stands v s j b → is_nearest b ≡ true → IfSome (ft.tail v s (j, b) ts) (GoesOn v s j b ts)
 goes_good v (s.Operand limit) j b ts p near = read_goes v limit j b ts p.0 near p.1
@@ -235,4 +294,5 @@ goes_good v s.Target j b ts p near = cond_option (GoesOn v s.Target j b ts) (is_
 goes_good v s.Place j b ts p near = place_goes v s.Place j b ts (as_place v j b ts) p near
 goes_good v s.ClassRef j b ts p near = class_goes v j b ts (is_node p.0.fits near p.0.fine) p.1 (first_of ts) ts
 goes_good v s.Interpolated j b ts p near = interpolated_goes v j b ts p.1 near (first_of ts)
+goes_good v s.Embedded j b ts p near = embedded_goes v j b ts (is_node p.0.fits near p.0.fine) p.1
 goes_good v _ j b ts p near = tt

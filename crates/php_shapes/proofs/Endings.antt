@@ -12,7 +12,7 @@ use Rattle.php_forms.specs.declared.item.Sort.{Sort}
 use Rattle.php_forms.specs.declared.item.Sort.TheVariants as s
 use Rattle.php_forms.specs.Forms.{or_else, refused}
 use Rattle.php_forms.specs.Grammar.{Form}
-use Rattle.php_grammar.specs.Bases.{is_list, is_target}
+use Rattle.php_grammar.specs.Bases.{is_list, is_target, is_variable_expression}
 use Rattle.php_grammar.specs.Tables as ft
 use Rattle.php_grammar.specs.Tails as ta
 use Rattle.php_shapes.specs.Atoms as at
@@ -20,7 +20,7 @@ use Rattle.php_shapes.specs.Quoted as qu
 use Rattle.php_shapes.specs.Forms.{form}
 use Rattle.php_shapes.specs.Nearest.{is_nearest}
 use Rattle.php_shapes.specs.Notation.{kind, place}
-use Rattle.php_shapes.specs.Places.{ClassName, Member, Statement, Operand, Place, Target, TargetOrList, is_expression, may_stand}
+use Rattle.php_shapes.specs.Places.{ClassName, Embedded, Member, Statement, Operand, Place, Target, TargetOrList, begins_with_variable, is_expression, may_stand}
 use Rattle.php_shapes.specs.Shapes.{Fits, is_node, is_kind, is_place, is_inside}
 use Rattle.php_shapes.proofs.Entries.{Meets, entry_rule, sorted}
 use Rattle.php_shapes.proofs.Follows.{false_is}
@@ -105,6 +105,13 @@ kind_ends v i j b p near e = subst (λ (l : NodeKind). Fits v (kind l) (node j b
 pub place_ends : (v : Version) (p : Place) (j : NodeKind) (b : Forest) → Made v j b → is_nearest b ≡ true → may_stand v p (j, b) ≡ true → Fits v (place p) (node j b none)
 place_ends v p j b m near e = is_place e (is_node m.fits near m.fine)
 
+pub embedded_ends : (v : Version) (j : NodeKind) (b : Forest) (ts : List Token) → Made v j b → begins_with_variable (node j b none) ≡ true
+    → is_nearest b ≡ true → ta.embedded_tail v j ts ≡ None → Fits v (place Embedded) (node j b none)
+embedded_ends v j b ts m w near e =
+    let a : is_variable_expression j ≡ true = test_holds (is_variable_expression j)
+    (or_none (ta.postfix_tail v j ts) (ta.refused_unless (is_variable_expression j)) e) in
+    place_ends v Embedded j b m near (ap (λ (y : Bool). y && begins_with_variable (node j b none)) a ∙ w)
+
 -- A node of each sort ends as one that may stand there.
 pub ends_good : (v : Version) (s : Sort) (j : NodeKind) (b : Forest) (ts : List Token) → Stands v s j b
     → is_nearest b ≡ true → ft.tail v s (j, b) ts ≡ None → Meets v (sorted s) (node j b none) ts
@@ -128,3 +135,4 @@ ends_good v s.SimpleVariable j b ts p near e = kind_ends v k.Variable j b p.0 ne
 ends_good v s.PlainVariable j b ts p near e = subst (λ (l : NodeKind). Fits v qu.plain_variable (node l b none)) (sym p.1) (is_inside p.0 near)
 ends_good v s.ClassRef j b ts p near e = place_ends v ClassName j b p.0 near p.1
 ends_good v s.Interpolated j b ts p near e = p.0 near
+ends_good v s.Embedded j b ts p near e = embedded_ends v j b ts p.0 p.1 near e

@@ -24,7 +24,7 @@ use Rattle.php_shapes.specs.Quoted as qu
 use Rattle.php_shapes.specs.Statements as st
 use Rattle.php_shapes.specs.Nearest.{has_else, is_else, is_to}
 use Rattle.php_shapes.specs.Notation.{Rule, nothing, word, kind, place, inside, ◌~◌, ◌|||◌, many, tokens, maybe, expr, commas, commas_last, parens, brackets, braces}
-use Rattle.php_shapes.specs.Places.{Member, Operand, Target, TargetOrList, ClassName}
+use Rattle.php_shapes.specs.Places.{Member, Operand, Target, TargetOrList, ClassName, Embedded}
 use Rattle.php_shapes.specs.Shapes.{Fits}
 
 -- What an item stands for: a rule, or a rule that depends on the tokens that follow.
@@ -293,6 +293,7 @@ sorted s.SimpleVariable = plain (kind k.Variable)
 sorted s.PlainVariable = plain qu.plain_variable
 sorted s.ClassRef = plain (place ClassName)
 sorted s.Interpolated = plain qu.interpolated
+sorted s.Embedded = plain (place Embedded)
 
 abbrev pub entry_of : Version → Item → Entry
 entry_of v (Word c) = plain (word c)

@@ -7,6 +7,7 @@ mod ReadClassUses
 mod ReadClasses
 mod ReadClosures
 mod ReadDeclarations
+mod ReadEmbedded
 mod ReadEnds
 mod ReadExpressionStatements
 mod ReadFirst
@@ -49,6 +50,7 @@ pub mod Entries
 pub mod Follows
 pub mod Groups
 pub mod Heads
+pub mod Leftmost
 pub mod Never
 pub mod Openings
 pub mod Operations

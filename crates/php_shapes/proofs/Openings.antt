@@ -69,6 +69,18 @@ simple_variable_by_good v t.Variable ts = as_simple v _ (one v (word t.Variable)
 simple_variable_by_good v t.Dollar ts = dollar_good v (second_of ts)
 simple_variable_by_good v _ ts = tt
 
+pub as_embedded : (v : Version) (is : List Item) → Gives v (entries v is) at.variable → Good v s.Embedded (k.Variable, is)
+as_embedded v is p = record { good = λ c rest m. ((made v k.Variable is refl p c rest m, refl), quiet k.Variable c rest refl) }
+
+pub dollar_embedded : (v : Version) (x : Terminal) → Good v s.Embedded (fo.dollar_form x)
+dollar_embedded v t.OpenBrace = as_embedded v _ (λ f rest m. is_second (dollar_gives v t.OpenBrace f rest m))
+dollar_embedded v x = as_embedded v _ (λ f rest m. is_second (dollar_gives v x f rest m))
+
+pub embedded_good : (v : Version) (x : Terminal) (ts : List Token) → IfSome (fo.simple_variable_by x ts) (Good v s.Embedded)
+embedded_good v t.Variable ts = as_embedded v _ (one v (word t.Variable) at.dollar_variable)
+embedded_good v t.Dollar ts = dollar_embedded v (second_of ts)
+embedded_good v _ ts = tt
+
 pub plain_good : (v : Version) (x : Terminal) → IfSome (ft.plain_variable_form x) (Good v s.PlainVariable)
 plain_good v t.Variable = record { good = λ c rest m. ((whole v (word t.Variable) c rest m, refl), quiet k.Variable c rest refl) }
 plain_good v _ = tt
@@ -159,3 +171,4 @@ begins_good v s.SimpleVariable ts = simple_variable_by_good v (first_of ts) ts
 begins_good v s.PlainVariable ts = plain_good v (first_of ts)
 begins_good v s.ClassRef ts = class_ref_good v ts
 begins_good v s.Interpolated ts = interpolated_good v (first_of ts)
+begins_good v s.Embedded ts = embedded_good v (first_of ts) ts

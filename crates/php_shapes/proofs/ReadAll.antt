@@ -32,12 +32,12 @@ use Rattle.php_parser.specs.Ends.{is_end}
 use Rattle.php_parser.specs.Files.{ReadsFile, bound}
 use Rattle.php_shapes.specs.Shapes.{IsExpression, Shape}
 use Rattle.php_shapes.proofs.ReadBodies.{file_walks}
-use Rattle.php_grammar.specs.Bases.{is_list, is_target, role_of}
+use Rattle.php_grammar.specs.Bases.{is_list, is_offset_base, is_target, is_variable_expression, role_of}
 use Rattle.php_shapes.specs.Forms.{form as shape}
 use Rattle.php_shapes.specs.Notation.{tokens}
-use Rattle.php_shapes.specs.Places.{Statement, Member, Target, TargetOrList, ClassName, is_expression, is_prefix}
+use Rattle.php_shapes.specs.Places.{Statement, Member, Target, TargetOrList, ClassName, Embedded, begins_with_variable, is_expression, is_prefix}
 use Rattle.php_shapes.specs.Shapes.{is_inside, is_word}
-use Rattle.php_shapes.proofs.ReadEnds.{behind_level, closes_target, goes_behind, reads_kind, Stopped, suits}
+use Rattle.php_shapes.proofs.ReadEnds.{behind_level, closes_embedded, closes_target, goes_behind, reads_kind, Stopped, suits}
 use Rattle.php_shapes.proofs.ReadOperands.{FitsLevel, Grown, number_grows, float_grows, text_grows, paren_grows, isset_grows, empty_test_grows, eval_test_grows, exit_grows}
 use Rattle.php_shapes.proofs.ReadPrefixes.{casts_grow, include__grows, prefixes_grow, print__grows}
 use Rattle.php_shapes.proofs.ReadInfix.{binaries_grow, not_list, or_list}
@@ -48,6 +48,7 @@ use Rattle.php_shapes.proofs.ReadVariables.{args_grow, items_grow, simple_variab
 use Rattle.php_shapes.proofs.ReadClosures.{arrays_grow, arrows_grow, closures_grow}
 use Rattle.php_shapes.proofs.ReadYields.{yields_grow}
 use Rattle.php_shapes.proofs.ReadQuoted.{quoted_grows}
+use Rattle.php_shapes.proofs.ReadEmbedded.{embedded_closes, embedded_read, variable_offset}
 use Rattle.php_shapes.proofs.ReadLists.{list_entries, list_targets, lists_grow}
 use Rattle.php_shapes.proofs.ReadPlaces.{entry_targets_read, keys_read, places_read, targets_read}
 use Rattle.php_shapes.proofs.ReadSorts.{member_grows, statement_grows}
@@ -548,6 +549,14 @@ module _ (v : Version) (made : Created v) where
         | inr w ↦ key_read n below grown j c rest le q.0 (level_of 24 (j, c) q.1) x w.0 w.2
       ]
 
+  embedded_grows : (n : ℕ) → Below v n → Grown v n → (j : NodeKind) (c : Forest) (rest : List Token) → count c ≤ n
+      → may_stand v Embedded (j, c) ≡ true → IsNode v j c → closes_embedded (first_of rest) ≡ true
+      → Grows (php v) (s.Operand 24) j c rest
+  embedded_grows n below grown j c rest le st x h =
+      let base : is_offset_base j ≡ true = variable_offset (role_of j) ((both (is_variable_expression j) (begins_with_variable (node j c none)) st).0) in
+      any_grows n below grown j c rest le (base_expression j base) (inl (low_level 24 (level v (j, c)) (base_level v j c base))) x
+      (inl (embedded_closes (first_of rest) h))
+
   at_places : (n : ℕ) → Below v n → Grown v n → (p : Place) (sort : Sort) (j : NodeKind) (c : Forest)
       (rest : List Token) → suits p sort ≡ true → count c ≤ n → may_stand v p (j, c) ≡ true → IsNode v j c
       → Stopped v sort (j, c) rest → Spells (php v) sort (j, c) rest
@@ -569,6 +578,7 @@ module _ (v : Version) (made : Created v) where
       ]
   at_places n below grown TargetOrList s.Target j c rest su le st x h = target_read n below grown j c rest le st x h
   at_places n below grown ClassName s.ClassRef j c rest su le st x h = made.refs n below j c rest le st x h
+  at_places n below grown Embedded s.Embedded j c rest su le st x h = embedded_read v j c rest (embedded_grows n below grown j c rest le st x h) st x h
   at_places n below grown p sort j c rest su le st x h = absurd (false_true su)
 
   at_kinds : (n : ℕ) → Below v n → (j : NodeKind) (sort : Sort) (c : Forest) (rest : List Token)

@@ -17,7 +17,7 @@ use Rattle.php_grammar.specs.Bases.{is_callee, is_class_base, is_list, is_member
 use Rattle.php_grammar.specs.Levels.{binary_level, left_limit}
 use Rattle.php_grammar.specs.Tables.{php}
 use Rattle.php_shapes.specs.Nearest.{ends_in_if, ends_in_yield, goes_on_if, is_open_if, is_open_yield, is_to}
-use Rattle.php_shapes.specs.Places.{Place, Statement, Member, Operand, Target, TargetOrList, ClassName, is_expression, may_stand}
+use Rattle.php_shapes.specs.Places.{Place, Statement, Member, Operand, Target, TargetOrList, ClassName, Embedded, is_expression, may_stand}
 use Rattle.php_shapes.specs.Shapes.{IsNode}
 use Rattle.php_shapes.proofs.ReadFirst.{begins_statement}
 
@@ -84,6 +84,11 @@ abbrev pub closes_args : Terminal → Bool
 closes_args t.CloseParen = true
 closes_args _ = false
 
+-- what may follow a variable expression in a quoted text
+abbrev pub closes_embedded : Terminal → Bool
+closes_embedded t.CloseBrace = true
+closes_embedded _ = false
+
 -- whether a node of a sort ends before a token of a class, whatever the node is
 abbrev pub stops : Sort → Terminal → Bool
 stops (s.Operand m) c = closes_expression c
@@ -98,6 +103,7 @@ stops s.Block c = true
 stops s.Member c = true
 stops s.SimpleVariable c = true
 stops s.PlainVariable c = true
+stops s.Embedded c = closes_embedded c
 stops _ c = false
 
 -- the level of an operator between an expression and what follows, or 0
@@ -174,6 +180,7 @@ stopped v s.Block x rest h = h
 stopped v s.Member x rest h = h
 stopped v s.SimpleVariable x rest h = h
 stopped v s.PlainVariable x rest h = h
+stopped v s.Embedded x rest h = h
 stopped v s.ListItem x rest h = absurd cc
 stopped v s.Entry x rest h = absurd cc
 stopped v s.Place x rest h = absurd cc
@@ -192,6 +199,7 @@ suits TargetOrList s.Target = true
 suits TargetOrList s.Entry = true
 suits (Operand n) s.Entry = nat_eq n 24
 suits ClassName s.ClassRef = true
+suits Embedded s.Embedded = true
 suits _ _ = false
 
 -- the sort that reads nodes of a kind

@@ -10,7 +10,7 @@ use Rattle.php_terminals.specs.declared.terminal.Terminal.{Terminal}
 use Rattle.php_terminals.specs.declared.terminal.Terminal.TheVariants as t
 use Rattle.php_terminals.specs.Classify.{terminal}
 use Rattle.php_terminals.specs.Marks.{begins_place, is_open_brace, is_variable_start}
-use Rattle.php_grammar.specs.Bases.{is_callee, is_class_base, is_list, is_member_base, is_offset_base, is_short_ternary, is_target}
+use Rattle.php_grammar.specs.Bases.{is_callee, is_class_base, is_list, is_member_base, is_offset_base, is_short_ternary, is_target, is_variable_expression}
 use Rattle.php_exprs.proofs.Forests.{leaves_append}
 use Rattle.php_shapes.specs.Forms.{form}
 use Rattle.php_shapes.specs.Notation.{Rule, nothing, word, kind, place, inside, ◌~◌, ◌|||◌, many, tokens}
@@ -28,6 +28,7 @@ use Rattle.php_shapes.specs.Places.{
   Target,
   TargetOrList,
   ClassName,
+  Embedded,
   is_expression,
   is_member,
   is_statement,
@@ -208,6 +209,7 @@ begins_at Callee c = begins_place c
 begins_at Target c = begins_place c
 begins_at TargetOrList c = begins_expression c
 begins_at ClassName c = begins_expression c
+begins_at Embedded c = begins_place c
 
 -- whether a rule may have no token
 abbrev pub nullable : Rule → Bool
@@ -315,6 +317,11 @@ unfolding for_all
 at_class_name k.Block = refl
 at_class_name other = refl
 
+pub at_variable_expression : (j : NodeKind) → sound_at is_variable_expression begins_place j ≡ true
+unfolding for_all
+at_variable_expression k.Block = refl
+at_variable_expression other = refl
+
 pub when_true : (a b : Bool) → a ≡ true → whenever a b ≡ true → b ≡ true
 when_true true b h k = k
 when_true false b h k = absurd cc
@@ -351,6 +358,7 @@ at_place v TargetOrList j c h d b = elim (or_is (is_target j) (is_list j) h) [
       ↦ stand is_list begins_expression j (at_list j) e d b
 ]
 at_place v ClassName j c h d b = stand is_class_name begins_expression j (at_class_name j) ((both (is_class_name j) _ h).0) d b
+at_place v Embedded j c h d b = stand is_variable_expression begins_place j (at_variable_expression j) ((both (is_variable_expression j) _ h).0) d b
 
 -- ---- trees
 
@@ -403,6 +411,7 @@ no_args v Callee c = refl
 no_args v Target c = refl
 no_args v TargetOrList c = refl
 no_args v ClassName c = refl
+no_args v Embedded c = refl
 
 empty_is : (j : NodeKind) → may_be_empty j ≡ true → j ≡ k.Args
 empty_is k.Args h = refl

@@ -30,7 +30,7 @@ use Rattle.php_grammar.specs.Bases.{is_short_ternary}
 use Rattle.php_grammar.specs.Edges.{edge}
 use Rattle.php_shapes.specs.Atoms.{list_item}
 use Rattle.php_shapes.specs.Notation.{commas}
-use Rattle.php_shapes.specs.Places.{ClassName, Member, Statement}
+use Rattle.php_shapes.specs.Places.{ClassName, Embedded, Member, Statement}
 use Rattle.php_shapes.proofs.ReadAssigns.{or_right, short_is_expression}
 use Rattle.php_shapes.proofs.ReadClasses.{or_is}
 use Rattle.php_shapes.proofs.ReadInfix.{or_list}
@@ -264,6 +264,7 @@ left_places Statement = false
 left_places Member = false
 left_places (Operand n) = false
 left_places ClassName = false
+left_places Embedded = false
 left_places _ = true
 
 expression_led : (v : Version) (j : NodeKind) → is_any_expression j ≡ true → is_bracketed j ≡ false → led v left_places before_key (shape_of v j) ≡ true
@@ -350,6 +351,7 @@ expression_left v Statement i b l h = absurd (false_true l)
 expression_left v Member i b l h = absurd (false_true l)
 expression_left v (Operand n) i b l h = absurd (false_true l)
 expression_left v ClassName i b l h = absurd (false_true l)
+expression_left v Embedded i b l h = absurd (false_true l)
 expression_left v (Left n) i b l h = or_list (is_expression i) (is_list i) ((both (is_expression i) (nat_le (edge v (i, b)) n) h).0)
 expression_left v LeftShort i b l h = or_list (is_expression i) (is_list i) (short_is_expression i ((both (is_short_ternary i) (nat_le (edge v (i, b)) 18) h).0))
 expression_left v OffsetBase i b l h = or_list (is_expression i) (is_list i) (base_expression i h)
@@ -417,6 +419,7 @@ base_left v LeftShort i b l h = absurd (false_true l)
 base_left v Target i b l h = absurd (false_true l)
 base_left v TargetOrList i b l h = absurd (false_true l)
 base_left v ClassName i b l h = absurd (false_true l)
+base_left v Embedded i b l h = absurd (false_true l)
 
 pub bases_lead : (v : Version) → Leading v is_offset_base goes_on
 bases_lead v = record { L = base_places; lefts = base_left v; led_ = base_led v }

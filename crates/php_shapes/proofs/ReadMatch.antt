@@ -544,6 +544,7 @@ module _ (v : Version) (n : ℕ) (below : Below v n) (go : Check) (holds : Holds
   last_stops s.PlainVariable j c rest e h = absurd (false_true e)
   last_stops s.ClassRef j c rest e h = absurd (false_true e)
   last_stops s.Interpolated j c rest e h = absurd (false_true e)
+  last_stops s.Embedded j c rest e h = absurd (false_true e)
 
   stops_last : (fin : Bool) (rs : List Rule) (sort : Sort) (g h : Forest) (rest : List Token)
       → (fin && is_last rs && is_statement_sort sort) ≡ true → FitsAll v rs h → (fin ≡ true → Last (g +++ h) rest)

@@ -195,7 +195,7 @@ refused_no true fo e y = none_is fo e
 refused_no false fo e y = kind_no (k.Empty, Word t.Never ∷ []) fo is_offset_base (some_form (k.Empty, Word t.Never ∷ []) fo e) refl y
 
 -- a postfix stands behind a base alone
-postfix_base : (v : Version) (i : NodeKind) (c : Terminal) (ts : List Token) (g : Form) → postfix_by v i c ts ≡ Some g → is_offset_base i ≡ true
+pub postfix_base : (v : Version) (i : NodeKind) (c : Terminal) (ts : List Token) (g : Form) → postfix_by v i c ts ≡ Some g → is_offset_base i ≡ true
 postfix_base v i t.OpenBracket ts g e = (when_is (is_offset_base i) _ g e).0
 postfix_base V74 i t.OpenBrace ts g e = (when_is (is_offset_base i) _ g e).0
 postfix_base V83 i t.OpenBrace ts g e = absurd (none_is g e)
@@ -205,7 +205,7 @@ postfix_base v i t.OpenParen ts g e = callee_offset (role_of i) ((when_is (is_ca
 postfix_base v i c ts g e = absurd (none_is g e)
 
 -- a form of a base comes from a postfix
-postfix_of : (v : Version) (m : ℕ) (x : Tree) (ts : List Token) (g : Form) (w : Bool) → is_misindented x ≡ w
+pub postfix_of : (v : Version) (m : ℕ) (x : Tree) (ts : List Token) (g : Form) (w : Bool) → is_misindented x ≡ w
     → cond w refused (or_else (operand_tail v m x ts) (refused_unless (not (is_list x.0)))) ≡ Some g
     → is_offset_base g.0 ≡ true → (postfix_tail v x.0 ts ≡ Some g) × (is_misindented x ≡ false)
 postfix_of v m x ts g true mi e y = absurd (kind_no (k.Empty, Word t.Never ∷ []) g is_offset_base (some_form (k.Empty, Word t.Never ∷ []) g e) refl y)

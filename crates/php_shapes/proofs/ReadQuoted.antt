@@ -18,7 +18,8 @@ use Rattle.php_forms.specs.Grammar.{Walks, Grows, ends, child, stop, turn, head,
 use Rattle.php_grammar.specs.Accepts.{accepts, same_class}
 use Rattle.php_grammar.specs.Operands.{operand_form}
 use Rattle.php_grammar.specs.Tables.{php, parts}
-use Rattle.php_shapes.specs.Notation.{Rule, word, ◌~◌, many, maybe, expr}
+use Rattle.php_shapes.specs.Notation.{Rule, word, place, ◌~◌, many, maybe, expr}
+use Rattle.php_shapes.specs.Places.{Embedded}
 use Rattle.php_shapes.specs.Shapes.{Fits, is_both, is_first, is_second}
 use Rattle.php_shapes.proofs.ReadClasses.{for_all}
 use Rattle.php_shapes.proofs.ReadFirst.{Begins, rule_begins, starts}
@@ -59,7 +60,7 @@ named_rule = word t.DollarBrace ~ word t.VarName ~ maybe (brackets expr) ~ word 
 
 quoted_firsts : (v : Version) → (only_class v (word t.Variable) t.Variable ≡ true)
     × (only_class v (word t.Piece) t.Piece ≡ true)
-    × (only_class v (word t.CurlyOpen ~ expr ~ word t.CloseBrace) t.CurlyOpen ≡ true)
+    × (only_class v (word t.CurlyOpen ~ place Embedded ~ word t.CloseBrace) t.CurlyOpen ≡ true)
     × (only_class v (word t.DollarBrace ~ word t.VarName ~ maybe (brackets expr) ~ word t.CloseBrace) t.DollarBrace ≡
     true) × (only_class v (word t.DollarBrace ~ expr ~ word t.CloseBrace) t.DollarBrace ≡ true)
     × (only_class v (word t.VarName ~ maybe (brackets expr) ~ word t.CloseBrace) t.VarName ≡ true)
@@ -68,8 +69,8 @@ unfolding for_all
 quoted_firsts V74 = (refl, refl, refl, refl, refl, refl, refl)
 quoted_firsts V83 = (refl, refl, refl, refl, refl, refl, refl)
 
-quoted_tests : (v : Version) → (matches v 60 false ((word t.CurlyOpen ~ expr ~ word t.CloseBrace) ∷ [])
-    (Word t.CurlyOpen ∷ any ∷ Word t.CloseBrace ∷ []) anything ≡ true)
+quoted_tests : (v : Version) → (matches v 60 false ((word t.CurlyOpen ~ place Embedded ~ word t.CloseBrace) ∷ [])
+    (Word t.CurlyOpen ∷ Node s.Embedded ∷ Word t.CloseBrace ∷ []) anything ≡ true)
     × (matches v 60 false ((word t.DollarBrace ~ word t.VarName ~ maybe (brackets expr) ~ word t.CloseBrace) ∷ [])
     (Word t.DollarBrace ∷ Word t.VarName ∷ Part g.NamedKey ∷ Word t.CloseBrace ∷ []) anything ≡ true)
     × (matches v 60 false ((word t.DollarBrace ~ expr ~ word t.CloseBrace) ∷ [])
@@ -202,7 +203,7 @@ by_piece v ts e = rw e refl
 by_variable : (v : Version) (ts : List Token) → first_of ts ≡ t.Variable → parts v g.QuotedParts ts ≡ Node s.Interpolated ∷ []
 by_variable v ts e = rw e refl
 
-by_curly : (v : Version) (ts : List Token) → first_of ts ≡ t.CurlyOpen → parts v g.QuotedParts ts ≡ Word t.CurlyOpen ∷ any ∷ Word t.CloseBrace ∷ []
+by_curly : (v : Version) (ts : List Token) → first_of ts ≡ t.CurlyOpen → parts v g.QuotedParts ts ≡ Word t.CurlyOpen ∷ Node s.Embedded ∷ Word t.CloseBrace ∷ []
 by_curly v ts e = rw e refl
 
 by_named : (v : Version) (ts : List Token) → first_of ts ≡ t.DollarBrace → second_of ts ≡ t.VarName
@@ -238,14 +239,14 @@ part_read v n below f us (is_second (is_first x)) le h = record {
 part_read v n below f us (is_second (is_second (is_first x))) le h =
     record {
       i = Word t.CurlyOpen;
-      js = any ∷ Word t.CloseBrace
+      js = Node s.Embedded ∷ Word t.CloseBrace
           ∷ [];
       chosen = by_curly v (leaves f ++ us)
-          (first_is v (word t.CurlyOpen ~ expr ~ word t.CloseBrace) t.CurlyOpen f us ((quoted_firsts v).2) refl x);
+          (first_is v (word t.CurlyOpen ~ place Embedded ~ word t.CloseBrace) t.CurlyOpen f us ((quoted_firsts v).2) refl x);
       walk =
-          matched v n below 60 false ((word t.CurlyOpen ~ expr ~ word t.CloseBrace) ∷ [])
-          (Word t.CurlyOpen ∷ any ∷ Word t.CloseBrace ∷ []) anything f us ((quoted_tests v).0)
-          (fits_alone v (word t.CurlyOpen ~ expr ~ word t.CloseBrace) f x) le refl (λ z. absurd (false_true z));
+          matched v n below 60 false ((word t.CurlyOpen ~ place Embedded ~ word t.CloseBrace) ∷ [])
+          (Word t.CurlyOpen ∷ Node s.Embedded ∷ Word t.CloseBrace ∷ []) anything f us ((quoted_tests v).0)
+          (fits_alone v (word t.CurlyOpen ~ place Embedded ~ word t.CloseBrace) f x) le refl (λ z. absurd (false_true z));
     }
 part_read v n below f us (is_second (is_second (is_second (is_first x)))) le h =
     record {

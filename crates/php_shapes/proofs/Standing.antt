@@ -21,7 +21,7 @@ use Rattle.php_shapes.specs.Quoted as qu
 use Rattle.php_shapes.specs.Forms.{form}
 use Rattle.php_shapes.specs.Nearest.{goes_on_if, is_nearest, is_open_if, is_open_yield, is_to}
 use Rattle.php_shapes.specs.Notation.{Rule, word, place, ◌~◌, ◌|||◌, expr}
-use Rattle.php_shapes.specs.Places.{TargetOrList, begins_with_class_name, is_class_name, is_expression, is_member, is_prefix, is_statement}
+use Rattle.php_shapes.specs.Places.{TargetOrList, begins_with_class_name, begins_with_variable, is_class_name, is_expression, is_member, is_prefix, is_statement}
 use Rattle.php_shapes.specs.Shapes.{Fits}
 use Rattle.php_shapes.proofs.Entries.{Meet, entries}
 use Rattle.php_shapes.proofs.Sequences.{Gives}
@@ -71,6 +71,7 @@ Stands v s.Place j c = Fits v (form v j) c
 Stands v s.SimpleVariable j c = Made v j c × (j ≡ k.Variable)
 Stands v s.PlainVariable j c = Fits v (word t.Variable) c × (j ≡ k.Variable)
 Stands v s.ClassRef j c = Made v j c × (is_class_name j && begins_with_class_name c ≡ true)
+Stands v s.Embedded j c = Made v j c × (begins_with_variable (node j c none) ≡ true)
 Stands v s.Interpolated j c = (is_nearest c ≡ true → Fits v qu.interpolated (node j c none)) × (is_variable j ≡ true → (j ≡ k.Variable) × Fits v (word t.Variable) c)
 
 -- A form with which a node of a sort begins.

@@ -24,7 +24,7 @@ use Rattle.php_shapes.specs.Namespaces as ns
 use Rattle.php_shapes.specs.Quoted as qu
 use Rattle.php_shapes.specs.Statements as st
 use Rattle.php_shapes.specs.Notation.{Rule, word, kind, place, ◌~◌, ◌|||◌, many, maybe, expr, brackets}
-use Rattle.php_shapes.specs.Places.{Member}
+use Rattle.php_shapes.specs.Places.{Embedded, Member}
 use Rattle.php_shapes.specs.Shapes.{Fits, is_nothing, is_word, is_both, is_first, is_second, no_more, once_more}
 use Rattle.php_shapes.proofs.Entries.{Entry, Meet, else_if_rule, entries, flat, more_last}
 use Rattle.php_shapes.proofs.Sequences.{Gives, none_behind, one, other, second, whole}
@@ -262,46 +262,46 @@ quoted_parts_name_turn : (v : Version) (x : Terminal) → Turn v (entries v (fq.
 quoted_parts_name_turn v t.VarName =
     surely v (flat (word t.DollarBrace ~ word t.VarName ~ maybe (brackets expr) ~ word t.CloseBrace) [])
     qu.quoted_part (other v (flat (word t.DollarBrace ~ word t.VarName ~ maybe (brackets expr) ~ word t.CloseBrace)
-    []) (word t.Piece) (qu.interpolated ||| word t.CurlyOpen ~ expr ~ word t.CloseBrace ||| word t.DollarBrace ~ word
+    []) (word t.Piece) (qu.interpolated ||| word t.CurlyOpen ~ place Embedded ~ word t.CloseBrace ||| word t.DollarBrace ~ word
     t.VarName ~ maybe (brackets expr) ~ word t.CloseBrace ||| word t.DollarBrace ~ expr ~ word t.CloseBrace)
     (other v (flat (word t.DollarBrace ~ word t.VarName ~ maybe (brackets expr) ~ word t.CloseBrace) [])
-    (qu.interpolated) (word t.CurlyOpen ~ expr ~ word t.CloseBrace ||| word t.DollarBrace ~ word t.VarName ~ maybe
+    (qu.interpolated) (word t.CurlyOpen ~ place Embedded ~ word t.CloseBrace ||| word t.DollarBrace ~ word t.VarName ~ maybe
     (brackets expr) ~ word t.CloseBrace ||| word t.DollarBrace ~ expr ~ word t.CloseBrace)
     (other v (flat (word t.DollarBrace ~ word t.VarName ~ maybe (brackets expr) ~ word t.CloseBrace) [])
-    (word t.CurlyOpen ~ expr ~ word t.CloseBrace)
+    (word t.CurlyOpen ~ place Embedded ~ word t.CloseBrace)
     (word t.DollarBrace ~ word t.VarName ~ maybe (brackets expr) ~ word t.CloseBrace ||| word t.DollarBrace ~ expr ~
     word t.CloseBrace) (one v (word t.DollarBrace ~ word t.VarName ~ maybe (brackets expr) ~ word t.CloseBrace)
     (word t.DollarBrace ~ expr ~ word t.CloseBrace)))))
 quoted_parts_name_turn v _ = surely v (flat (word t.DollarBrace ~ expr ~ word t.CloseBrace) []) qu.quoted_part
     (other v (flat (word t.DollarBrace ~ expr ~ word t.CloseBrace) []) (word t.Piece)
-    (qu.interpolated ||| word t.CurlyOpen ~ expr ~ word t.CloseBrace ||| word t.DollarBrace ~ word t.VarName ~ maybe
+    (qu.interpolated ||| word t.CurlyOpen ~ place Embedded ~ word t.CloseBrace ||| word t.DollarBrace ~ word t.VarName ~ maybe
     (brackets expr) ~ word t.CloseBrace ||| word t.DollarBrace ~ expr ~ word t.CloseBrace)
     (other v (flat (word t.DollarBrace ~ expr ~ word t.CloseBrace) []) (qu.interpolated)
-    (word t.CurlyOpen ~ expr ~ word t.CloseBrace ||| word t.DollarBrace ~ word t.VarName ~ maybe (brackets expr) ~
+    (word t.CurlyOpen ~ place Embedded ~ word t.CloseBrace ||| word t.DollarBrace ~ word t.VarName ~ maybe (brackets expr) ~
     word t.CloseBrace ||| word t.DollarBrace ~ expr ~ word t.CloseBrace)
-    (other v (flat (word t.DollarBrace ~ expr ~ word t.CloseBrace) []) (word t.CurlyOpen ~ expr ~ word t.CloseBrace)
+    (other v (flat (word t.DollarBrace ~ expr ~ word t.CloseBrace) []) (word t.CurlyOpen ~ place Embedded ~ word t.CloseBrace)
     (word t.DollarBrace ~ word t.VarName ~ maybe (brackets expr) ~ word t.CloseBrace ||| word t.DollarBrace ~ expr ~
     word t.CloseBrace) (second v (word t.DollarBrace ~ word t.VarName ~ maybe (brackets expr) ~ word t.CloseBrace)
     (word t.DollarBrace ~ expr ~ word t.CloseBrace)))))
 
 pub quoted_parts_turn : (v : Version) (x following : Terminal) → Turn v (entries v (fq.quoted_parts x following)) qu.quoted_part
 quoted_parts_turn v t.Piece following = surely v (flat (word t.Piece) []) qu.quoted_part
-    (one v (word t.Piece) (qu.interpolated ||| word t.CurlyOpen ~ expr ~ word t.CloseBrace ||| word t.DollarBrace ~
+    (one v (word t.Piece) (qu.interpolated ||| word t.CurlyOpen ~ place Embedded ~ word t.CloseBrace ||| word t.DollarBrace ~
     word t.VarName ~ maybe (brackets expr) ~ word t.CloseBrace ||| word t.DollarBrace ~ expr ~ word t.CloseBrace))
 quoted_parts_turn v t.Variable following = surely v (flat (qu.interpolated) []) qu.quoted_part
     (other v (flat (qu.interpolated) []) (word t.Piece)
-    (qu.interpolated ||| word t.CurlyOpen ~ expr ~ word t.CloseBrace ||| word t.DollarBrace ~ word t.VarName ~ maybe
+    (qu.interpolated ||| word t.CurlyOpen ~ place Embedded ~ word t.CloseBrace ||| word t.DollarBrace ~ word t.VarName ~ maybe
     (brackets expr) ~ word t.CloseBrace ||| word t.DollarBrace ~ expr ~ word t.CloseBrace)
-    (one v (qu.interpolated) (word t.CurlyOpen ~ expr ~ word t.CloseBrace ||| word t.DollarBrace ~ word t.VarName ~
+    (one v (qu.interpolated) (word t.CurlyOpen ~ place Embedded ~ word t.CloseBrace ||| word t.DollarBrace ~ word t.VarName ~
     maybe (brackets expr) ~ word t.CloseBrace ||| word t.DollarBrace ~ expr ~ word t.CloseBrace)))
-quoted_parts_turn v t.CurlyOpen following = surely v (flat (word t.CurlyOpen ~ expr ~ word t.CloseBrace) [])
-    qu.quoted_part (other v (flat (word t.CurlyOpen ~ expr ~ word t.CloseBrace) []) (word t.Piece)
-    (qu.interpolated ||| word t.CurlyOpen ~ expr ~ word t.CloseBrace ||| word t.DollarBrace ~ word t.VarName ~ maybe
+quoted_parts_turn v t.CurlyOpen following = surely v (flat (word t.CurlyOpen ~ place Embedded ~ word t.CloseBrace) [])
+    qu.quoted_part (other v (flat (word t.CurlyOpen ~ place Embedded ~ word t.CloseBrace) []) (word t.Piece)
+    (qu.interpolated ||| word t.CurlyOpen ~ place Embedded ~ word t.CloseBrace ||| word t.DollarBrace ~ word t.VarName ~ maybe
     (brackets expr) ~ word t.CloseBrace ||| word t.DollarBrace ~ expr ~ word t.CloseBrace)
-    (other v (flat (word t.CurlyOpen ~ expr ~ word t.CloseBrace) []) (qu.interpolated)
-    (word t.CurlyOpen ~ expr ~ word t.CloseBrace ||| word t.DollarBrace ~ word t.VarName ~ maybe (brackets expr) ~
+    (other v (flat (word t.CurlyOpen ~ place Embedded ~ word t.CloseBrace) []) (qu.interpolated)
+    (word t.CurlyOpen ~ place Embedded ~ word t.CloseBrace ||| word t.DollarBrace ~ word t.VarName ~ maybe (brackets expr) ~
     word t.CloseBrace ||| word t.DollarBrace ~ expr ~ word t.CloseBrace)
-    (one v (word t.CurlyOpen ~ expr ~ word t.CloseBrace)
+    (one v (word t.CurlyOpen ~ place Embedded ~ word t.CloseBrace)
     (word t.DollarBrace ~ word t.VarName ~ maybe (brackets expr) ~ word t.CloseBrace ||| word t.DollarBrace ~ expr ~
     word t.CloseBrace))))
 quoted_parts_turn v t.DollarBrace following = quoted_parts_name_turn v following

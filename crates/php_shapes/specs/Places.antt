@@ -4,7 +4,7 @@ use Rattle.php_tree.specs.declared.kind.NodeKind.{NodeKind}
 use Rattle.php_tree.specs.declared.kind.NodeKind.TheVariants as k
 use Rattle.php_tree.specs.declared.version.Version.{Version}
 use Rattle.php_tree.specs.Tree.{Forest, Tree, none, leaf, node}
-use Rattle.php_grammar.specs.Bases.{is_callee, is_class_base, is_list, is_member_base, is_offset_base, is_short_ternary, is_target}
+use Rattle.php_grammar.specs.Bases.{is_callee, is_class_base, is_list, is_member_base, is_offset_base, is_short_ternary, is_target, is_variable, is_variable_expression}
 use Rattle.php_grammar.specs.Edges.{edge}
 use Rattle.php_grammar.specs.Levels.{level}
 
@@ -35,6 +35,8 @@ pub data Place : Type 0 where
   TargetOrList : Place
   -- an expression that names a class, with no call in it outside of brackets and braces
   ClassName : Place
+  -- a variable expression in braces in a quoted text
+  Embedded : Place
 
 -- whether a kind is a statement's
 abbrev pub is_statement : NodeKind → Bool
@@ -147,6 +149,24 @@ begins_with_class_name none = true
 begins_with_class_name (leaf x f) = true
 begins_with_class_name (node j b f) = is_class_name j && begins_with_class_name b
 
+-- whether a kind is that of an offset, a member or a call
+abbrev pub is_postfixed : NodeKind → Bool
+is_postfixed k.Offset = true
+is_postfixed k.BraceOffset = true
+is_postfixed k.Prop = true
+is_postfixed k.StaticProp = true
+is_postfixed k.ClassConstant = true
+is_postfixed k.Call = true
+is_postfixed k.MethodCall = true
+is_postfixed k.StaticCall = true
+is_postfixed _ = false
+
+-- whether parts begin with a variable, or with an offset, a member or a call that does
+abbrev pub begins_with_variable : Forest → Bool
+begins_with_variable none = false
+begins_with_variable (leaf x f) = false
+begins_with_variable (node j b f) = is_variable j || is_postfixed j && begins_with_variable b
+
 -- whether a node may stand at a place
 abbrev pub may_stand : Version → Place → Tree → Bool
 may_stand v Statement x = is_statement x.0
@@ -161,3 +181,4 @@ may_stand v Callee x = is_callee x.0
 may_stand v Target x = is_target x.0
 may_stand v TargetOrList x = is_target x.0 || is_list x.0
 may_stand v ClassName x = is_class_name x.0 && begins_with_class_name x.1
+may_stand v Embedded x = is_variable_expression x.0 && begins_with_variable (node x.0 x.1 none)

@@ -1,7 +1,8 @@
 -- Quoted texts: double quotes, heredocs and backticks (PHP manual, "Strings: Variable interpolation").
 use Rattle.php_tree.specs.declared.kind.NodeKind.TheVariants as k
 use Rattle.php_terminals.specs.declared.terminal.Terminal.TheVariants as t
-use Rattle.php_shapes.specs.Notation.{Rule, word, inside, ◌~◌, ◌|||◌, many, maybe, expr, brackets}
+use Rattle.php_shapes.specs.Notation.{Rule, word, place, inside, ◌~◌, ◌|||◌, many, maybe, expr, brackets}
+use Rattle.php_shapes.specs.Places.{Embedded}
 
 -- a variable by its token alone
 abbrev pub plain_variable : Rule
@@ -23,7 +24,7 @@ abbrev pub quoted_part : Rule
 quoted_part =
     word t.Piece
     ||| interpolated
-    ||| word t.CurlyOpen ~ expr ~ word t.CloseBrace
+    ||| word t.CurlyOpen ~ place Embedded ~ word t.CloseBrace
     ||| word t.DollarBrace ~ word t.VarName ~ maybe (brackets expr) ~ word t.CloseBrace
     ||| word t.DollarBrace ~ expr ~ word t.CloseBrace
 

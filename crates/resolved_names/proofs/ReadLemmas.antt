@@ -1,23 +1,26 @@
 -- What is read of names.
-use Rattle.std.specs.Prelude.{map, option_map, Vec}
-use Rattle.std.specs.declared.alloc.Global.{Global}
-use Rattle.std.proofs.Common.{◌≡◌, ℕ, if◌then◌else◌, List, [], ◌∷◌, Option, Some, None, slice_get, refl, sym, ap, ◌∙◌}
+use Rattle.std.specs.Prelude.{map, option_map, take, drop}
+use Rattle.std.proofs.Common.{◌≡◌, ◌≤◌, ◌<◌, ℕ, zero, suc, ◌+◌, ◌-◌, if◌then◌else◌, List, [], ◌∷◌, ◌++◌, Option, Some, None, slice_get, refl, sym, ap, subst, ◌∙◌, append-nil, length, arith}
+use Rattle.std.proofs.lemmas.List.{take-map, drop-map}
 use Rattle.std.proofs.lemmas.Option.{slice_get-map}
-use Rattle.php_rows.specs.File.{file_in}
+use Rattle.php_tree.specs.declared.kind.NodeKind.{NodeKind}
+use Rattle.node_names.specs.declared.name.Name.{Name}
 use Rattle.node_names.specs.Compared.{Use}
-use Rattle.node_names.specs.Facts.{Fact, file_facts}
+use Rattle.node_names.specs.Facts.{Fact}
+use Rattle.node_facts.specs.declared.ends.Ends.{Ends}
+use Rattle.node_facts.specs.declared.node_fact.NodeFact.{NodeFact}
+use Rattle.node_facts.specs.Flat.{Flat, between, node_in, nodes_in, start}
+use Rattle.node_facts.specs.Named.{Named, named_of}
 use Rattle.file_declarations.specs.declared.declaration.Declaration.{Declaration}
 use Rattle.file_declarations.specs.declared.node_ref.NodeRef.{NodeRef}
-use Rattle.node_facts.specs.declared.node_fact.NodeFact.{NodeFact}
-use Rattle.node_facts.specs.Named.{Named, named_of}
-use Rattle.node_facts.specs.Seen.{named_in, uses_in}
-use Rattle.program_names.specs.Classes.{class_number, first_number, is_class_like}
+use Rattle.program_names.specs.Classes.{class_number, first_number, is_class_like, number_of}
 use Rattle.program_names.specs.Files.{Files}
-use Rattle.program_names.specs.Table.{Table, table_of, all_declared, declarations, declared_by}
-use Rattle.resolved_names.specs.declared.node_uses.NodeUses.{NodeUses}
+use Rattle.program_names.specs.Table.{Table, table_of, fact_at, all_declared, declarations, declared_by}
+use Rattle.resolved_names.specs.declared.file_names.FileNames.{FileNames}
 use Rattle.resolved_names.specs.Index.{Entries, found_in}
-use Rattle.resolved_names.specs.NodeReads.{class_by, declared_each, facts_classes, facts_read, uses_read}
-use Rattle.resolved_names.specs.Reads.{class_in, pick, pick_one, read_in}
+use Rattle.resolved_names.specs.NodeReads.{AreFiles, class_of, declared_each, first_class, numbers_of}
+use Rattle.resolved_names.specs.Ranges.{ranged}
+use Rattle.resolved_names.specs.Reads.{Place, class_in, classes_at, pick, pick_one, place_at, place_in, read_in, uses_at}
 
 -- ---- lists of what may be there
 
@@ -25,43 +28,87 @@ pick_map : {A B C : Type 0} (f : B → List C) (g : A → B) (o : Option A) → 
 pick_map f g None = refl
 pick_map f g (Some x) = refl
 
-pick_same : {A B : Type 0} (f g : A → List B) (o : Option A) → ((x : A) → f x ≡ g x) → pick f o ≡ pick g o
-pick_same f g None h = refl
-pick_same f g (Some x) h = h x
-
 pick_got : {A B C : Type 0} (f : B → List C) (g : A → B) (xs : List A) (i : ℕ) → pick f (slice_get (map g xs) i) ≡ pick (λ x. f (g x)) (slice_get xs i)
 pick_got f g xs i = ap (λ o. pick f o) (slice_get-map g xs i) ∙ pick_map f g (slice_get xs i)
 
-itself : List NodeRef → List NodeRef
-itself ns = ns
+between_map : {A B : Type 0} (f : A → B) (from to : ℕ) (xs : List A) → between from to (map f xs) ≡ map f (between from to xs)
+between_map f from to xs = ap (λ ys. take (to - from) ys) (drop-map f from xs) ∙ take-map f (to - from) (drop from xs)
 
--- a list of lists of lists, at a node and a number
-abbrev pub grid_at : List (List (List (List NodeRef))) → NodeRef → ℕ → List NodeRef
-grid_at g at n = pick (λ row. pick (λ us. pick (λ (ns : List NodeRef). ns) (slice_get us n)) (slice_get row at.node)) (slice_get g at.file)
+-- ---- nodes
 
-rows_read : (es : Entries) (rows : List (Vec NodeUses Global)) (at : NodeRef) (n : ℕ) →
-    grid_at (map (λ v. map (uses_read es) v.items) rows) at n ≡ read_in es rows at n
-rows_read es rows at n =
-    pick_got (λ row. pick (λ us. pick (λ (ns : List NodeRef). ns) (slice_get us n)) (slice_get row at.node)) (λ v. map (uses_read es) v.items) rows at.file
-    ∙ pick_same (λ v. pick (λ us. pick (λ (ns : List NodeRef). ns) (slice_get us n)) (slice_get (map (uses_read es) v.items) at.node))
-    (λ v. pick (λ x. pick (found_in es) (slice_get x.uses.items n)) (slice_get v.items at.node)) (slice_get rows at.file)
-    (λ v. pick_got (λ us. pick (λ (ns : List NodeRef). ns) (slice_get us n)) (uses_read es) v.items at.node
-    ∙ pick_same (λ x. pick (λ (ns : List NodeRef). ns) (slice_get (uses_read es x) n)) (λ x. pick (found_in es) (slice_get x.uses.items n)) (slice_get v.items at.node)
-    (λ x. pick_got (λ (ns : List NodeRef). ns) (found_in es) x.uses.items n))
+-- what was found of a node that tells this
+pub record IsNode (es : Entries) (ds : List Declaration) (others : List (List ℕ)) (p : Place) (x : Fact) : Type 0 where
+  pub uses : map (found_in es) (uses_at p) ≡ declared_each ds x.uses
+  pub kind : p.1.1.kind ≡ x.kind
+  pub classes : classes_at p ≡ numbers_of others x.declares
 
--- what nodes use, at a node and a number
-abbrev pub facts_at : List Declaration → Table → NodeRef → ℕ → List NodeRef
-facts_at ds t at n = pick (λ xs. pick (λ x. pick (λ u. declared_by u ds) (slice_get x.uses n)) (slice_get xs at.node)) (slice_get t at.file)
+abbrev pub IsNodeIf : Entries → List Declaration → List (List ℕ) → Option Place → Option Fact → Type 0
+IsNodeIf es ds others None None = Unit {0}
+IsNodeIf es ds others None (Some x) = ⊥
+IsNodeIf es ds others (Some p) None = ⊥
+IsNodeIf es ds others (Some p) (Some x) = IsNode es ds others p x
 
-table_read : (ds : List Declaration) (t : Table) (at : NodeRef) (n : ℕ) → grid_at (map (facts_read ds) t) at n ≡ facts_at ds t at n
-table_read ds t at n =
-    pick_got (λ row. pick (λ us. pick (λ (ns : List NodeRef). ns) (slice_get us n)) (slice_get row at.node)) (facts_read ds) t at.file
-    ∙ pick_same (λ xs. pick (λ us. pick (λ (ns : List NodeRef). ns) (slice_get us n)) (slice_get (facts_read ds xs) at.node))
-    (λ xs. pick (λ x. pick (λ u. declared_by u ds) (slice_get x.uses n)) (slice_get xs at.node)) (slice_get t at.file)
-    (λ xs. pick_got (λ us. pick (λ (ns : List NodeRef). ns) (slice_get us n)) (λ (x : Fact). declared_each ds x.uses) xs at.node
-    ∙ pick_same (λ x. pick (λ (ns : List NodeRef). ns) (slice_get (declared_each ds x.uses) n))
-    (λ (x : Fact). pick (λ u. declared_by u ds) (slice_get x.uses n)) (slice_get xs at.node)
-    (λ x. pick_got (λ (ns : List NodeRef). ns) (λ u. declared_by u ds) x.uses n))
+-- what a file's lists are, as those of what its nodes tell
+pub record AreLists (es : Entries) (ds : List Declaration) (others : List (List ℕ)) (v : FileNames) (flat : Flat) : Type 0 where
+  pub uses : map (found_in es) v.uses.items ≡ declared_each ds flat.uses
+  pub classes : v.classes.items ≡ numbers_of others flat.declares
+
+node_is : (es : Entries) (ds : List Declaration) (others : List (List ℕ)) (v : FileNames) (flat : Flat) (from : Ends) (n : NodeFact) (x : Fact) →
+    AreLists es ds others v flat → node_in flat n.kind from n.ends ≡ named_of x → IsNode es ds others (v, (from, n)) x
+node_is es ds others v flat from n x l h = record {
+  uses = sym (between_map (found_in es) from.uses n.ends.uses v.uses.items)
+      ∙ ap (λ (ys : List (List NodeRef)). between from.uses n.ends.uses ys) l.uses
+      ∙ between_map (λ u. declared_by u ds) from.uses n.ends.uses flat.uses
+      ∙ ap (λ (y : Named). declared_each ds y.uses) h;
+  kind = ap (λ (y : Named). y.kind) h;
+  classes = ap (λ (ys : List (Option ℕ)). between from.declares n.ends.declares ys) l.classes
+      ∙ between_map (λ (y : Name). number_of others y.text) from.declares n.ends.declares flat.declares
+      ∙ ap (λ (y : Named). numbers_of others y.declares) h;
+}
+
+abbrev first_or : Named → List Named → Named
+first_or d [] = d
+first_or d (x ∷ xs) = x
+
+abbrev behind : List Named → List Named
+behind [] = []
+behind (x ∷ xs) = xs
+
+abbrev is_there : List Named → Type 0
+is_there [] = ⊥
+is_there (x ∷ xs) = Unit {0}
+
+nodes_are : (es : Entries) (ds : List Declaration) (others : List (List ℕ)) (v : FileNames) (flat : Flat) (from : Ends) (ns : List NodeFact) (xs : List Fact) →
+    AreLists es ds others v flat → nodes_in flat from ns ≡ map named_of xs → (i : ℕ) →
+    IsNodeIf es ds others (option_map (λ r. (v, r)) (slice_get (ranged from ns) i)) (slice_get xs i)
+nodes_are es ds others v flat from [] [] l h i = tt
+nodes_are es ds others v flat from [] (x ∷ xs) l h i = absurd (subst is_there (sym h) tt)
+nodes_are es ds others v flat from (n ∷ ns) [] l h i = absurd (subst is_there h tt)
+nodes_are es ds others v flat from (n ∷ ns) (x ∷ xs) l h zero =
+    node_is es ds others v flat from n x l (ap (λ (ys : List Named). first_or (named_of x) ys) h)
+nodes_are es ds others v flat from (n ∷ ns) (x ∷ xs) l h (suc i) =
+    nodes_are es ds others v flat n.ends ns xs l (ap (λ (ys : List Named). behind ys) h) i
+
+-- ---- files
+
+-- the place of a node in the file with a number
+abbrev pub place_of : List FileNames → ℕ → ℕ → Option Place
+place_of rows f n = pick_one (λ v. place_in v n) (slice_get rows f)
+
+-- the node with a number, if there is such a file
+abbrev pub fact_from : Option (List Fact) → ℕ → Option Fact
+fact_from o n = elim o [ None ↦ None | Some xs ↦ slice_get xs n ]
+
+files_are : (es : Entries) (ds : List Declaration) (others : List (List ℕ)) (rows : List FileNames) (t : Table) → AreFiles es ds others rows t →
+    (f n : ℕ) → IsNodeIf es ds others (place_of rows f n) (fact_from (slice_get t f) n)
+files_are es ds others [] [] h f n = tt
+files_are es ds others [] (xs ∷ t) h f n = absurd h
+files_are es ds others (v ∷ vs) [] h f n = absurd h
+files_are es ds others (v ∷ vs) (xs ∷ t) h zero n =
+    nodes_are es ds others v h.0.flat start v.nodes.items xs (record { uses = h.0.uses; classes = h.0.classes }) h.0.nodes n
+files_are es ds others (v ∷ vs) (xs ∷ t) h (suc f) n = files_are es ds others vs t h.1 f n
+
+-- ---- uses
 
 -- what a node's name stands for, if there is such a node
 abbrev pub use_from : List Declaration → Option Fact → ℕ → List NodeRef
@@ -70,94 +117,29 @@ use_from ds o n = elim o [
   | Some x ↦ (elim (slice_get x.uses n) [ None ↦ [] | Some u ↦ declared_by u ds ])
 ]
 
--- the node with a number, if there is such a file
-abbrev pub fact_from : Option (List Fact) → ℕ → Option Fact
-fact_from o n = elim o [ None ↦ None | Some xs ↦ slice_get xs n ]
-
 used_are : (ds : List Declaration) (o : Option Use) → pick (λ u. declared_by u ds) o ≡ (elim o [ None ↦ [] | Some u ↦ declared_by u ds ])
 used_are ds None = refl
 used_are ds (Some u) = refl
 
-node_are : (ds : List Declaration) (o : Option Fact) (n : ℕ) → pick (λ x. pick (λ u. declared_by u ds) (slice_get x.uses n)) o ≡ use_from ds o n
-node_are ds None n = refl
-node_are ds (Some x) n = used_are ds (slice_get x.uses n)
-
-file_are : (ds : List Declaration) (o : Option (List Fact)) (k n : ℕ) →
-    pick (λ xs. pick (λ x. pick (λ u. declared_by u ds) (slice_get x.uses n)) (slice_get xs k)) o ≡ use_from ds (fact_from o k) n
-file_are ds None k n = refl
-file_are ds (Some xs) k n = node_are ds (slice_get xs k) n
-
-declarations_are : (t : Table) (at : NodeRef) (n : ℕ) → facts_at (all_declared t) t at n ≡ declarations t at n
-declarations_are t at n = file_are (all_declared t) (slice_get t at.file) at.node n
-
-table_maps : (ds : List Declaration) (fs : Files) → map (λ f. facts_read ds (file_facts f.0 (file_in f.1).statements)) fs ≡ map (facts_read ds) (table_of fs)
-table_maps ds [] = refl
-table_maps ds (f ∷ fs) = ap (λ (g : List (List (List (List NodeRef)))). facts_read ds (file_facts f.0 (file_in f.1).statements) ∷ g) (table_maps ds fs)
+reads_if : (es : Entries) (ds : List Declaration) (others : List (List ℕ)) (o : Option Place) (q : Option Fact) → IsNodeIf es ds others o q → (n : ℕ) →
+    pick (λ p. pick (found_in es) (slice_get (uses_at p) n)) o ≡ use_from ds q n
+reads_if es ds others None None h n = refl
+reads_if es ds others None (Some x) h n = absurd h
+reads_if es ds others (Some p) None h n = absurd h
+reads_if es ds others (Some p) (Some x) h n =
+    sym (pick_got (λ (ns : List NodeRef). ns) (found_in es) (uses_at p) n)
+    ∙ ap (λ (l : List (List NodeRef)). pick (λ (ns : List NodeRef). ns) (slice_get l n)) h.uses
+    ∙ pick_got (λ (ns : List NodeRef). ns) (λ u. declared_by u ds) x.uses n
+    ∙ used_are ds (slice_get x.uses n)
 
 -- what is read is what nodes use
-pub reads_are : (es : Entries) (rows : List (Vec NodeUses Global)) (fs : Files) (ds : List Declaration) (at : NodeRef) (n : ℕ) →
-    map (λ v. map (uses_read es) v.items) rows ≡ map (λ f. facts_read ds (file_facts f.0 (file_in f.1).statements)) fs →
-    ds ≡ all_declared (table_of fs) → read_in es rows at n ≡ declarations (table_of fs) at n
-reads_are es rows fs ds at n e h =
-    sym (rows_read es rows at n)
-    ∙ ap (λ (g : List (List (List (List NodeRef)))). grid_at g at n) (e ∙ table_maps ds fs)
-    ∙ table_read ds (table_of fs) at n
-    ∙ ap (λ (xs : List Declaration). facts_at xs (table_of fs) at n) h
-    ∙ declarations_are (table_of fs) at n
-
--- ---- facts
-
-map_twice : {A B C : Type 0} (f : B → C) (g : A → B) (xs : List A) → map f (map g xs) ≡ map (λ x. f (g x)) xs
-map_twice f g [] = refl
-map_twice f g (x ∷ xs) = ap (λ ys. f (g x) ∷ ys) (map_twice f g xs)
-
--- what the nodes of a file use
-pub facts_are : (ds : List Declaration) (path : List ℕ) (xs : List NodeFact) (ys : List Fact) → map (named_in path) xs ≡ map named_of ys →
-    map (λ x. declared_each ds (uses_in x.uses.items)) xs ≡ facts_read ds ys
-facts_are ds path xs ys e =
-    sym (map_twice (λ (n : Named). declared_each ds n.uses) (named_in path) xs)
-    ∙ ap (λ (ns : List Named). map (λ (n : Named). declared_each ds n.uses) ns) e
-    ∙ map_twice (λ (n : Named). declared_each ds n.uses) named_of ys
-
--- what the classes of the nodes of a file are numbered
-pub classes_of_facts : (others : List (List ℕ)) (path : List ℕ) (xs : List NodeFact) (ys : List Fact) → map (named_in path) xs ≡ map named_of ys →
-    map (λ x. class_by others x.kind x.declares.items) xs ≡ facts_classes others ys
-classes_of_facts others path xs ys e =
-    sym (map_twice (λ (n : Named). class_by others n.kind n.declares) (named_in path) xs)
-    ∙ ap (λ (ns : List Named). map (λ (n : Named). class_by others n.kind n.declares) ns) e
-    ∙ map_twice (λ (n : Named). class_by others n.kind n.declares) named_of ys
+pub reads_are : (es : Entries) (rows : List FileNames) (t : Table) (ds : List Declaration) (others : List (List ℕ)) (at : NodeRef) (n : ℕ) →
+    AreFiles es ds others rows t → ds ≡ all_declared t → read_in es rows at n ≡ declarations t at n
+reads_are es rows t ds others at n h e =
+    reads_if es ds others (place_at rows at) (fact_at t at) (files_are es ds others rows t h at.file at.node) n
+    ∙ ap (λ (xs : List Declaration). use_from xs (fact_at t at) n) e
 
 -- ---- classes
-
-one_map : {A B C : Type 0} (f : B → Option C) (g : A → B) (o : Option A) → pick_one f (option_map g o) ≡ pick_one (λ x. f (g x)) o
-one_map f g None = refl
-one_map f g (Some x) = refl
-
-one_same : {A B : Type 0} (f g : A → Option B) (o : Option A) → ((x : A) → f x ≡ g x) → pick_one f o ≡ pick_one g o
-one_same f g None h = refl
-one_same f g (Some x) h = h x
-
-one_got : {A B C : Type 0} (f : B → Option C) (g : A → B) (xs : List A) (i : ℕ) → pick_one f (slice_get (map g xs) i) ≡ pick_one (λ x. f (g x)) (slice_get xs i)
-one_got f g xs i = ap (λ o. pick_one f o) (slice_get-map g xs i) ∙ one_map f g (slice_get xs i)
-
--- a list of lists of numbers, at a node
-abbrev pub number_at : List (List (Option ℕ)) → NodeRef → Option ℕ
-number_at g at = pick_one (λ row. pick_one (λ (n : Option ℕ). n) (slice_get row at.node)) (slice_get g at.file)
-
-rows_classes : (rows : List (Vec NodeUses Global)) (at : NodeRef) → number_at (map (λ v. map (λ n. n.class) v.items) rows) at ≡ class_in rows at
-rows_classes rows at =
-    one_got (λ row. pick_one (λ (n : Option ℕ). n) (slice_get row at.node)) (λ (v : Vec NodeUses Global). map (λ n. n.class) v.items) rows at.file
-    ∙ one_same (λ (v : Vec NodeUses Global). pick_one (λ (n : Option ℕ). n) (slice_get (map (λ n. n.class) v.items) at.node))
-    (λ (v : Vec NodeUses Global). pick_one (λ x. x.class) (slice_get v.items at.node)) (slice_get rows at.file)
-    (λ v. one_got (λ (n : Option ℕ). n) (λ (x : NodeUses). x.class) v.items at.node)
-
-table_classes : (others : List (List ℕ)) (t : Table) (at : NodeRef) →
-    number_at (map (facts_classes others) t) at ≡ pick_one (λ xs. pick_one (λ (x : Fact). class_by others x.kind x.declares) (slice_get xs at.node)) (slice_get t at.file)
-table_classes others t at =
-    one_got (λ row. pick_one (λ (n : Option ℕ). n) (slice_get row at.node)) (facts_classes others) t at.file
-    ∙ one_same (λ (xs : List Fact). pick_one (λ (n : Option ℕ). n) (slice_get (facts_classes others xs) at.node))
-    (λ (xs : List Fact). pick_one (λ (x : Fact). class_by others x.kind x.declares) (slice_get xs at.node)) (slice_get t at.file)
-    (λ xs. one_got (λ (n : Option ℕ). n) (λ (x : Fact). class_by others x.kind x.declares) xs at.node)
 
 abbrev pub class_from : List (List ℕ) → Option Fact → Option ℕ
 class_from others o = elim o [
@@ -165,29 +147,117 @@ class_from others o = elim o [
   | Some x ↦ if is_class_like x.kind then first_number others x.declares else None
 ]
 
-class_node : (others : List (List ℕ)) (o : Option Fact) → pick_one (λ (x : Fact). class_by others x.kind x.declares) o ≡ class_from others o
-class_node others None = refl
-class_node others (Some x) = refl
+first_numbers : (others : List (List ℕ)) (names : List Name) → first_class (numbers_of others names) ≡ first_number others names
+first_numbers others [] = refl
+first_numbers others (n ∷ ns) = refl
 
-class_file : (others : List (List ℕ)) (o : Option (List Fact)) (k : ℕ) →
-    pick_one (λ xs. pick_one (λ (x : Fact). class_by others x.kind x.declares) (slice_get xs k)) o ≡ class_from others (fact_from o k)
-class_file others None k = refl
-class_file others (Some xs) k = class_node others (slice_get xs k)
-
-class_is : (others : List (List ℕ)) (t : Table) (at : NodeRef) →
-    pick_one (λ xs. pick_one (λ (x : Fact). class_by others x.kind x.declares) (slice_get xs at.node)) (slice_get t at.file) ≡ class_number t others at
-class_is others t at = class_file others (slice_get t at.file) at.node
-
-class_maps : (others : List (List ℕ)) (fs : Files) → map (λ f. facts_classes others (file_facts f.0 (file_in f.1).statements)) fs ≡ map (facts_classes others) (table_of fs)
-class_maps others [] = refl
-class_maps others (f ∷ fs) = ap (λ (g : List (List (Option ℕ))). facts_classes others (file_facts f.0 (file_in f.1).statements) ∷ g) (class_maps others fs)
+classes_if : (es : Entries) (ds : List Declaration) (others : List (List ℕ)) (o : Option Place) (q : Option Fact) → IsNodeIf es ds others o q →
+    pick_one (λ p. class_of p.1.1.kind (classes_at p)) o ≡ class_from others q
+classes_if es ds others None None h = refl
+classes_if es ds others None (Some x) h = absurd h
+classes_if es ds others (Some p) None h = absurd h
+classes_if es ds others (Some p) (Some x) h =
+    ap (λ (k : NodeKind). class_of k (classes_at p)) h.kind
+    ∙ ap (λ (cs : List (Option ℕ)). class_of x.kind cs) h.classes
+    ∙ ap (λ (c : Option ℕ). if is_class_like x.kind then c else None) (first_numbers others x.declares)
 
 -- the numbers that are read are those of the classes
-pub classes_are : (rows : List (Vec NodeUses Global)) (fs : Files) (others : List (List ℕ)) (at : NodeRef) →
-    map (λ v. map (λ n. n.class) v.items) rows ≡ map (λ f. facts_classes others (file_facts f.0 (file_in f.1).statements)) fs →
-    class_in rows at ≡ class_number (table_of fs) others at
-classes_are rows fs others at e =
-    sym (rows_classes rows at)
-    ∙ ap (λ (g : List (List (Option ℕ))). number_at g at) (e ∙ class_maps others fs)
-    ∙ table_classes others (table_of fs) at
-    ∙ class_is others (table_of fs) at
+pub classes_are : (es : Entries) (rows : List FileNames) (t : Table) (ds : List Declaration) (others : List (List ℕ)) (at : NodeRef) →
+    AreFiles es ds others rows t → class_in rows at ≡ class_number t others at
+classes_are es rows t ds others at h = classes_if es ds others (place_at rows at) (fact_at t at) (files_are es ds others rows t h at.file at.node)
+
+-- ---- places
+
+take_at : {A : Type 0} (k : ℕ) (ys : List A) (n : ℕ) → n < k → slice_get (take k ys) n ≡ slice_get ys n
+take_at zero ys n h = absurd (none_below n h)
+  where
+    none_below : (m : ℕ) → m < zero → ⊥
+    none_below m l = omega (arith, l)
+take_at (suc k) [] n h = refl
+take_at (suc k) (y ∷ ys) zero h = refl
+take_at (suc k) (y ∷ ys) (suc n) h = take_at k ys n (omega (arith, h))
+
+take_past : {A : Type 0} (k : ℕ) (ys : List A) (n : ℕ) → k ≤ n → slice_get (take k ys) n ≡ None
+take_past zero ys n h = refl
+take_past (suc k) [] n h = refl
+take_past (suc k) (y ∷ ys) zero h = absurd (past_none k h)
+  where
+    past_none : (m : ℕ) → suc m ≤ zero → ⊥
+    past_none m l = omega (arith, l)
+take_past (suc k) (y ∷ ys) (suc n) h = take_past k ys n (omega (arith, h))
+
+drop_at : {A : Type 0} (k : ℕ) (xs : List A) (n : ℕ) → slice_get (drop k xs) n ≡ slice_get xs (k + n)
+drop_at zero xs n = ap (λ (m : ℕ). slice_get xs m) (same n)
+  where
+    same : (m : ℕ) → m ≡ zero + m
+    same m = omega arith
+drop_at (suc k) [] n = refl
+drop_at (suc k) (x ∷ xs) n = drop_at k xs n ∙ ap (λ (m : ℕ). slice_get (x ∷ xs) m) (more k n)
+  where
+    more : (a b : ℕ) → suc (a + b) ≡ suc a + b
+    more a b = omega arith
+
+-- an item between two places
+pub item_is : {A : Type 0} (from to : ℕ) (xs : List A) (n : ℕ) → from + n < to → slice_get (between from to xs) n ≡ slice_get xs (from + n)
+item_is from to xs n h = take_at (to - from) (drop from xs) n (omega (arith, h)) ∙ drop_at from xs n
+
+pub item_none : {A : Type 0} (from to : ℕ) (xs : List A) (n : ℕ) → to ≤ from + n → slice_get (between from to xs) n ≡ None
+item_none from to xs n h = take_past (to - from) (drop from xs) n (omega (arith, h))
+
+-- a node and the one before it
+pub ranged_first : (from : Ends) (ns : List NodeFact) (n : NodeFact) → slice_get ns zero ≡ Some n → slice_get (ranged from ns) zero ≡ Some (from, n)
+ranged_first from [] n h = absurd (none_some h)
+  where
+    none_some : None ≡ Some n → ⊥
+    none_some e = cc
+ranged_first from (m ∷ ns) n h = ap (λ (o : Option NodeFact). option_map (λ (x : NodeFact). (from, x)) o) h
+
+pub ranged_next : (from : Ends) (ns : List NodeFact) (k : ℕ) (m n : NodeFact) → slice_get ns k ≡ Some m → slice_get ns (suc k) ≡ Some n →
+    slice_get (ranged from ns) (suc k) ≡ Some (m.ends, n)
+ranged_next from [] k m n g h = absurd (none_some g)
+  where
+    none_some : None ≡ Some m → ⊥
+    none_some e = cc
+ranged_next from (x ∷ ns) zero m n g h =
+    ranged_first x.ends ns n h ∙ ap (λ (o : Option NodeFact). option_map (λ (y : NodeFact). (y.ends, n)) o) g
+ranged_next from (x ∷ ns) (suc k) m n g h = ranged_next x.ends ns k m n g h
+
+pub ranged_none : (from : Ends) (ns : List NodeFact) (k : ℕ) → slice_get ns k ≡ None → slice_get (ranged from ns) k ≡ None
+ranged_none from [] k h = refl
+ranged_none from (x ∷ ns) zero h = ap (λ (o : Option NodeFact). option_map (λ (y : NodeFact). (from, y)) o) h
+ranged_none from (x ∷ ns) (suc k) h = ranged_none x.ends ns k h
+
+-- a node behind another, by its number
+pub at_next : (ns : List NodeFact) (k : ℕ) (m n : NodeFact) → (k ≡ 0 → ⊥) → slice_get ns (k - 1) ≡ Some m → slice_get ns k ≡ Some n →
+    slice_get (ranged start ns) k ≡ Some (m.ends, n)
+at_next ns zero m n h f g = absurd (h refl)
+at_next ns (suc k) m n h f g = ranged_next start ns k m n (ap (λ (i : ℕ). slice_get ns i) (less_one k) ∙ f) g
+  where
+    less_one : (i : ℕ) → i ≡ suc i - 1
+    less_one i = omega arith
+
+pub none_behind : {A : Type 0} (xs : List A) (k : ℕ) → slice_get xs k ≡ None → slice_get xs (suc k) ≡ None
+none_behind [] k h = refl
+none_behind (x ∷ xs) zero h = absurd (some_none h)
+  where
+    some_none : Some x ≡ None → ⊥
+    some_none e = cc
+none_behind (x ∷ xs) (suc k) h = none_behind xs k h
+
+-- ---- files one after another
+
+pub files_done : (es : Entries) (ds : List Declaration) (others : List (List ℕ)) (rows : List FileNames) (fs : Files) (i : ℕ) → length fs ≤ i →
+    ((vs : List FileNames) → AreFiles es ds others vs (table_of (drop i fs)) → AreFiles es ds others (rows ++ vs) (table_of fs)) →
+    AreFiles es ds others rows (table_of fs)
+files_done es ds others rows fs i past h =
+    subst (λ (vs : List FileNames). AreFiles es ds others vs (table_of fs)) (append-nil rows)
+    (h [] (subst (λ (gs : Files). AreFiles es ds others [] (table_of gs)) (sym (drop_all fs i past)) tt))
+  where
+    none_past : (m : ℕ) → suc m ≤ zero → ⊥
+    none_past m l = omega (arith, l)
+
+    drop_all : (gs : Files) (k : ℕ) → length gs ≤ k → drop k gs ≡ []
+    drop_all [] zero l = refl
+    drop_all [] (suc k) l = refl
+    drop_all (g ∷ gs) zero l = absurd (none_past (length gs) l)
+    drop_all (g ∷ gs) (suc k) l = drop_all gs k (omega (arith, l))

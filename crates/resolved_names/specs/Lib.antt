@@ -1,5 +1,6 @@
 pub mod Index
 pub mod NodeReads
+pub mod Ranges
 pub mod Reads
 pub mod Refusals
 pub mod Resolved

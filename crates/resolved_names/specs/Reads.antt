@@ -1,12 +1,17 @@
 -- What names answer.
-use Rattle.std.specs.Prelude.{◌≡◌, ℕ, List, [], Vec, slice_get, Option, Some, None}
-use Rattle.std.specs.declared.alloc.Global.{Global}
+use Rattle.std.specs.Prelude.{◌≡◌, ℕ, List, [], slice_get, Option, Some, None, option_map}
+use Rattle.node_facts.specs.declared.ends.Ends.{Ends}
+use Rattle.node_facts.specs.declared.node_fact.NodeFact.{NodeFact}
+use Rattle.node_facts.specs.Flat.{between, start}
 use Rattle.file_declarations.specs.declared.node_ref.NodeRef.{NodeRef}
 use Rattle.program_names.specs.Classes.{AreOthers, class_number}
 use Rattle.program_names.specs.Table.{Table, declarations}
+use Rattle.resolved_names.specs.declared.file_names.FileNames.{FileNames}
+use Rattle.resolved_names.specs.declared.found.Found.{Found}
 use Rattle.resolved_names.specs.declared.names.Names.{Names}
-use Rattle.resolved_names.specs.declared.node_uses.NodeUses.{NodeUses}
 use Rattle.resolved_names.specs.Index.{Entries, found_in}
+use Rattle.resolved_names.specs.NodeReads.{class_of}
+use Rattle.resolved_names.specs.Ranges.{ranged}
 
 -- the entries by number
 abbrev pub entries_of : Names → List ℕ
@@ -21,18 +26,34 @@ abbrev pub pick : {A B : Type 0} → (A → List B) → Option A → List B
 pick f None = []
 pick f (Some x) = f x
 
--- what a node's name n was found to stand for
-abbrev pub read_in : Entries → List (Vec NodeUses Global) → NodeRef → ℕ → List NodeRef
-read_in es rows at n =
-    pick (λ v. pick (λ x. pick (found_in es) (slice_get x.uses.items n)) (slice_get v.items at.node)) (slice_get rows at.file)
-
 abbrev pub pick_one : {A B : Type 0} → (A → Option B) → Option A → Option B
 pick_one f None = None
 pick_one f (Some x) = f x
 
+-- a node with a number, the place where its items begin, and its file
+abbrev pub Place : Type 0
+Place = FileNames × (Ends × NodeFact)
+
+abbrev pub place_in : FileNames → ℕ → Option Place
+place_in v n = option_map (λ r. (v, r)) (slice_get (ranged start v.nodes.items) n)
+
+abbrev pub place_at : List FileNames → NodeRef → Option Place
+place_at rows at = pick_one (λ v. place_in v at.node) (slice_get rows at.file)
+
+-- what was found for the uses of a node, and the numbers of the classes that it declares
+abbrev pub uses_at : Place → List Found
+uses_at p = between p.1.0.uses p.1.1.ends.uses p.0.uses.items
+
+abbrev pub classes_at : Place → List (Option ℕ)
+classes_at p = between p.1.0.declares p.1.1.ends.declares p.0.classes.items
+
+-- what a node's name n was found to stand for
+abbrev pub read_in : Entries → List FileNames → NodeRef → ℕ → List NodeRef
+read_in es rows at n = pick (λ p. pick (found_in es) (slice_get (uses_at p) n)) (place_at rows at)
+
 -- the number of the class that a node declares
-abbrev pub class_in : List (Vec NodeUses Global) → NodeRef → Option ℕ
-class_in rows at = pick_one (λ v. pick_one (λ x. x.class) (slice_get v.items at.node)) (slice_get rows at.file)
+abbrev pub class_in : List FileNames → NodeRef → Option ℕ
+class_in rows at = pick_one (λ p. class_of p.1.1.kind (classes_at p)) (place_at rows at)
 
 -- the reads of names answer what a program's nodes tell
 pub record AreNames (ns : Names) (t : Table) : Type 0 where

@@ -1,6 +1,8 @@
 //! What the names of a program stand for: resolved once, and then read by number.
 #![tactic(auto)]
 
+mod class_kinds;
+mod file_names;
 mod files;
 mod found;
 mod found_nodes;
@@ -8,6 +10,7 @@ mod index;
 mod names;
 mod names_fault;
 mod node_uses;
+mod ranges;
 mod resolve;
 
 pub use names::Names;

@@ -1,7 +1,9 @@
 // The names of a program, resolved.
+use crate::class_kinds::is_class_like;
+use crate::file_names::FileNames;
 use crate::found_nodes::nodes_of;
 use crate::names_fault::NamesFault;
-use crate::node_uses::NodeUses;
+use crate::ranges::{item, node_at};
 use crate::resolve::{checked, resolved};
 use indexmap::IndexMap;
 use program_names::{NodeRef, Program};
@@ -12,7 +14,7 @@ use std::alloc::Global;
 #[derive(Drop)]
 pub struct Names {
     pub(crate) index: IndexMap<Vec<u8>, Vec<NodeRef>>,
-    pub(crate) files: Vec<Vec<NodeUses>>,
+    pub(crate) files: Vec<FileNames>,
     pub(crate) entries: Vec<u32>,
     pub(crate) prepend: Option<u32>,
 }
@@ -65,10 +67,10 @@ impl Names {
         let Some(file) = self.files.get(use_at.file as usize) else {
             return &[];
         };
-        let Some(node) = file.get(use_at.node as usize) else {
+        let Some((from, node)) = node_at(file.nodes.as_slice(), use_at.node as usize) else {
             return &[];
         };
-        let Some(found) = node.uses.get(n as usize) else {
+        let Some(found) = item(file.uses.as_slice(), from.uses, node.ends.uses, n) else {
             return &[];
         };
         nodes_of(&self.index, found)
@@ -90,10 +92,21 @@ impl Names {
         let Some(file) = self.files.get(at.file as usize) else {
             return None;
         };
-        let Some(node) = file.get(at.node as usize) else {
+        let Some((from, node)) = node_at(file.nodes.as_slice(), at.node as usize) else {
             return None;
         };
-        node.class
+        if !is_class_like(node.kind) {
+            return None;
+        }
+        match item(
+            file.classes.as_slice(),
+            from.declares,
+            node.ends.declares,
+            0,
+        ) {
+            None => None,
+            Some(number) => *number,
+        }
     }
 
     /// The number of the class or interface that a node declares: 0 for `stdClass`, 1 to 10 for the exception classes, and

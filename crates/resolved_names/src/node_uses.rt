@@ -1,28 +1,20 @@
-// What the names of one node stand for.
+// What names stand for.
 ghost use Rattle.std.specs.Prelude.{◌≡◌, ◌<◌, ◌+◌, ◌^◌, ◌++◌, length, map, IfOk, OnOk};
 ghost use Rattle.node_facts.specs.Seen.{use_in, uses_in};
-ghost use Rattle.program_names.specs.Classes.{AreAscending, is_class_like as declares_class};
+ghost use Rattle.program_names.specs.Classes.{AreAscending};
 ghost use Rattle.program_names.specs.Table.{declared_as, declared_as_each, declared_by};
 ghost use Rattle.resolved_names.specs.Index.{IsIndex, declared_in, found_in};
-ghost use Rattle.resolved_names.specs.NodeReads.{class_by, declared_each, uses_read};
+ghost use Rattle.resolved_names.specs.NodeReads.{declared_each, numbers_of};
 
 use crate::found::Found;
 use crate::index::{find, nodes_at};
 use class_cycles::class_number;
 use indexmap::IndexMap;
-use node_facts::{NameUse, NodeFact};
-use node_names::NameSort;
-use php_tree::NodeKind;
+use node_facts::NameUse;
+use node_names::{Name, NameSort};
 use program_names::{NodeRef, Told};
 use span_edits::Bytes;
 use std::alloc::{AllocError, Global};
-
-/// What the names that a node uses stand for, and the number of the class that it declares.
-#[derive(Drop)]
-pub(crate) struct NodeUses {
-    pub(crate) uses: Vec<Found>,
-    pub(crate) class: Option<u32>,
-}
 
 // The nodes that declare a name, behind others.
 fn add_nodes(
@@ -96,8 +88,8 @@ fn found(
     }
 }
 
-// What the names that a node uses stand for.
-fn uses_found(
+/// What the names that are used stand for. The only error is want of memory.
+pub(crate) fn uses_found(
     alloc: Global,
     index: &IndexMap<Vec<u8>, Vec<NodeRef>>,
     told: &[Told],
@@ -114,49 +106,19 @@ fn uses_found(
     Ok(all)
 }
 
-// Whether such a node declares a class or an interface.
-fn is_class_like(kind: NodeKind) -> bool
-    ensures { result ≡ declares_class kind }
-{
-    matches!(kind, NodeKind::Class | NodeKind::Interface)
-}
-
-// The number of the class that a node declares.
-fn class_of(others: &[Bytes], fact: &NodeFact) -> Option<u32>
-    requires ascending { AreAscending others.now }
-    requires few { length others.now + 11 < 2 ^ 32 }
-    ensures { result ≡ class_by others.now fact.now.kind fact.now.declares.items }
-{
-    if !is_class_like(fact.kind) {
-        return None;
-    }
-    match fact.declares.as_slice() {
-        [] => None,
-        [name, ..] => class_number(others, name.text.as_slice()),
-    }
-}
-
-/// What the names of the nodes of a file stand for. The only error is want of memory.
-pub(crate) fn file_names(
+/// The number of each class that is declared, if what is declared is one. The only error is want of memory.
+pub(crate) fn class_numbers(
     alloc: Global,
-    index: &IndexMap<Vec<u8>, Vec<NodeRef>>,
-    told: &[Told],
     others: &[Bytes],
-    facts: &[NodeFact],
-) -> Result<Vec<NodeUses>, AllocError>
-    requires index { IsIndex index.now.entries (declared_in told.now) }
+    names: &[Name],
+) -> Result<Vec<Option<u32>>, AllocError>
     requires ascending { AreAscending others.now }
     requires few { length others.now + 11 < 2 ^ 32 }
-    ensures uses { IfOk result (λ v. map (uses_read index.now.entries) v.items ≡ map (λ x. declared_each (declared_in told.now) (uses_in x.uses.items)) facts.now) }
-    ensures classes { IfOk result (λ v. map (λ n. n.class) v.items ≡ map (λ x. class_by others.now x.kind x.declares.items) facts.now) }
+    ensures { IfOk result (λ v. v.items ≡ numbers_of others.now names.now) }
 {
     let mut all = Vec::new(alloc);
-    for fact in facts {
-        let uses = uses_found(alloc, index, told, fact.uses.as_slice())?;
-        all.push(NodeUses {
-            uses,
-            class: class_of(others, fact),
-        })?;
+    for name in names {
+        all.push(class_number(others, name.text.as_slice()))?;
     }
     Ok(all)
 }

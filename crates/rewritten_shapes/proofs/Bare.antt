@@ -25,7 +25,7 @@ use Rattle.php_terminals.specs.Indents.{
   misindented_by,
 }
 use Rattle.php_grammar.specs.Accepts.{accepts}
-use Rattle.php_grammar.specs.Bases.{is_short_ternary}
+use Rattle.php_grammar.specs.Bases.{is_short_ternary, is_variable, is_variable_expression}
 use Rattle.php_grammar.specs.Edges.{edge, edge_from}
 use Rattle.php_grammar.specs.Levels.{level, binary_level, first_leaf, is_alone, middle_leaf, prefix_level}
 use Rattle.php_shapes.specs.Nearest.{
@@ -57,9 +57,12 @@ use Rattle.php_shapes.specs.Places.{
   Target,
   TargetOrList,
   ClassName,
+  Embedded,
   begins_with_class_name,
+  begins_with_variable,
   is_class_name,
   is_expression,
+  is_postfixed,
   is_prefix,
   may_stand,
 }
@@ -257,6 +260,11 @@ bare_begins none = refl
 bare_begins (leaf x f) = refl
 bare_begins (node j b f) = ap (λ (y : Bool). is_class_name j && y) (bare_begins b)
 
+bare_leads : (f : Forest) → begins_with_variable f ≡ begins_with_variable (bare f)
+bare_leads none = refl
+bare_leads (leaf x f) = refl
+bare_leads (node j b f) = ap (λ (y : Bool). is_variable j || is_postfixed j && y) (bare_leads b)
+
 bare_stands : (v : Version) (p : Place) (k : NodeKind) (c : Forest) → may_stand v p (k, c) ≡ may_stand v p (k, bare c)
 bare_stands v Statement k c = refl
 bare_stands v Member k c = refl
@@ -270,6 +278,7 @@ bare_stands v Callee k c = refl
 bare_stands v Target k c = refl
 bare_stands v TargetOrList k c = refl
 bare_stands v ClassName k c = ap (λ (y : Bool). is_class_name k && y) (bare_begins c)
+bare_stands v Embedded k c = ap (λ (y : Bool). is_variable_expression k && y) (bare_leads (node k c none))
 
 -- ---- shapes
 

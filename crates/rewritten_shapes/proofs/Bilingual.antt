@@ -13,6 +13,7 @@ use Rattle.php_terminals.specs.Words as words
 use Rattle.php_grammar.specs.Accepts.{accepts, same_class}
 use Rattle.php_shapes.specs.Names.{called_name, name}
 use Rattle.php_shapes.specs.Nearest.{goes_on_if, has_else, is_else, is_to}
+use Rattle.php_shapes.specs.Places.{begins_with_variable}
 use Rattle.php_shapes.specs.Notation.{Rule, nothing, word, ◌~◌, ◌|||◌, many}
 use Rattle.php_shapes.specs.Shapes.{Fits, is_nothing, is_word, is_both, is_first, is_second, no_more, once_more, is_kind, is_place, is_inside, is_tokens}
 use Rattle.syntax_rules.specs.Around.{Around}
@@ -191,15 +192,35 @@ no_else no_more h = refl
 no_else (once_more {r} {f} {g} {h} x y d) e = ap has_else d ∙ else_join g h ∙ or_false (has_else g) (has_else h) (no_else x e) (no_else y e)
 no_else (is_tokens b) h = absurd cc
 
+variable_join : (g h : Forest) → begins_with_variable g ≡ false → begins_with_variable h ≡ false → begins_with_variable (g +++ h) ≡ false
+variable_join none h e d = d
+variable_join (leaf x g) h e d = refl
+variable_join (node k c g) h e d = e
+
+-- no variable stands in a name
+pub no_variable : {r : Rule} {f : Forest} → Fits V74 r f → of_name r ≡ true → begins_with_variable f ≡ false
+no_variable is_nothing h = refl
+no_variable (is_word p) h = refl
+no_variable (is_kind n) h = absurd cc
+no_variable (is_place m n) h = absurd cc
+no_variable (is_inside x near) h = absurd cc
+no_variable (is_both {r} {s} {f} {g} {h} x y d) e =
+    ap begins_with_variable d ∙ variable_join g h (no_variable x (and_left (of_name r) (of_name s) e)) (no_variable y (and_right (of_name r) (of_name s) e))
+no_variable (is_first {r} {s} x) h = no_variable x (and_left (of_name r) (of_name s) h)
+no_variable (is_second {r} {s} x) h = no_variable x (and_right (of_name r) (of_name s) h)
+no_variable no_more h = refl
+no_variable (once_more {r} {f} {g} {h} x y d) e = ap begins_with_variable d ∙ variable_join g h (no_variable x e) (no_variable y e)
+no_variable (is_tokens b) h = absurd cc
+
 calm_if : (b x : Bool) → x ≡ false → (not (b && x) && true) ≡ true
 calm_if b true e = absurd cc
 calm_if true false e = refl
 calm_if false false e = refl
 
 -- some parts without `else`, for which one token stands
-pub like_word : (f : Forest) (y : Token) → has_else f ≡ false → (f ≡ none → ⊥) → goes_on_if (terminal y) ≡ false
+pub like_word : (f : Forest) (y : Token) → has_else f ≡ false → begins_with_variable f ≡ false → (f ≡ none → ⊥) → goes_on_if (terminal y) ≡ false
     → is_to (terminal y) ≡ false → is_else (terminal y) ≡ false → Like f (leaf y none)
-like_word f y e n i a l = record {
+like_word f y e v n i a l = record {
   elses = λ b d p h. calm_if d (goes_on_if (terminal y)) i;
   ifs = λ b d p h. absurd cc;
   arrows = λ b d p h. calm_if d (is_to (terminal y)) a;
@@ -207,6 +228,7 @@ like_word f y e n i a l = record {
   same_else = or_false (is_else (terminal y)) false l refl ∙ sym e;
   edges = λ u d p. below_zero (edge_from V74 u f);
   begins = λ h. refl;
+  leads = λ h. absurd (let z : false ≡ true = sym v ∙ h in cc);
   is_some = λ h. absurd cc;
   is_empty = λ h. absurd (n h);
 }
@@ -256,6 +278,9 @@ name_kept asked which names labels f p s a b h = go (name_is f p s a b)
     free : has_else f ≡ false
     free = no_else p refl
 
+    plain : begins_with_variable f ≡ false
+    plain = no_variable p refl
+
     go : Whole (names_whole (written a b f)) → Kept (word asked) f (new_parts a b f)
     go (inl r) =
         let y = r.0 in
@@ -267,13 +292,13 @@ name_kept asked which names labels f p s a b h = go (name_is f p s a b)
         subst (Kept (word asked) f) (sym same)
         (record {
           fits = is_word (shown_accepts V83 asked y (labels y r.1 no));
-          like = like_word f (shown_token (hash_comment y)) free empty (ap goes_on_if (shown_terminal y) ∙ quiet.0)
+          like = like_word f (shown_token (hash_comment y)) free plain empty (ap goes_on_if (shown_terminal y) ∙ quiet.0)
               (ap is_to (shown_terminal y) ∙ quiet.1) (ap is_else (shown_terminal y) ∙ quiet.2);
         })
     go (inr r) =
         let u = shown_token r.0 in
         let quiet = name_quiet u r.1 in
-        subst (Kept (word asked) f) (sym (ap shown r.2)) (record { fits = is_word (names u r.1); like = like_word f u free empty quiet.0 quiet.1 quiet.2 })
+        subst (Kept (word asked) f) (sym (ap shown r.2)) (record { fits = is_word (names u r.1); like = like_word f u free plain empty quiet.0 quiet.1 quiet.2 })
 
 -- ---- rules in both versions
 

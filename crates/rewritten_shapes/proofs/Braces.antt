@@ -124,6 +124,7 @@ offset_good j d x i e w y z m n g h = record {
     yields = λ u. absurd cc;
     edges = below_same 0;
     begins = λ u. g.like.begins u;
+    leads = λ u. g.like.leads u;
   };
   becomes = becomes_offset;
   levels = below_same 0;
@@ -236,6 +237,7 @@ cast_single x y i e z p q r n m g =
             below_max 3 3 (max (level V83 z) (edge_from V83 0 z.1)) (max (level V74 (i, e)) (edge_from V74 0 e))
             (below_same 3) g.like.edges;
         begins = λ u. absurd cc;
+        leads = λ u. absurd cc;
       };
       becomes = becomes_same Cast;
       levels = below_same 3;

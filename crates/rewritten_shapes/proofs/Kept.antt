@@ -11,7 +11,7 @@ use Rattle.php_tree.specs.Tree.{Forest, Tree, none, leaf, node, ◌+++◌}
 use Rattle.php_terminals.specs.declared.terminal.Terminal.{Terminal}
 use Rattle.php_terminals.specs.Classify.{terminal}
 use Rattle.php_grammar.specs.Accepts.{accepts}
-use Rattle.php_grammar.specs.Bases.{is_callee, is_class_base, is_list, is_member_base, is_offset_base, is_target}
+use Rattle.php_grammar.specs.Bases.{is_callee, is_class_base, is_list, is_member_base, is_offset_base, is_target, is_variable, is_variable_expression}
 use Rattle.php_grammar.specs.Edges.{edge, edge_from}
 use Rattle.php_grammar.specs.Levels.{level}
 use Rattle.php_shapes.specs.Nearest.{ends_in_if, ends_in_yield, is_nearest, is_open_if, is_open_yield}
@@ -30,10 +30,13 @@ use Rattle.php_shapes.specs.Places.{
   Target,
   TargetOrList,
   ClassName,
+  Embedded,
   begins_with_class_name,
+  begins_with_variable,
   is_class_name,
   is_expression,
   is_member,
+  is_postfixed,
   is_prefix,
   is_statement,
   may_stand,
@@ -62,6 +65,7 @@ pub record Becomes (k j : NodeKind) : Type 0 where
   pub callee : is_callee k ≡ true → is_callee j ≡ true
   pub target : is_target k ≡ true → is_target j ≡ true
   pub list : is_list k ≡ true → is_list j ≡ true
+  pub variable_expression : is_variable_expression k ≡ true → is_variable_expression j ≡ true
 
 pub becomes_same : (k : NodeKind) → Becomes k k
 becomes_same k = record {
@@ -75,6 +79,7 @@ becomes_same k = record {
   callee = λ e. e;
   target = λ e. e;
   list = λ e. e;
+  variable_expression = λ e. e;
 }
 
 pub becomes_offset : Becomes k.BraceOffset k.Offset
@@ -89,6 +94,7 @@ becomes_offset = record {
   callee = λ e. refl;
   target = λ e. refl;
   list = λ e. cc;
+  variable_expression = λ e. refl;
 }
 
 -- an expression that stands before nothing
@@ -127,6 +133,13 @@ bare_target k.ShortTernary e d = cc
 bare_target k.Cast e d = cc
 bare_target _ e d = cc
 
+bare_variable : (k : NodeKind) → is_bare k ≡ true → is_variable_expression k ≡ true → ⊥
+bare_variable k.Binary e d = cc
+bare_variable k.Ternary e d = cc
+bare_variable k.ShortTernary e d = cc
+bare_variable k.Cast e d = cc
+bare_variable _ e d = cc
+
 pub becomes_paren : (k : NodeKind) → is_bare k ≡ true → Becomes k Paren
 becomes_paren k e = record {
   statement = λ d. absurd (bare_statement k e d);
@@ -139,6 +152,7 @@ becomes_paren k e = record {
   callee = λ d. refl;
   target = λ d. absurd (bare_target k e d);
   list = λ d. absurd (bare_list k e d);
+  variable_expression = λ d. absurd (bare_variable k e d);
 }
 
 -- ---- nodes
@@ -249,6 +263,9 @@ good_stands Callee k c x g e m = g.becomes.callee m
 good_stands Target k c x g e m = g.becomes.target m
 good_stands TargetOrList k c x g e m = or_else (is_target k) (is_list k) (is_target x.0) (is_list x.0) g.becomes.target g.becomes.list m
 good_stands ClassName k c x g e m = g.like.begins m
+good_stands Embedded k c x g e m =
+    both_map (is_variable_expression k) (begins_with_variable (node k c none)) (is_variable_expression x.0) (begins_with_variable (node x.0 x.1 none))
+    g.becomes.variable_expression g.like.leads m
 
 -- ---- levels
 
@@ -280,6 +297,8 @@ parts_like k c b y e l = record {
   yields = or_else (is_open_yield k b) (ends_in_yield false b) (is_open_yield k c) (ends_in_yield false c) y (l.yields false false (λ z. z));
   edges = below_max (level V83 (k, b)) (level V74 (k, c)) (edge_from V83 0 b) (edge_from V74 0 c) e (l.edges 0 0 (below_same 0));
   begins = both_map (is_class_name k) (begins_with_class_name c) (is_class_name k) (begins_with_class_name b) (λ z. z) l.begins;
+  leads = or_else (is_variable k) (is_postfixed k && begins_with_variable c) (is_variable k) (is_postfixed k && begins_with_variable b) (λ z. z)
+      (both_map (is_postfixed k) (begins_with_variable c) (is_postfixed k) (begins_with_variable b) (λ z. z) l.leads);
 }
 
 pub settled_like : (k : NodeKind) (c b : Forest) → is_settled k ≡ true → Like c b → NodeLike k c k b

@@ -11,7 +11,7 @@ use Rattle.php_terminals.specs.Classify.{terminal}
 use Rattle.php_grammar.specs.Edges.{edge_from}
 use Rattle.php_grammar.specs.Levels.{level}
 use Rattle.php_shapes.specs.Nearest.{arrows_are_nearest, elses_are_nearest, ends_in_if, ends_in_yield, goes_on_if, has_else, is_else, is_nearest, is_open_if, is_open_yield, is_to}
-use Rattle.php_shapes.specs.Places.{begins_with_class_name, is_class_name}
+use Rattle.php_shapes.specs.Places.{begins_with_class_name, begins_with_variable, is_class_name}
 use Rattle.rewritten_shapes.proofs.Sides.{and_both, and_left, and_right}
 
 -- A level or an edge is at most as loose as before; one from 7 on may become that of `.`.
@@ -37,6 +37,7 @@ pub record Like (f g : Forest) : Type 0 where
   pub same_else : has_else g ≡ has_else f
   pub edges : (e d : ℕ) → Below d e → Below (edge_from V83 d g) (edge_from V74 e f)
   pub begins : begins_with_class_name f ≡ true → begins_with_class_name g ≡ true
+  pub leads : begins_with_variable f ≡ true → begins_with_variable g ≡ true
   pub is_some : g ≡ none → f ≡ none
   pub is_empty : f ≡ none → g ≡ none
 
@@ -46,6 +47,7 @@ pub record NodeLike (k : NodeKind) (c : Forest) (j : NodeKind) (b : Forest) : Ty
   pub yields : (is_open_yield j b || ends_in_yield false b) ≡ true → (is_open_yield k c || ends_in_yield false c) ≡ true
   pub edges : Below (max (level V83 (j, b)) (edge_from V83 0 b)) (max (level V74 (k, c)) (edge_from V74 0 c))
   pub begins : (is_class_name k && begins_with_class_name c) ≡ true → (is_class_name j && begins_with_class_name b) ≡ true
+  pub leads : begins_with_variable (node k c none) ≡ true → begins_with_variable (node j b none) ≡ true
 
 pub like_none : Like none none
 like_none = record {
@@ -56,6 +58,7 @@ like_none = record {
   same_else = refl;
   edges = λ e d p. p;
   begins = λ e. refl;
+  leads = λ e. e;
   is_some = λ e. refl;
   is_empty = λ e. refl;
 }
@@ -74,6 +77,7 @@ like_leaf x y same = record {
   same_else = ap (λ (z : Terminal). is_else z || false) same;
   edges = λ e d p. below_same 0;
   begins = λ e. refl;
+  leads = λ e. e;
   is_some = λ e. absurd cc;
   is_empty = λ e. absurd cc;
 }
@@ -87,6 +91,7 @@ like_node k c j b n = record {
   same_else = refl;
   edges = λ e d p. n.edges;
   begins = n.begins;
+  leads = n.leads;
   is_some = λ e. absurd cc;
   is_empty = λ e. absurd cc;
 }
@@ -156,6 +161,16 @@ begins_by (node k c g) h i j p q e = begins_with i j (λ z. some_node k c g (p.i
     some_node : (k : NodeKind) (c g : Forest) → node k c g ≡ none → ⊥
     some_node k c g e = cc
 
+leads_with : (g h : Forest) → begins_with_variable g ≡ true → begins_with_variable (g +++ h) ≡ true
+leads_with none h e = absurd cc
+leads_with (leaf x g) h e = absurd cc
+leads_with (node k c g) h e = e
+
+leads_by : (g h i j : Forest) → Like g i → Like h j → begins_with_variable (g +++ h) ≡ true → begins_with_variable (i +++ j) ≡ true
+leads_by none h i j p q e = ap (λ (x : Forest). begins_with_variable (x +++ j)) (p.is_empty refl) ∙ q.leads e
+leads_by (leaf x g) h i j p q e = absurd cc
+leads_by (node k c g) h i j p q e = leads_with i j (p.leads e)
+
 both_none : (g h : Forest) → g ≡ none → h ≡ none → g +++ h ≡ none
 both_none g h e d = ap (λ (x : Forest). x +++ h) e ∙ d
 
@@ -181,6 +196,7 @@ like_join g h i j p q = record {
       (subst (Below (edge_from V83 (edge_from V83 d i) j)) (sym (edges_join V74 e g h))
       (q.edges (edge_from V74 e g) (edge_from V83 d i) (p.edges e d w)));
   begins = begins_by g h i j p q;
+  leads = leads_by g h i j p q;
   is_some = λ e. let z = join_none i j e in both_none g h (p.is_some z.0) (q.is_some z.1);
   is_empty = λ e. let z = join_none g h e in both_none i j (p.is_empty z.0) (q.is_empty z.1);
 }

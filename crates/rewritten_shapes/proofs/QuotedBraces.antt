@@ -13,7 +13,7 @@ use Rattle.php_terminals.specs.Classify.{terminal}
 use Rattle.php_terminals.specs.Words.{operators}
 use Rattle.php_grammar.specs.Accepts.{accepts, same_class}
 use Rattle.php_shapes.specs.Nearest.{goes_on_if, is_to}
-use Rattle.php_shapes.specs.Places.{Operand, may_stand}
+use Rattle.php_shapes.specs.Places.{Embedded, Operand, may_stand}
 use Rattle.php_shapes.specs.Quoted as rules
 use Rattle.php_shapes.specs.Shapes.{IsNode, is_both, is_first, is_node, is_place, is_second, is_word, no_more}
 use Rattle.tracked_changes.specs.Draft.{Draft, no_more, new_leaf, new_node}
@@ -38,7 +38,7 @@ use Rattle.rewritten_shapes.proofs.QuotedPieces.{drawn, seen, new_quoted, seen_l
 -- ---- expressions in braces
 
 pub curly_step : (b : Bool → Option Around) (x : Token) (k : NodeKind) (c : Forest) (y : Token) (rest : Forest)
-    → same_class t.CurlyOpen (terminal x) ≡ true → may_stand V74 (Operand 24) (k, c) ≡ true → IsNode V74 k c
+    → same_class t.CurlyOpen (terminal x) ≡ true → may_stand V74 Embedded (k, c) ≡ true → IsNode V74 k c
     → same_class t.CloseBrace (terminal y) ≡ true → AllGood (leaf x (node k c (leaf y none)))
     → Step rules.quoted_part b (leaf x (node k c (leaf y none))) rest
 curly_step b x k c y rest p m n q w =
@@ -55,7 +55,7 @@ curly_step b x k c y rest p m n q w =
           (and_both (is_mark (terminal (shown_token (hash_comment x)))) (is_mark (terminal (shown_token (hash_comment y))) && true) (shown_mark x t.CurlyOpen e refl)
           (and_both (is_mark (terminal (shown_token (hash_comment y)))) true (shown_mark y t.CloseBrace d refl) refl))
           (is_second (is_second (is_first (is_both (is_word (steady_shown t.CurlyOpen x refl p))
-          (is_both (is_place (good_stands (Operand 24) k c z good refl m) good.shaped)
+          (is_both (is_place (good_stands Embedded k c z good refl m) good.shaped)
           (is_word (steady_shown t.CloseBrace y refl q)) refl) refl))));
       same = leaf_stays b false x t.CurlyOpen (node k c (leaf y rest)) e refl
           ∙ ap (λ (f : Forest). leaf (shown_token (hash_comment x)) (node z.0 z.1 f)) (leaf_stays b false y t.CloseBrace rest d refl);

@@ -139,6 +139,7 @@ whole_good q f g e p r part fine =
         yields = never (ends_in_yield false b) (ends_in_yield false c) (last_yield false g y);
         edges = record { tight = λ h. omega (arith, flat); loose = omega (arith, flat) };
         begins = λ u. absurd cc;
+        leads = λ u. absurd cc;
       };
       becomes = becomes_same k.Quoted;
       levels = below_same 0;

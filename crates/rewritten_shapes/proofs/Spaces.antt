@@ -23,7 +23,7 @@ use Rattle.syntax_rules.specs.Around.{Around, within}
 use Rattle.syntax_rules.specs.HashComment.{hash_comment}
 use Rattle.syntax_rules.specs.SplitName.{begins_root, in_front, is_backslash, is_keyword, is_label, is_name, is_namespace, is_one, is_op}
 use Rattle.rewritten_shapes.specs.Laws.{AreSpelled, begins_namespace, is_label_text, is_namespace_word, opens_name}
-use Rattle.rewritten_shapes.proofs.Bilingual.{label_any, like_word, name_quiet, no_else, front_namespace, no_namespace, quiet_label, shown_terminal, spelled_front}
+use Rattle.rewritten_shapes.proofs.Bilingual.{label_any, like_word, name_quiet, no_else, no_variable, front_namespace, no_namespace, quiet_label, shown_terminal, spelled_front}
 use Rattle.rewritten_shapes.proofs.Calm.{shown_accepts, steady_shown}
 use Rattle.rewritten_shapes.proofs.Kept.{AllGood, Good, Kept, good_rest, kept, kept_both, kept_first, kept_join, kept_second}
 use Rattle.rewritten_shapes.proofs.Like.{like_leaf}
@@ -103,7 +103,7 @@ unit_kept g p s o a b =
     subst (Kept (word t.NamespaceToken) g) (sym same)
     (record {
       fits = is_word (takes_qualified r.0 r.3 r.1 r.2.0 r.2.1 r.4);
-      like = like_word g u (no_else p refl) (λ e. empty g p e) (quiet r.0 r.3 r.1 r.4.kind).0 (quiet r.0 r.3 r.1 r.4.kind).1 (quiet r.0 r.3 r.1 r.4.kind).2;
+      like = like_word g u (no_else p refl) (no_variable p refl) (λ e. empty g p e) (quiet r.0 r.3 r.1 r.4.kind).0 (quiet r.0 r.3 r.1 r.4.kind).1 (quiet r.0 r.3 r.1 r.4.kind).2;
     })
 
 -- the keyword stays apart from the name

@@ -141,6 +141,7 @@ joined_kept x u f g e p =
             ∙ sym (last_of (is_else (terminal x)) (has_else f) one.else_);
         edges = λ m d w. p.like.edges 0 0 (below_same 0);
         begins = λ h. refl;
+        leads = λ h. h;
         is_some = λ h. absurd cc;
         is_empty = λ h. absurd cc;
       };

@@ -19,7 +19,7 @@ use Rattle.syntax_rules.specs.Around.{Around}
 use Rattle.syntax_rules.specs.HashComment.{hash_comment}
 use Rattle.rewritten_shapes.specs.Laws.{AreSpelled, begins_namespace, is_label_text, is_namespace_word}
 use Rattle.rewritten_shapes.specs.RefusedWords.{is_comma, is_keyword_now, is_of_code, is_type_name, is_type_now, is_whole_name}
-use Rattle.rewritten_shapes.proofs.Bilingual.{label_any, like_word, no_else, of_name, shown_terminal}
+use Rattle.rewritten_shapes.proofs.Bilingual.{label_any, like_word, no_else, no_variable, of_name, shown_terminal}
 use Rattle.rewritten_shapes.proofs.Kept.{Kept}
 use Rattle.rewritten_shapes.proofs.Qualified.{qualified_is}
 use Rattle.rewritten_shapes.proofs.Shown.{new_parts, shown, shown_token}
@@ -137,13 +137,13 @@ imported_from n k r f new u x e m same own takes_name takes_class = record {
   as_name = λ h. record {
     fits = is_word (takes_name h);
     like =
-        like_word f u (no_else x e) empty (quiet_by (terminal u) own).0 (quiet_by (terminal u) own).1
+        like_word f u (no_else x e) (no_variable x e) empty (quiet_by (terminal u) own).0 (quiet_by (terminal u) own).1
         (quiet_by (terminal u) own).2;
   };
   as_class = λ h d. record {
     fits = is_word (takes_class h d);
     like =
-        like_word f u (no_else x e) empty (quiet_by (terminal u) own).0 (quiet_by (terminal u) own).1
+        like_word f u (no_else x e) (no_variable x e) empty (quiet_by (terminal u) own).0 (quiet_by (terminal u) own).1
         (quiet_by (terminal u) own).2;
   };
 }

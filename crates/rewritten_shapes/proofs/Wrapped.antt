@@ -4,7 +4,7 @@ use Rattle.php_tree.specs.declared.kind.NodeKind.{NodeKind}
 use Rattle.php_tree.specs.declared.kind.NodeKind.TheVariants as k
 use Rattle.php_tree.specs.declared.kind.NodeKind.TheVariants.{Paren}
 use Rattle.php_tree.specs.declared.version.Version.TheVariants.{V74, V83}
-use Rattle.php_tree.specs.Tree.{Forest, Tree}
+use Rattle.php_tree.specs.Tree.{Forest, Tree, none, node}
 use Rattle.php_terminals.specs.declared.terminal.Terminal.{Terminal}
 use Rattle.php_terminals.specs.declared.terminal.Terminal.TheVariants as t
 use Rattle.php_terminals.specs.Classify.{terminal}
@@ -13,7 +13,7 @@ use Rattle.php_grammar.specs.Accepts.{accepts}
 use Rattle.php_grammar.specs.Edges.{edge, edge_from}
 use Rattle.php_grammar.specs.Levels.{binary_level, level, middle_leaf}
 use Rattle.php_shapes.specs.Nearest.{arrows_are_nearest, elses_are_nearest, ends_in_if, ends_in_yield, goes_on_if, is_nearest, is_open_if, is_open_yield, is_to}
-use Rattle.php_shapes.specs.Places.{Operand, is_class_name, is_expression, is_prefix, may_stand}
+use Rattle.php_shapes.specs.Places.{Operand, begins_with_variable, is_class_name, is_expression, is_prefix, may_stand}
 use Rattle.php_shapes.specs.Shapes.{IsNode, is_both, is_node, is_place, is_word}
 use Rattle.tracked_changes.specs.patches.Patches.{Wrapping, InParens}
 use Rattle.rewritten_shapes.proofs.Kept.{Good, becomes_paren, edge_is, is_bare}
@@ -104,6 +104,13 @@ bare_class k.ShortTernary e = refl
 bare_class k.Cast e = refl
 bare_class _ e = absurd cc
 
+bare_leads : (k : NodeKind) (c : Forest) → is_bare k ≡ true → begins_with_variable (node k c none) ≡ true → ⊥
+bare_leads k.Binary c e d = cc
+bare_leads k.Ternary c e d = cc
+bare_leads k.ShortTernary c e d = cc
+bare_leads k.Cast c e d = cc
+bare_leads _ c e d = cc
+
 bare_expression : (k : NodeKind) → is_bare k ≡ true → is_expression k ≡ true
 bare_expression k.Binary e = refl
 bare_expression k.Ternary e = refl
@@ -125,6 +132,7 @@ paren_good k c f e n i y z = record {
     yields = λ d. absurd (let w : false ≡ true = sym y ∙ d in cc);
     edges = subst (λ m. Below m (max (level V74 (k, c)) (edge_from V74 0 c))) (sym (sym (edge_is V83 Paren f) ∙ z)) (below_zero (max (level V74 (k, c)) (edge_from V74 0 c)));
     begins = λ d. absurd (and_false (is_class_name k) _ (bare_class k e) d);
+    leads = λ d. absurd (bare_leads k c e d);
   };
   becomes = becomes_paren k e;
   levels = below_zero (level V74 (k, c));

@@ -43,7 +43,8 @@ use Rattle.scope_names.specs.Slot.{Declared}
 use Rattle.scope_names.specs.Form.{Form, Part, child, part_before, parts, bits, form, joins, is_name_part, is_namespace, first_is, is_backslash}
 use Rattle.scope_names.specs.Sites.{Site, file_site, is_declaration, declarations, one_if, declared_here, within, within_form, beside, names_beside}
 use Rattle.php_meaning.specs.runs.Kinds.{is_expression}
-use Rattle.php_meaning.specs.names.Tables.{Tables, tables_of, listed, entry, holder, keeps_top, kid_forms, kid_before}
+use Rattle.php_meaning.specs.names.Refused.{kid_forms, kid_form, kid_before, is_type, is_parameter, type_bits, Around, no_loops, refuses, inside, judged, refused}
+use Rattle.php_meaning.specs.names.Tables.{Tables, tables_of, listed, entry, holder, keeps_top, refused_file, file_entry}
 use Rattle.php_meaning.specs.Rules.{rule}
 use Rattle.php_meaning.specs.laws.SameScripts.{HasScriptsOf, nothing, token_before, token_behind, same, HaveScriptsOf, no_more, one_more}
 use Rattle.php_meaning.proofs.Parens.{same_before, names_joined}
@@ -385,13 +386,35 @@ named_scripts t s (inner {k} {c} {d} {f} {g} e p q) =
       beside = beside_is k s e p;
     }) (named_scripts t (within k c s) p) (named_scripts t (beside k c s) q)
 
+type_bits_are : {f g : Forest} → Named f g → type_bits g ≡ type_bits f
+type_bits_are ends = refl
+type_bits_are (token_first p) = type_bits_are p
+type_bits_are (token_last p) = type_bits_are p
+type_bits_are (inner {k} {c} {d} {f} {g} e p q) =
+    ap (λ x. cond (is_type k) x (type_bits g)) (ap bits e) ∙ ap (λ x. cond (is_type k) (form c) x) (type_bits_are q)
+
+kid_form_is : (k : NodeKind) {c d : Forest} → parts d ≡ parts c → Named c d → kid_form k d ≡ kid_form k c
+kid_form_is k {c} {d} e p =
+    ap (λ x. cond (is_parameter k) (type_bits d) [] ++ x) (ap bits e)
+    ∙ ap (λ x. cond (is_parameter k) x [] ++ form c) (type_bits_are p)
+
 kid_forms_are : {f g : Forest} → Named f g → kid_forms g ≡ kid_forms f
 kid_forms_are ends = refl
 kid_forms_are (token_first p) = kid_forms_are p
 kid_forms_are (token_last p) = kid_forms_are p
 kid_forms_are (inner {k} {c} {d} {f} {g} e p q) =
-    ap (λ x. kid_before (is_expression k) (k, x) (kid_forms g)) (ap bits e)
-    ∙ ap (λ ks. kid_before (is_expression k) (k, form c) ks) (kid_forms_are q)
+    ap (λ x. kid_before (is_expression k) (k, x) (kid_forms g)) (kid_form_is k e p)
+    ∙ ap (λ ks. kid_before (is_expression k) (k, kid_form k c) ks) (kid_forms_are q)
+
+refused_is : {f g : Forest} → Named f g → (a : Around) → refused a g ≡ refused a f
+refused_is ends a = refl
+refused_is (token_first p) a = refused_is p a
+refused_is (token_last p) a = refused_is p a
+refused_is (inner {k} {c} {d} {f} {g} e p q) a =
+    ap (λ x. judged (is_expression k) (refuses a k x) (refused (inside a k x (kid_forms d)) d) || refused a g) (ap bits e)
+    ∙ ap (λ x. judged (is_expression k) (refuses a k (form c)) (refused (inside a k (form c) x) d) || refused a g) (kid_forms_are p)
+    ∙ ap (λ x. judged (is_expression k) (refuses a k (form c)) x || refused a g) (refused_is p (inside a k (form c) (kid_forms c)))
+    ∙ ap (λ x. judged (is_expression k) (refuses a k (form c)) (refused (inside a k (form c) (kid_forms c)) c) || x) (refused_is q a)
 
 both_joined : {a b x y : Tables} → a ≡ b → x ≡ y → a ++ x ≡ b ++ y
 both_joined {a} {b} {x} {y} e d = ap (λ z. z ++ x) e ∙ ap (λ z. b ++ z) d
@@ -412,6 +435,11 @@ named_lists (inner {k} {c} {d} {f} {g} e p q) s of top =
     (named_lists p (within k c s) (holder k s) (keeps_top k && top)))
     (ap (λ x. listed x of top g) (beside_is k s e p) ∙ named_lists q (beside k c s) of top)
 
+entry_is : {f g : Forest} → Named f g → (path : Bytes) → file_entry path g ≡ file_entry path f
+entry_is {f} {g} p path =
+    ap (λ b. entry b (refused_file path (declarations g)) []) (refused_is p no_loops)
+    ∙ ap (λ n. entry (refused no_loops f) (refused_file path n) []) (declarations_are p)
+
 -- the same of files by their paths
 pub data AreNamed : List (Bytes × Forest) → List (Bytes × Forest) → Type 0 where
   no_file : AreNamed [] []
@@ -419,7 +447,8 @@ pub data AreNamed : List (Bytes × Forest) → List (Bytes × Forest) → Type 0
 
 pub named_tables : {fs gs : List (Bytes × Forest)} → AreNamed fs gs → tables_of gs ≡ tables_of fs
 named_tables no_file = refl
-named_tables (one_file {path} r rs) = both_joined (named_lists r (file_site path) None true) (named_tables rs)
+named_tables (one_file {path} r rs) =
+    both_joined (named_lists r (file_site path) None true) (both_joined (entry_is r path) (named_tables rs))
 
 pub named_files : (t : Tables) {fs gs : List (Bytes × Forest)} → AreNamed fs gs → HaveScriptsOf t t fs gs
 named_files t no_file = no_more

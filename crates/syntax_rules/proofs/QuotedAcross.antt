@@ -88,7 +88,7 @@ use Rattle.php_meaning.specs.expressions.QuotedTexts.{
   object_of,
   is_filled,
 }
-use Rattle.php_meaning.specs.runs.Run.{Result, Done, Over, then_do, play, Entry, going, place_in, told, left}
+use Rattle.php_meaning.specs.runs.Run.{Result, Done, Over, then_do, play, Entry, going, place_in, told, left, value_of}
 use Rattle.php_meaning.specs.laws.Following.{Same}
 use Rattle.php_meaning.specs.laws.Across.{Claim, world_in, Grown, Meets, FollowsAcross, Across}
 use Rattle.php_meaning.proofs.Across.{grown, grown_more, then_grown, then_follows}
@@ -155,17 +155,18 @@ pub same_told : {w u : World} (s : Site) (id : ℕ) (m : Moment) (v : Option Val
 same_told s id m v e = record { store = e.store; echo = e.echo; turns = e.turns }
 
 -- what a node does that reads a variable, before what goes on with its value
-abbrev pub variable_node : (s : Site) (id : ℕ) (go : Target → World → Result) (name : Bytes) → World → Result
-variable_node s id go name u = left s id Read (play true (place_in s id) go (variable_read name give) (told s id Before None u))
+abbrev pub variable_node : (s : Site) (id : ℕ) (i : Mode) (go : Target → World → Result) (name : Bytes) → World → Result
+variable_node s id i go name u = left s id i (play true (place_in s id) go (variable_read name give) (told s id Before None u))
 
-module _ (claim : Claim) (here : Place) (go to : Target → World → Result) (s : Site) (id : ℕ) (name : Bytes) (m : Value → Script)
+module _ (claim : Claim) (here : Place) (go to : Target → World → Result) (s : Site) (id : ℕ) (i : Mode) (name : Bytes) (m : Value → Script)
     (onward : Out → World → Result) (h : (v : Value) → Across claim (play false here go (m v)) (onward (Val v))) where
   -- by the object that the code runs in
   object_follows : (o : Option ℕ) (w u : World) → Same w u
-      → FollowsAcross claim (play false here go (object_then o m) w) (then_do (left s id Read (play true (place_in s id) to (object_then o give) (told s id Before None u))) onward)
+      → FollowsAcross claim (play false here go (object_then o m) w) (then_do (left s id i (play true (place_in s id) to (object_then o give) (told s id Before None u))) onward)
   object_follows None w u e = λ a i. absurd i
   object_follows (Some n) w u e =
-      (h (Object n)).follows w (told s id After (Some (Object n)) (told s id Before None u)) (same_told s id After (Some (Object n)) (same_told s id Before None e))
+      (h (Object n)).follows w (told s id After (value_of i (Val (Object n))) (told s id Before None u))
+      (same_told s id After (value_of i (Val (Object n))) (same_told s id Before None e))
 
   object_grows : (o : Option ℕ) (w : World) → Grown (world_in (play false here go (object_then o m) w)) w
   object_grows None w = grown w
@@ -174,19 +175,21 @@ module _ (claim : Claim) (here : Place) (go to : Target → World → Result) (s
   variable_follows : (b : Bool) (w u : World) → Same w u
       → FollowsAcross claim
       (play false here go (if b then Look (λ st. object_then (object_of name st) m) else Look (λ st. m (held_or_null st (variable_cell name st)))) w)
-      (then_do (left s id Read (play true (place_in s id) to
+      (then_do (left s id i (play true (place_in s id) to
       (if b then Look (λ st. object_then (object_of name st) give) else Look
       (λ st. give (held_or_null st (variable_cell name st)))) (told s id Before None u))) onward)
   variable_follows true w u e =
       subst (λ st. FollowsAcross claim (play false here go (object_then (object_of name w.store) m) w)
-      (then_do (left s id Read (play true (place_in s id) to (object_then (object_of name st) give)
+      (then_do (left s id i (play true (place_in s id) to (object_then (object_of name st) give)
       (told s id Before None u))) onward))
       (sym e.store) (object_follows (object_of name w.store) w u e)
   variable_follows false w u e =
       let v : Store → Value = λ st. held_or_null st (variable_cell name st) in
-      subst (λ st. FollowsAcross claim (play false here go (m (v w.store)) w) (onward (Val (v st)) (told s id After (Some (v st)) (told s id Before None u))))
+      subst (λ st. FollowsAcross claim (play false here go (m (v w.store)) w)
+      (onward (Val (v st)) (told s id After (value_of i (Val (v st))) (told s id Before None u))))
       (sym e.store)
-      ((h (v w.store)).follows w (told s id After (Some (v w.store)) (told s id Before None u)) (same_told s id After (Some (v w.store)) (same_told s id Before None e)))
+      ((h (v w.store)).follows w (told s id After (value_of i (Val (v w.store))) (told s id Before None u))
+      (same_told s id After (value_of i (Val (v w.store))) (same_told s id Before None e)))
 
   variable_grows : (b : Bool) (w : World)
       → Grown (world_in (play false here go (if b then Look (λ st. object_then (object_of name st) m) else Look (λ st. m (held_or_null st (variable_cell name st)))) w)) w
@@ -194,7 +197,7 @@ module _ (claim : Claim) (here : Place) (go to : Target → World → Result) (s
   variable_grows false w = (h (held_or_null w.store (variable_cell name w.store))).grows w
 
   -- a variable is read where its name stands, and in 8.3 at a node of its own
-  pub variable_across : Across claim (play false here go (variable_read name m)) (λ u. then_do (variable_node s id to name u) onward)
+  pub variable_across : Across claim (play false here go (variable_read name m)) (λ u. then_do (variable_node s id i to name u) onward)
   variable_across = record {
     grows = λ w. variable_grows (is_filled name) w;
     follows = λ w u e. variable_follows (is_filled name) w u e;
@@ -224,7 +227,7 @@ module _ (claim : Claim) (here there : Place) (go to over : Target → World →
   offset_grows (Gives (Returns v)) w = (text_alike claim here there go to v k l h).grows w
   offset_grows (Gives (Throws c)) w = let g = grown w in record { asked = g.asked; visits = g.visits }
 
-  offset_across : (v key : Value)
+  pub offset_across : (v key : Value)
       → Across claim (play false here go (text_at v key k)) (λ u. then_do (left s id Read (play true (place_in s id) over (offset_of Strict v key) u)) behind_text)
   offset_across v key = record {
     grows = λ w. offset_grows (at_offset (cells_of w.store) Strict v key) w;
@@ -234,28 +237,28 @@ module _ (claim : Claim) (here there : Place) (go to over : Target → World →
         (offset_follows (at_offset (cells_of w.store) Strict v key) w u e);
   }
 
-  key_across : (v : Value) (o : Out)
-      → Across claim (play false here go (value_then (λ key. text_at v key k) o))
-      (λ u. then_do (left s id Read (play true (place_in s id) over (value_then (λ key. offset_of Strict v key) o) u)) behind_text)
-  key_across v (Val key) = offset_across v key
-  key_across v (Fresh key) = offset_across v key
-  key_across v (At x) = record { grows = λ w. grown w; follows = λ w u e a i. absurd i }
-  key_across v (Jump x) = record { grows = λ w. grown w; follows = λ w u e a. (refl, record { store = e.store; echo = e.echo; turns = e.turns }) }
+  -- the offset's key is a child in both, behind which comes what does the same
+  module _ (old new : Value → Script)
+      (same : (key : Value) → Across claim (play false here go (old key)) (λ u. then_do (left s id Read (play true (place_in s id) over (new key) u)) behind_text)) where
+    key_across : (o : Out)
+        → Across claim (play false here go (value_then old o)) (λ u. then_do (left s id Read (play true (place_in s id) over (value_then new o) u)) behind_text)
+    key_across (Val key) = same key
+    key_across (Fresh key) = same key
+    key_across (At x) = record { grows = λ w. grown w; follows = λ w u e a i. absurd i }
+    key_across (Jump x) = record { grows = λ w. grown w; follows = λ w u e a. (refl, record { store = e.store; echo = e.echo; turns = e.turns }) }
 
-  -- the offset's key is a child in both
-  pub keyed_across : (v : Value) (i : ℕ) (kid lid : World → Result) → Across claim kid lid
-      → ((w : World) → go (Kid i Read) w ≡ kid w) → ((u : World) → over (Kid 1 Read) u ≡ lid u)
-      → Across claim (play false here go (child_value i (λ key. text_at v key k)))
-      (λ u. then_do (left s id Read (play true (place_in s id) over (child_value 1 (λ key. offset_of Strict v key)) u)) behind_text)
-  keyed_across v i kid lid g e d = record {
-    grows = λ w.
-        subst (λ r. Grown (world_in (then_do r (λ o x. play false here go (value_then (λ key. text_at v key k) o) x))) w) (sym (e w))
-        (then_grown w (kid w) _ (g.grows w) (λ o x. (key_across v o).grows x));
-    follows = λ w u z.
-        subst (λ r. FollowsAcross claim r (then_do (left s id Read (play true (place_in s id) over (child_value 1 (λ key. offset_of Strict v key)) u)) behind_text))
-        (ap (λ r. then_do r (λ o x. play false here go (value_then (λ key. text_at v key k) o) x)) (sym (e w)))
-        (subst (λ r. FollowsAcross claim (then_do (kid w) (λ o x. play false here go (value_then (λ key. text_at v key k) o) x)) r)
-        (sym (ap (λ r. then_do (left s id Read (then_do r (λ o x. play true (place_in s id) over (value_then (λ key. offset_of Strict v key) o) x))) behind_text) (d u)
-        ∙ left_then s id Read (lid u) _ behind_text))
-        (then_follows claim (kid w) (lid u) _ _ (g.follows w u z) (λ o. key_across v o)));
-  }
+    pub keyed_across : (i : ℕ) (kid lid : World → Result) → Across claim kid lid
+        → ((w : World) → go (Kid i Read) w ≡ kid w) → ((u : World) → over (Kid 1 Read) u ≡ lid u)
+        → Across claim (play false here go (child_value i old)) (λ u. then_do (left s id Read (play true (place_in s id) over (child_value 1 new) u)) behind_text)
+    keyed_across i kid lid g e d = record {
+      grows = λ w.
+          subst (λ r. Grown (world_in (then_do r (λ o x. play false here go (value_then old o) x))) w) (sym (e w))
+          (then_grown w (kid w) _ (g.grows w) (λ o x. (key_across o).grows x));
+      follows = λ w u z.
+          subst (λ r. FollowsAcross claim r (then_do (left s id Read (play true (place_in s id) over (child_value 1 new) u)) behind_text))
+          (ap (λ r. then_do r (λ o x. play false here go (value_then old o) x)) (sym (e w)))
+          (subst (λ r. FollowsAcross claim (then_do (kid w) (λ o x. play false here go (value_then old o) x)) r)
+          (sym (ap (λ r. then_do (left s id Read (then_do r (λ o x. play true (place_in s id) over (value_then new o) x))) behind_text) (d u)
+          ∙ left_then s id Read (lid u) _ behind_text))
+          (then_follows claim (kid w) (lid u) _ _ (g.follows w u z) (λ o. key_across o)));
+    }

@@ -36,7 +36,7 @@ use Rattle.php_tree.specs.declared.kind.NodeKind.TheVariants as kind
 use Rattle.php_tree.specs.Tree.{Forest, none, leaf, node, count}
 use Rattle.php_meaning.specs.values.Value.{Value, Text}
 use Rattle.php_meaning.specs.Cause.{NoRule}
-use Rattle.php_meaning.specs.runs.World.{Bytes, Place, Before, World}
+use Rattle.php_meaning.specs.runs.World.{Bytes, Place, Before, After, World}
 use Rattle.php_meaning.specs.literals.Literals.{found}
 use Rattle.php_meaning.specs.literals.Nowdocs.{blanks}
 use Rattle.scope_names.specs.Form.{Form, Word, Child, form}
@@ -63,6 +63,8 @@ use Rattle.php_meaning.specs.runs.Script.{
   Target,
   Kid,
   Script,
+  Location,
+  Found,
   Give,
   Stop,
   Run,
@@ -72,7 +74,7 @@ use Rattle.php_meaning.specs.runs.Script.{
   child_value,
 }
 use Rattle.php_meaning.specs.values.Offsets.{Strict}
-use Rattle.php_meaning.specs.expressions.Expressions.{plain_name, offset_of}
+use Rattle.php_meaning.specs.expressions.Expressions.{plain_name, offset_of, in_variable}
 use Rattle.php_meaning.specs.expressions.QuotedTexts.{
   variable_read,
   Style,
@@ -168,7 +170,7 @@ use Rattle.syntax_rules.proofs.QuotedAcross.{
   text_alike,
   variable_across,
   keyed_across,
-  behind_text,
+  offset_across,
 }
 
 -- ---- common steps
@@ -233,8 +235,13 @@ unused t low s x jd u =
 
 -- a variable's node
 variable_step : (t : Tables) (low : Entry → World → Result) (s : Site) (x : Token) (g : Forest) (jd : ℕ) (word : Bytes) → x.text ≡ 36 ∷ word → (u : World)
-    → step true t [] low s (node kind.Variable (leaf x none) g) jd 0 Read u ≡ variable_node s jd (unused t low s x jd u) word u
-variable_step t low s x g jd word e u = ap (λ y. variable_node s jd (unused t low s x jd u) (plain_name y) u) e
+    → step true t [] low s (node kind.Variable (leaf x none) g) jd 0 Read u ≡ variable_node s jd Read (unused t low s x jd u) word u
+variable_step t low s x g jd word e u = ap (λ y. variable_node s jd Read (unused t low s x jd u) (plain_name y) u) e
+
+-- the same as a base that is found
+found_step : (t : Tables) (low : Entry → World → Result) (s : Site) (x : Token) (g : Forest) (jd : ℕ) (word : Bytes) → x.text ≡ 36 ∷ word → (l : Location) (u : World)
+    → step true t [] low s (node kind.Variable (leaf x none) g) jd 0 (Found l) u ≡ variable_node s jd (Found l) (unused t low s x jd u) word u
+found_step t low s x g jd word e l u = ap (λ y. variable_node s jd (Found l) (unused t low s x jd u) (plain_name y) u) e
 
 module _ (claim : Claim) (t : Tables) (marks : List Mark) (lower low : Entry → World → Result) (here there : Place)
     (kid lid : ℕ → Mode → World → Result) (again anew : Mode → World → Result) where
@@ -266,8 +273,8 @@ module _ (claim : Claim) (t : Tables) (marks : List Mark) (lower low : Entry →
     read_named : (over : Target → World → Result)
         → Across claim (play false here (going lower kid again)
         (variable_read word (λ y. text_then y (λ b. quoted style (InText false) (bytes ++ b) i f))))
-        (λ u. then_do (variable_node s jd over word u) named_onward)
-    read_named over = variable_across claim here (going lower kid again) over s jd word (λ y. text_then y (λ b. quoted style (InText false) (bytes ++ b) i f)) named_onward
+        (λ u. then_do (variable_node s jd Read over word u) named_onward)
+    read_named over = variable_across claim here (going lower kid again) over s jd Read word (λ y. text_then y (λ b. quoted style (InText false) (bytes ++ b) i f)) named_onward
         (λ y. text_alike claim here there (going lower kid again) (going low lid anew) y
         (λ b. quoted style (InText false) (bytes ++ b) i f)
         (λ b. quoted style BeforeBrace (bytes ++ b) (suc j) (Word token.Op (codes "}") ∷ g)) p)
@@ -304,8 +311,15 @@ module _ (claim : Claim) (t : Tables) (marks : List Mark) (lower low : Entry →
     abbrev target_rest : Bytes → Script
     target_rest z = quoted style BeforeBrace (bytes ++ z) (suc j) (Word token.Op (codes "}") ∷ g)
 
+    -- in the source the variable is read once its key was evaluated; in the target its node is found then
     abbrev old_offset : Value → Script
-    old_offset value = child_value i (λ key. text_at value key source_rest)
+    old_offset key = variable_read word (λ value. text_at value key source_rest)
+
+    abbrev base_found : Location
+    base_found = in_variable (plain_name x.text)
+
+    abbrev new_offset : Value → Script
+    new_offset key = Run (Kid 0 (Found base_found)) (value_then (λ value. offset_of Strict value key))
 
     -- what the node of the offset runs
     abbrev offset_over : World → Target → World → Result
@@ -317,26 +331,46 @@ module _ (claim : Claim) (t : Tables) (marks : List Mark) (lower low : Entry →
     abbrev text_onward : Out → World → Result
     text_onward e w = play true there (going low lid anew) (value_then (λ value. text_then value target_rest) e) w
 
-    abbrev offset_onward : World → Out → World → Result
-    offset_onward u e w = then_do (left s jd Read (play true (place_in s jd) (offset_over u)
-        (value_then (λ value. child_value 1 (λ key. offset_of Strict value key)) e) w)) text_onward
+    abbrev value_onward : World → Value → Out → World → Result
+    value_onward u key e w = then_do (left s jd Read (play true (place_in s jd) (offset_over u) (value_then (λ value. offset_of Strict value key) e) w)) text_onward
 
-    read_offset : (u : World) → Across claim (play false here (going lower kid again) (variable_read word old_offset))
-        (λ w. then_do (variable_node s (suc jd) (unused t low s x (suc jd) u) word w) (offset_onward u))
-    read_offset u = variable_across claim here (going lower kid again) (unused t low s x (suc jd) u) s (suc jd) word old_offset (offset_onward u)
-        (λ value. keyed_across claim here there (going lower kid again) (going low lid anew) (offset_over u) s jd source_rest target_rest p value i
+    read_value : (u : World) (key : Value) (over : Target → World → Result) → Across claim (play false here (going lower kid again) (old_offset key))
+        (λ w. then_do (variable_node s (suc jd) (Found base_found) over word w) (value_onward u key))
+    read_value u key over = variable_across claim here (going lower kid again) over s (suc jd) (Found base_found) word
+        (λ value. text_at value key source_rest) (value_onward u key)
+        (λ value. offset_across claim here there (going lower kid again) (going low lid anew) (offset_over u) s jd source_rest target_rest p value key)
+
+    found_is : (u : World) (key : Value) (w : World)
+        → then_do (left s jd Read (play true (place_in s jd) (offset_over u) (new_offset key) w)) text_onward
+        ≡ then_do (variable_node s (suc jd) (Found base_found) (unused t low s x (suc jd) w) word w) (value_onward u key)
+    found_is u key w =
+        left_then s jd Read (step true t [] low s offset_parts (suc jd) 0 (Found base_found) w)
+        (λ e z. play true (place_in s jd) (offset_over u) (value_then (λ value. offset_of Strict value key) e) z) text_onward
+        ∙ ap (λ e. then_do e (value_onward u key)) (found_step t low s x (leaf o (node b d (leaf y none))) (suc jd) word n base_found w)
+
+    read_offset : (u : World) → Across claim (play false here (going lower kid again) (child_value i old_offset))
+        (λ w. then_do (left s jd Read (play true (place_in s jd) (offset_over u) (child_value 1 new_offset) w)) text_onward)
+    read_offset u =
+        keyed_across claim here there (going lower kid again) (going low lid anew) (offset_over u) s jd source_rest target_rest p old_offset new_offset
+        (λ key. record {
+          grows = λ w. (read_value u key (unused t low s x (suc jd) w)).grows w;
+          follows = λ w z e.
+              subst (λ r. FollowsAcross claim (play false here (going lower kid again) (old_offset key) w) r) (sym (found_is u key z))
+              ((read_value u key (unused t low s x (suc jd) z)).follows w z e);
+        })
+        i
         (step false t marks lower s (node a c none) id 0 Read)
         (step true t [] low (beside kind.Variable (leaf x none) s) (node b d none)
         (suc (suc jd + count (leaf x none))) 0 Read)
-        r (λ w. k 0 Read w) (λ w. refl))
+        r (λ w. k 0 Read w) (λ w. refl)
+
+    -- once the base was evaluated early, which changes nothing
+    abbrev begun_at : World → World
+    begun_at u = told s (suc jd) After None (told s (suc jd) Before None (told s jd Before None u))
 
     there_is : (u : World) → play true there (going low lid anew) (child_value j (λ value. text_then value target_rest)) u
-        ≡ then_do (variable_node s (suc jd) (unused t low s x (suc jd) (told s jd Before None u)) word (told s jd Before None u)) (offset_onward u)
-    there_is u =
-        ap (λ e. then_do e text_onward) (l 0 Read u)
-        ∙ left_then s jd Read (step true t [] low s offset_parts (suc jd) 0 Read (told s jd Before None u))
-        (λ e w. play true (place_in s jd) (offset_over u) (value_then (λ value. child_value 1 (λ key. offset_of Strict value key)) e) w) text_onward
-        ∙ ap (λ e. then_do e (offset_onward u)) (variable_step t low s x (leaf o (node b d (leaf y none))) (suc jd) word n (told s jd Before None u))
+        ≡ then_do (left s jd Read (play true (place_in s jd) (offset_over u) (child_value 1 new_offset) (begun_at u))) text_onward
+    there_is u = ap (λ e. then_do e text_onward) (l 0 Read u)
 
     pub offset_alike : SourceToTarget
         (quoted style (InText fresh) bytes i (Word token.DollarBrace text ∷ Word token.VarName word
@@ -345,6 +379,6 @@ module _ (claim : Claim) (t : Tables) (marks : List Mark) (lower low : Entry →
     offset_alike = record {
       grows = λ w. (read_offset w).grows w;
       follows = λ w u e.
-          subst (λ z. FollowsAcross claim (play false here (going lower kid again) (variable_read word old_offset) w) z) (sym (there_is u))
-          ((read_offset u).follows w (told s jd Before None u) (same_told s jd Before None e));
+          subst (λ z. FollowsAcross claim (play false here (going lower kid again) (child_value i old_offset) w) z) (sym (there_is u))
+          ((read_offset u).follows w (begun_at u) (same_told s (suc jd) After None (same_told s (suc jd) Before None (same_told s jd Before None e))));
     }

@@ -72,6 +72,7 @@ use Rattle.php_meaning.specs.runs.Script.{
   child_value,
   Top,
   Unchanged,
+  Early,
   stands,
 }
 use Rattle.php_meaning.specs.values.Offsets.{Strict}
@@ -219,6 +220,7 @@ float_script : (t : Tables) (s : Site) (a b : TokenKind) (w v : Bytes) → cast_
 float_script t s a b w v e d Read = ap (λ x. cast (found casts (cast_word x))) d ∙ sym (ap (λ x. cast (found casts x)) e)
 float_script t s a b w v e d Quiet = ap (λ x. cast (found casts (cast_word x))) d ∙ sym (ap (λ x. cast (found casts x)) e)
 float_script t s a b w v e d Top = ap (λ x. cast (found casts (cast_word x))) d ∙ sym (ap (λ x. cast (found casts x)) e)
+float_script t s a b w v e d Early = ap (λ x. cast (found casts (cast_word x))) d ∙ sym (ap (λ x. cast (found casts x)) e)
 float_script t s a b w v e d (Unchanged y) = ap (λ x. cast_again (found casts (cast_word x))) d ∙ sym (ap (λ x. cast_again (found casts x)) e)
 float_script t s a b w v e d m = refl
 
@@ -278,6 +280,7 @@ module _ (claim : Claim) (t : Tables) where
       by_mode Read = opened
       by_mode Quiet = opened
       by_mode Top = opened
+      by_mode Early = opened
       by_mode (Unchanged v) = gives_alike claim (place_in s id) (place_in s jd) (going lower kid again) (going low lid anew) stands
       by_mode m = stops_alike claim (place_in s id) (place_in s jd) (going lower kid again) (going low lid anew) NoRule (Stop NoRule)
 

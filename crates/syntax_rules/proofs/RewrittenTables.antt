@@ -9,6 +9,7 @@ use Rattle.std.proofs.Common.{
   false,
   ◌&&◌,
   ◌||◌,
+  cond,
   IsTrue,
   List,
   [],
@@ -39,8 +40,9 @@ use Rattle.scope_names.specs.Slot.{Declared}
 use Rattle.scope_names.specs.Form.{Form, Word, Child, Part, word, child, part_of, part_before, parts, bits, form, joins, is_name_part, is_namespace, first_is, is_backslash}
 use Rattle.scope_names.specs.Sites.{Site, file_site, is_declaration, declarations, one_if, declared_here, within, within_form, beside, names_beside}
 use Rattle.php_meaning.specs.runs.Kinds.{is_expression}
-use Rattle.php_meaning.specs.names.Tables.{Tables, tables_of, listed, entry, holder, keeps_top, kid_forms, kid_before}
-use Rattle.php_meaning.proofs.Parens.{same_before, Plain, expression_plain}
+use Rattle.php_meaning.specs.names.Refused.{kid_forms, kid_form, kid_before, is_type, is_parameter, type_bits, Around, no_loops, refuses, inside, judged, refused}
+use Rattle.php_meaning.specs.names.Tables.{Tables, tables_of, listed, entry, holder, keeps_top, refused_file, file_entry}
+use Rattle.php_meaning.proofs.Parens.{same_before, no_type, Plain, expression_plain}
 use Rattle.syntax_rules.specs.Keeps.{token_of}
 use Rattle.syntax_rules.proofs.Rewrites.{
   IsToken,
@@ -183,17 +185,55 @@ beside_variable s = ap (λ n. record s { number = n }) (zero-add s.number)
 
 -- ---- tables
 
+type_bits_same : {f g : Forest} → Rewrites f g → type_bits g ≡ type_bits f
+type_bits_same ends = refl
+type_bits_same (same_token i r) = type_bits_same r
+type_bits_same (inner {k} {c} {d} {f} {g} p q) =
+    ap (λ x. cond (is_type k) x (type_bits g)) (forms_same p) ∙ ap (λ x. cond (is_type k) (form c) x) (type_bits_same q)
+type_bits_same (changed {k} {j} {c} {d} {f} {g} p q) =
+    ap (λ b. cond b (form d) (type_bits g)) (no_type j (new_expression p)) ∙ type_bits_same q
+    ∙ ap (λ b. cond b (form c) (type_bits f)) (sym (no_type k (old_expression p)))
+type_bits_same (parens {k} {j} {c} {d} {f} {g} e p q) =
+    type_bits_same q ∙ ap (λ b. cond b (form c) (type_bits f)) (sym (no_type k e))
+
+kid_form_same : (k : NodeKind) {c d : Forest} → Rewrites c d → kid_form k d ≡ kid_form k c
+kid_form_same k {c} {d} p =
+    ap (λ x. cond (is_parameter k) (type_bits d) [] ++ x) (forms_same p)
+    ∙ ap (λ x. cond (is_parameter k) x [] ++ form c) (type_bits_same p)
+
 pub kid_forms_same : {f g : Forest} → Rewrites f g → kid_forms g ≡ kid_forms f
 kid_forms_same ends = refl
 kid_forms_same (same_token i r) = kid_forms_same r
 kid_forms_same (inner {k} {c} {d} {f} {g} p q) =
-    ap (λ x. kid_before (is_expression k) (k, x) (kid_forms g)) (forms_same p)
-    ∙ ap (λ ks. kid_before (is_expression k) (k, form c) ks) (kid_forms_same q)
+    ap (λ x. kid_before (is_expression k) (k, x) (kid_forms g)) (kid_form_same k p)
+    ∙ ap (λ ks. kid_before (is_expression k) (k, kid_form k c) ks) (kid_forms_same q)
 kid_forms_same (changed {k} {j} {c} {d} {f} {g} p q) =
-    ap (λ b. kid_before b (j, form d) (kid_forms g)) (new_expression p) ∙ kid_forms_same q
-    ∙ ap (λ b. kid_before b (k, form c) (kid_forms f)) (sym (old_expression p))
+    ap (λ b. kid_before b (j, kid_form j d) (kid_forms g)) (new_expression p) ∙ kid_forms_same q
+    ∙ ap (λ b. kid_before b (k, kid_form k c) (kid_forms f)) (sym (old_expression p))
 kid_forms_same (parens {k} {j} {c} {d} {f} {g} e p q) =
-    kid_forms_same q ∙ ap (λ b. kid_before b (k, form c) (kid_forms f)) (sym e)
+    kid_forms_same q ∙ ap (λ b. kid_before b (k, kid_form k c) (kid_forms f)) (sym e)
+
+-- what PHP refuses to compile, it refuses of the rewritten file too
+refused_same : {f g : Forest} → Rewrites f g → (a : Around) → refused a g ≡ refused a f
+refused_same ends a = refl
+refused_same (same_token i r) a = refused_same r a
+refused_same (inner {k} {c} {d} {f} {g} p q) a =
+    ap (λ x. judged (is_expression k) (refuses a k x) (refused (inside a k x (kid_forms d)) d) || refused a g) (forms_same p)
+    ∙ ap (λ x. judged (is_expression k) (refuses a k (form c)) (refused (inside a k (form c) x) d) || refused a g) (kid_forms_same p)
+    ∙ ap (λ x. judged (is_expression k) (refuses a k (form c)) x || refused a g) (refused_same p (inside a k (form c) (kid_forms c)))
+    ∙ ap (λ x. judged (is_expression k) (refuses a k (form c)) (refused (inside a k (form c) (kid_forms c)) c) || x) (refused_same q a)
+refused_same (changed {k} {j} {c} {d} {f} {g} p q) a =
+    ap (λ b. judged b (refuses a j (form d)) (refused (inside a j (form d) (kid_forms d)) d) || refused a g) (new_expression p)
+    ∙ refused_same q a
+    ∙ ap (λ b. judged b (refuses a k (form c)) (refused (inside a k (form c) (kid_forms c)) c) || refused a f) (sym (old_expression p))
+refused_same (parens {k} {j} {c} {d} {f} {g} e p q) a =
+    refused_same q a
+    ∙ ap (λ b. judged b (refuses a k (form c)) (refused (inside a k (form c) (kid_forms c)) c) || refused a f) (sym e)
+
+entry_same : {f g : Forest} → Rewrites f g → (path : Bytes) → file_entry path g ≡ file_entry path f
+entry_same {f} {g} p path =
+    ap (λ b. entry b (refused_file path (declarations g)) []) (refused_same p no_loops)
+    ∙ ap (λ n. entry (refused no_loops f) (refused_file path n) []) (declarations_same p)
 
 both_joined : {a b x y : Tables} → a ≡ b → x ≡ y → a ++ x ≡ b ++ y
 both_joined {a} {b} {x} {y} e d = ap (λ z. z ++ x) e ∙ ap (λ z. b ++ z) d
@@ -322,4 +362,5 @@ pub data AreRewrites : List (Bytes × Forest) → List (Bytes × Forest) → Typ
 
 pub tables_same : {fs gs : List (Bytes × Forest)} → AreRewrites fs gs → tables_of gs ≡ tables_of fs
 tables_same no_file = refl
-tables_same (one_file {path} r rs) = both_joined (listed_same r (file_site path) None true) (tables_same rs)
+tables_same (one_file {path} r rs) =
+    both_joined (listed_same r (file_site path) None true) (both_joined (entry_same r path) (tables_same rs))

@@ -13,7 +13,7 @@ use Rattle.php_meaning.specs.names.Tables.{Tables}
 use Rattle.php_meaning.specs.literals.Literals.{found}
 use Rattle.php_meaning.specs.runs.Stores.{held_or_null, variable_cell}
 use Rattle.php_meaning.specs.runs.World.{Bytes, Store, Place, Outside, Before, After, World}
-use Rattle.php_meaning.specs.runs.Script.{Val, Mode, Read, Quiet, Target, Stop, Look, give, value_then, child_value, Top, Unchanged, stands}
+use Rattle.php_meaning.specs.runs.Script.{Val, Mode, Read, Quiet, Target, Stop, Look, give, value_then, child_value, Top, Unchanged, Early, stands}
 use Rattle.php_meaning.specs.expressions.QuotedTexts.{object_then, variable_read, object_of, is_filled}
 use Rattle.php_meaning.specs.expressions.Expressions.{plain_name}
 use Rattle.php_meaning.specs.Rules.{rule, cast, casts, cast_word, cast_again}
@@ -184,6 +184,7 @@ module _ (claim : Claim) (t t' : Tables) (s : Site) (u x o n p : Token) (is_unse
   unset_modes marks lower low h id jd Read = reads_across marks lower low id jd Read refl refl
   unset_modes marks lower low h id jd Quiet = reads_across marks lower low id jd Quiet refl refl
   unset_modes marks lower low h id jd Top = reads_across marks lower low id jd Top refl refl
+  unset_modes marks lower low h id jd Early = reads_across marks lower low id jd Early refl refl
   unset_modes marks lower low h id jd (Unchanged v) = again_across marks lower low id jd v
   unset_modes marks lower low h id jd m = stops_across marks lower low h id jd m (λ w. refl)
 

@@ -77,6 +77,7 @@ use Rattle.syntax_upgrade.specs.Calm.{
   may_join,
   may_take,
 }
+use Rattle.syntax_upgrade.specs.NullsafeText.{is_question}
 use Rattle.syntax_upgrade.specs.ReservedName.{is_doubtful}
 use Rattle.syntax_upgrade.specs.CalmRuns.{AllCalm, AreRun, Stays, behind_mark, runs}
 
@@ -120,7 +121,8 @@ token_is x h =
     let a = both (is_calm_token x.kind) _ h in
     let b = both (not (is_doubtful (terminal x))) _ a.1 in
     let c = both (is_calm_text x.text) _ b.1 in
-    let d = both (not (has_hash x.lead)) (not (is_enum x.kind x.text)) c.1 in
+    let d = both (not (has_hash x.lead)) _ c.1 in
+    let e = both (not (is_enum x.kind x.text)) (not (is_question x)) d.1 in
     let t = text_is x.text c.0 in
     record {
       lead = not_so (has_hash x.lead) d.0;
@@ -129,7 +131,8 @@ token_is x h =
       no_brace = not_brace x.kind a.0;
       no_root = t.no_root;
       sure = not_so (is_doubtful (terminal x)) b.0;
-      no_enum = not_so (is_enum x.kind x.text) d.1;
+      no_enum = not_so (is_enum x.kind x.text) e.0;
+      no_question = not_so (is_question x) e.1;
     }
 
 -- ---- some tokens

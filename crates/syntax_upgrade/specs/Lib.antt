@@ -21,6 +21,8 @@ pub mod Labels
 pub mod Spans
 pub mod OffPlaces
 pub mod RulesOn
+pub mod NullsafeText
+pub mod Traits
 pub mod Reports
 pub mod Walk
 pub mod Calm

@@ -1,5 +1,5 @@
--- The reports of a file, in the order of a walk: the places at which a rule on syntax is undecided, and those of rules that are
--- off.
+-- The reports of a file, in the order of a walk: the places at which a rule on syntax is undecided, those of forms of which
+-- nothing is claimed, and those of rules that are off.
 use Rattle.std.specs.Prelude.{ℕ, zero, suc, ◌&&◌, if◌then◌else◌, List, [], ◌∷◌, ◌++◌}
 use Rattle.rule_tables.specs.declared.cause.Cause.TheVariants.{Shape}
 use Rattle.rule_tables.specs.declared.rule.RuleId.TheVariants as rule
@@ -12,6 +12,8 @@ use Rattle.php_terminals.specs.Classify.{terminal}
 use Rattle.syntax_rules.specs.UnsetCast.{is_undecided}
 use Rattle.syntax_upgrade.specs.Found.{Report, text_start, undecided}
 use Rattle.syntax_upgrade.specs.NameHeads.{head_at}
+use Rattle.syntax_upgrade.specs.NullsafeText.{nullsafe_reports}
+use Rattle.syntax_upgrade.specs.Traits.{trait_reports}
 use Rattle.syntax_upgrade.specs.ReservedName.{Standing, at_first, past, past_node, class_by, next, is_last, refuses, refuses_last, refused_if}
 use Rattle.syntax_rules.specs.declared.rules.Rules.{Rules}
 use Rattle.syntax_upgrade.specs.Enums.{enums}
@@ -22,10 +24,12 @@ abbrev pub cast_reports : ℕ → Tree → List Report
 cast_reports at n =
     if is_undecided n then undecided rule.UnsetCast Shape (text_start at (leaves n.1)) (end_of at n.1) ∷ [] else []
 
--- The rules that report nodes whose trivia begin at a place: one line a rule.
+-- The rules and forms that report nodes whose trivia begin at a place: one line each.
 abbrev pub node_rules : List (ℕ → Tree → List Report)
 node_rules =
     cast_reports
+    ∷ nullsafe_reports
+    ∷ trait_reports
     ∷ []
 
 -- what these say of a node

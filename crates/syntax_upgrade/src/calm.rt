@@ -10,6 +10,7 @@ ghost use Rattle.syntax_upgrade.specs.CalmRuns.{AreRun, Stays, behind_mark, runs
 
 use crate::hash_comment::has_hash;
 use crate::labels::is_enum;
+use crate::nullsafe_text::is_question;
 use crate::reserved_name::is_doubtful;
 use crate::split_name::is_keyword;
 use php_rows::{Flat, Parts};
@@ -75,8 +76,12 @@ fn is_calm_kind(kind: NodeKind) -> bool
     ensures { result ≡ spec.is_calm_kind kind }
 {
     match kind {
-        NodeKind::Ternary | NodeKind::ShortTernary | NodeKind::BraceOffset | NodeKind::Cast =>
-            false,
+        NodeKind::Ternary
+        | NodeKind::ShortTernary
+        | NodeKind::BraceOffset
+        | NodeKind::Cast
+        | NodeKind::Trait
+        | NodeKind::TraitUse => false,
         _ => true,
     }
 }
@@ -137,7 +142,8 @@ fn is_calm(bytes: &[u8], mark: Mark) -> bool
     is_calm_token(mark.kind)
         && (!is_doubtful(mark.class)
             && (is_calm_text(text)
-                && (!has_hash(lead_of(bytes, mark)) && !is_enum(mark.kind, text))))
+                && (!has_hash(lead_of(bytes, mark))
+                    && (!is_enum(mark.kind, text) && !is_question(mark.kind, text)))))
 }
 
 // Behind a token that stands behind another one.

@@ -2,16 +2,16 @@
 ghost use Rattle.std.specs.Prelude.{◌≡◌, ◌≤◌, ◌+◌, ◌*◌, ◌^◌, ◌++◌, ◌∷◌, [], map, IfOk, OnOk};
 ghost use Rattle.std.specs.List.Sorted.{IsNonDecreasingBy, IsPermutation};
 ghost use Rattle.rule_tables.specs.Rules.{number_of, undecided_weight_of};
-ghost use Rattle.syntax_upgrade.specs.Found.{found_of, off, order_of};
+ghost use Rattle.syntax_upgrade.specs.Found.{found_of, off, order_of, outside};
 
 use rule_tables::{Cause, RuleId, Span, Weight};
 use std::alloc::AllocError;
 
-/// A place of a rule that stays as it is, in bytes of the file, with its cause and its weight.
+/// A place that stays as it is, in bytes of the file: the number of its rule or its form, its cause and its weight.
 #[derive(Clone, Copy, Debug, PartialEq, Eq)]
 pub struct Found {
     pub span: Span,
-    pub rule: RuleId,
+    pub code: u16,
     pub cause: Cause,
     pub weight: Weight,
 }
@@ -26,11 +26,11 @@ pub(crate) fn add(
 ) -> Result<(), AllocError>
     requires { start ≤ end }
     ensures { OnOk result (map found_of out.new.items ≡ map found_of out.old.items
-        ++ record { start = start; end = end; rule = rule; cause = cause; weight = undecided_weight_of rule } ∷ []) }
+        ++ record { start = start; end = end; code = number_of rule; cause = cause; weight = undecided_weight_of rule } ∷ []) }
 {
     out.push(Found {
         span: Span { start, end },
-        rule,
+        code: rule.number(),
         cause,
         weight: rule.undecided_weight(),
     })?;
@@ -49,23 +49,42 @@ pub(crate) fn add_off(
 {
     out.push(Found {
         span: Span { start, end },
-        rule,
+        code: rule.number(),
         cause: Cause::Off,
         weight: rule.weight(),
     })?;
     Ok(())
 }
 
-// A number by which places are in order of start, then end, then the rule's number.
+/// Puts a form, by its number, of which nothing is claimed behind others.
+pub(crate) fn add_outside(
+    start: u32,
+    end: u32,
+    form: u16,
+    out: &mut Vec<Found>,
+) -> Result<(), AllocError>
+    requires { start ≤ end }
+    ensures { OnOk result (map found_of out.new.items ≡ map found_of out.old.items ++ outside form start end ∷ []) }
+{
+    out.push(Found {
+        span: Span { start, end },
+        code: form,
+        cause: Cause::Always,
+        weight: Weight::Compile,
+    })?;
+    Ok(())
+}
+
+// A number by which places are in order of start, then end, then code.
 fn order(place: &Found) -> u128
     ensures { result ≡ order_of place.now }
 {
     place.span.start as u128 * 4_294_967_296 * 65_536
         + place.span.end as u128 * 65_536
-        + place.rule.number() as u128
+        + place.code as u128
 }
 
-/// The places in order of start, then end, then the rule's number.
+/// The places in order of start, then end, then code.
 pub(crate) fn in_order(places: Vec<Found>) -> Result<Vec<Found>, AllocError>
     ensures same { IfOk result (λ v. IsPermutation places.items v.items) }
     ensures ordered { IfOk result (λ v. IsNonDecreasingBy order_of v.items) }

@@ -10,12 +10,7 @@ use Rattle.php_meaning.specs.laws.Laws.{KeepsMeaning, KeepsRuns}
 use Rattle.php_meaning.specs.laws.Asking.{asks_nothing}
 use Rattle.rule_tables.specs.SettingsView.{SettingsView}
 use Rattle.syntax_rules.specs.NestedTernary.{program}
-use Rattle.syntax_rules.specs.Together.{every_rule}
-use Rattle.syntax_upgrade.specs.RulesOn.{rules_in}
-use Rattle.written_tokens.specs.tokens.Written.{NoNullsafeText}
 use Rattle.written_reading.specs.Laws.{IsRead}
-use Rattle.rewritten_shapes.specs.paired.Traits.{PlainTraits}
-use Rattle.written_reading.specs.edited.PlainTexts.{PlainTexts}
 use Rattle.io_ports.specs.Files as ports
 use Rattle.io_ports.specs.Files.{content}
 use Rattle.upgrade_core.specs.Files.{Trees}
@@ -26,18 +21,10 @@ use Rattle.upgrade_cli.specs.Reports.{marks}
 use Rattle.upgrade_cli.specs.Outcome.{Through, name_of, writes, planned_files, with_written, counts}
 use Rattle.upgrade_cli.specs.Run.{status_of}
 
--- The files of which it is said what 8.3 reads. Quoted texts have no `?->` and a letter directly behind a simple variable,
--- which from 8.0 on belong to the variable (RFC "Nullsafe operator"). The other two are as PHP has them, where the grammar here
--- takes more: between the braces of a trait's use names and words, and behind `{$` in a quoted text no operator leftmost.
-pub record IsPlain (tree : File) : Type 0 where
-  pub nullsafe : NoNullsafeText tree
-  pub traits : PlainTraits tree.statements
-  pub texts : PlainTexts tree.statements
-
--- 8.3 reads in what is written exactly the rewritten tree, and no other, where no rule is off and the source has no report.
+-- 8.3 reads in what is written exactly the rewritten tree, and no other, where the source has no report.
 abbrev pub ReadsBack : SettingsView → File → Type 0
 ReadsBack settings tree =
-    rules_in settings ≡ every_rule → reports settings tree ≡ [] → IsPlain tree → IsRead V83 (rewritten settings tree)
+    reports settings tree ≡ [] → IsRead V83 (rewritten settings tree)
 
 -- What is written of a file's bytes, which 7.4 reads as this tree by all of its tokens and all of its grammar: the rewritten
 -- tree, printed. It is the bytes with the file's edits made, and the edits stand apart within them: each other byte stays.

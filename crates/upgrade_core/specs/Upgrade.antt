@@ -8,7 +8,6 @@ use Rattle.io_ports.specs.declared.report.Weight.TheVariants as weight
 use Rattle.php_tree.specs.Tree.{File, file_printed}
 use Rattle.rule_tables.specs.SettingsView.{SettingsView}
 use Rattle.rule_tables.specs.Causes.{cause_number}
-use Rattle.rule_tables.specs.Rules.{number_of}
 use Rattle.span_edits.specs.declared.edit.Edit.{Edit}
 use Rattle.syntax_rules.specs.Rewritten as rules
 use Rattle.syntax_upgrade.specs.Found as found
@@ -37,7 +36,7 @@ pub record IsReportOf (path : List ℕ) (place : found.Report) (r : Report) : Ty
   pub file : r.path ≡ path
   pub start : r.span.start ≡ place.start
   pub end : r.span.end ≡ place.end
-  pub code : r.code ≡ number_of place.rule
+  pub code : r.code ≡ place.code
   pub cause : r.cause ≡ cause_number place.cause
   pub weight : r.weight ≡ place.weight
 

@@ -26,7 +26,7 @@ fn report_of(alloc: Global, path: &PathText, place: &Found) -> Result<Report, Al
     Ok(Report {
         path,
         span: place.span,
-        code: place.rule.number(),
+        code: place.code,
         cause: place.cause.number(),
         weight: place.weight,
     })

@@ -24,3 +24,5 @@ pub mod WholeFiles
 pub mod KeywordTexts
 pub mod Composed
 pub mod Plainly
+pub mod PlainTexts
+pub mod ShapedTexts

@@ -62,6 +62,6 @@ impl SourceTree for CalmSource {
     }
 
     fn settings(&mut self, name: &str, max: u64, into: &mut Vec<u8>) -> Result<Found, PortFault> {
-        Ok(files::read_of(self.stored.as_slice(), name, max, into)?)
+        Ok(files::read_unordered(self.stored.as_slice(), name, max, into)?)
     }
 }

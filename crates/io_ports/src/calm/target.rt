@@ -1,7 +1,7 @@
 // A target in memory, of which no call fails.
 ghost use Rattle.std.specs.Prelude.{◌≡◌};
 ghost use Rattle.io_ports.specs.Files.{IsTree};
-ghost use Rattle.io_ports.specs.Memory.{calm_target_files};
+ghost use Rattle.io_ports.specs.Props.{tree_prop};
 
 use crate::fault::PortFault;
 use crate::memory::files;
@@ -14,9 +14,12 @@ use std::alloc::Global;
 pub struct CalmTarget {
     alloc: Global,
     files: Vec<(PathText, Bytes)>,
+    ghost ordered: { IsTree files.items } by { tree_prop files.items },
 }
 
 impl CalmTarget {
+    ghost use Rattle.io_ports.specs.Memory.{calm_target_files};
+
     /// These files, whose paths strictly ascend.
     pub fn new(alloc: Global, files: Vec<(PathText, Bytes)>) -> CalmTarget
         requires { IsTree files.items }

@@ -108,6 +108,6 @@ impl SourceTree for MemorySource {
         if self.tally.fails() {
             return Err(PortFault::Failed);
         }
-        Ok(files::read_of(self.stored.as_slice(), name, max, into)?)
+        Ok(files::read_unordered(self.stored.as_slice(), name, max, into)?)
     }
 }

@@ -1,9 +1,7 @@
 // Targets in memory.
-ghost use Rattle.std.specs.Prelude.{◌≡◌, Some};
-ghost use Rattle.io_ports.specs.Causes.{HasCause};
-ghost use Rattle.io_ports.specs.Fails.{Fails, IsFresh};
-ghost use Rattle.io_ports.specs.Files.{IsTree, Puts};
-ghost use Rattle.io_ports.specs.Memory.{memory_target_files, memory_target_faults, memory_target_tally};
+ghost use Rattle.std.specs.Prelude.{◌≡◌};
+ghost use Rattle.io_ports.specs.Files.{IsTree};
+ghost use Rattle.io_ports.specs.Props.{tree_prop};
 
 use crate::fault::PortFault;
 use crate::memory::files;
@@ -18,9 +16,13 @@ pub struct MemoryTarget {
     alloc: Global,
     files: Vec<(PathText, Bytes)>,
     tally: Tally,
+    ghost ordered: { IsTree files.items } by { tree_prop files.items },
 }
 
 impl MemoryTarget {
+    ghost use Rattle.io_ports.specs.Fails.{IsFresh};
+    ghost use Rattle.io_ports.specs.Memory.{memory_target_files, memory_target_tally};
+
     /// These files, whose paths strictly ascend. `failing` has the numbers, from 1, of the calls
     /// that fail.
     pub fn new(alloc: Global, files: Vec<(PathText, Bytes)>, failing: Vec<u64>) -> MemoryTarget
@@ -45,7 +47,10 @@ impl MemoryTarget {
 
 impl TargetTree for MemoryTarget {
     ghost use Rattle.std.specs.Prelude.{Some};
-    ghost use Rattle.io_ports.specs.Memory.{memory_target_files, memory_target_faults};
+    ghost use Rattle.io_ports.specs.Causes.{HasCause};
+    ghost use Rattle.io_ports.specs.Fails.{Fails};
+    ghost use Rattle.io_ports.specs.Files.{Puts};
+    ghost use Rattle.io_ports.specs.Memory.{memory_target_files, memory_target_faults, memory_target_tally};
 
     ghost files = { λ s. Some (memory_target_files s) };
 

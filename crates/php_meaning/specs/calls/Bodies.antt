@@ -6,7 +6,7 @@ use Rattle.php_tree.specs.declared.kind.NodeKind.{NodeKind}
 use Rattle.php_tree.specs.declared.kind.NodeKind.TheVariants as kind
 use Rattle.scope_names.specs.Slot.{Slot, Declared, StaticVariable}
 use Rattle.php_meaning.specs.values.Value.{Value, Null, Truth, Text, Arr, Cell, Entries, IntKey, none, own, shared}
-use Rattle.php_meaning.specs.Cause.{NoRule, Conversion, Declaration, Call, ArgumentCountError}
+use Rattle.php_meaning.specs.Cause.{NoRule, Conversion, Declaration, Call, ArgumentCountError, TypeError}
 use Rattle.php_meaning.specs.Differences.{ByVersion, Alike, Differs, StaticsOfChild}
 use Rattle.php_meaning.specs.values.Arrays.{Own, Shared, behind}
 use Rattle.php_meaning.specs.runs.World.{Bytes, Frame, Store}
@@ -15,8 +15,9 @@ use Rattle.scope_names.specs.Words.{has_word, is_keyword, is_end, first_word, be
 use Rattle.scope_names.specs.Sites.{Site, in_space, declared_here}
 use Rattle.php_meaning.specs.names.Tables.{Tables, declaration_at, is_same_declared}
 use Rattle.php_meaning.specs.names.Tables as table
+use Rattle.php_meaning.specs.names.Refused.{result_words, is_void}
 use Rattle.php_meaning.specs.names.Reserved.{is_function_taken}
-use Rattle.php_meaning.specs.runs.Stores.{same_name, next_cell, with_cell, variable_slot, with_variable}
+use Rattle.php_meaning.specs.runs.Stores.{same_name, next_cell, with_cell, variable_slot, with_variable, lending, given_back}
 use Rattle.php_meaning.specs.literals.Literals.{found, behind_backslash}
 use Rattle.php_meaning.specs.expressions.Expressions.{plain_name}
 use Rattle.php_meaning.specs.expressions.Assigning.{Properties, kept_then, cell_then}
@@ -114,12 +115,13 @@ takers d ((kind.Param, f) ∷ ks) =
     cond (has_word (codes "&") (texts f)) (Some (variable_slot (Some d) (variable_word (texts f)))) None ∷ takers d ks
 takers d (k ∷ ks) = takers d ks
 
--- The arguments, from the child `i` on, behind those so far: an array whose entries are shared where they are by
--- reference.
+-- The arguments, from the child `i` on, behind those so far: an array whose entries are shared where they are by reference. It
+-- holds their cells until all are evaluated.
 abbrev pub arguments : Properties → Site → ℕ → ℕ → List (Option Slot) → Entries → Script
-arguments properties s i zero marks es = Give (Fresh (Arr None i es))
+arguments properties s i zero marks es = Look (λ st. Put (given_back es st) (Give (Fresh (Arr None i es))))
 arguments properties s i (suc n) (Some taker ∷ marks) es =
-    child_location i (λ l. cell_then properties s taker l (λ c. arguments properties s (suc i) n marks (behind es (IntKey (pos i)) i (Shared c))))
+    child_location i (λ l. cell_then properties s taker l (λ c. Look (λ st. Put (lending c st)
+    (arguments properties s (suc i) n marks (behind es (IntKey (pos i)) i (Shared c))))))
 arguments properties s i (suc n) (None ∷ marks) es =
     Run (Kid i Read) (kept_then (λ v. arguments properties s (suc i) n marks (behind es (IntKey (pos i)) i (Own v))))
 arguments properties s i (suc n) [] es =
@@ -141,19 +143,20 @@ entered f s = record s { here = f; waiting = s.here ∷ s.waiting }
 abbrev pub in_frame : Frame → Declared → Mode → (Out → Script) → Script
 in_frame f d m k = Look (λ s. Put (entered f s) (Run (There d m) (λ o. Look (λ u. Put (left u) (k o)))))
 
-abbrev pub body_frame : Declared → Option ℕ → Option Bytes → Entries → Frame
-body_frame d this class es = record {
+abbrev pub body_frame : Declared → Option ℕ → Option Bytes → Option Bytes → Entries → Frame
+body_frame d this class copy es = record {
   body = Some d;
   variables = [];
   this = this;
   class = class;
+  copy = copy;
   arguments = es;
   item = None;
 }
 
--- a function or method is called with these arguments
-abbrev pub call_with : table.Declaration → Option ℕ → Option Bytes → (Out → Script) → Entries → Script
-call_with d this class k es = in_frame (body_frame d.at this class es) d.at Entered k
+-- a function, or a class's copy of a method, is called with these arguments
+abbrev pub call_with : table.Declaration → Option ℕ → Option Bytes → Option Bytes → (Out → Script) → Entries → Script
+call_with d this class copy k es = in_frame (body_frame d.at this class copy es) d.at Entered k
 
 -- the words of some forms
 abbrev pub all_words : List (NodeKind × Form) → List Bytes
@@ -174,35 +177,43 @@ may_be_called d =
 
 -- The arguments of the child `i` are evaluated, and then a function or method is called. No call starts in a value that a
 -- declaration writes down.
-abbrev pub call : ℕ → table.Declaration → Option ℕ → Option Bytes → (Out → Script) → Script
-call i d this class k =
+abbrev pub call : ℕ → table.Declaration → Option ℕ → Option Bytes → Option Bytes → (Out → Script) → Script
+call i d this class copy k =
     Look (λ s. if is_some s.here.item || not (may_be_called d) then Stop Call else
-    Run (Kid i (Given (takers d.at d.kids))) (entries_then (call_with d this class k)))
+    Run (Kid i (Given (takers d.at d.kids))) (entries_then (call_with d this class copy k)))
 
 -- ---- bodies
 
--- what a body came to, as the value of its call
-abbrev pub returned : (Value → Script) → Out → Script
-returned k (Jump (Return v)) = k v
-returned k (Jump (Throw n)) = Give (Jump (Throw n))
-returned k (Jump w) = Stop NoRule
-returned k o = k Null
-
 abbrev pub has_type : Form → Bool
 has_type f = has_word (codes ":") (texts f)
+
+-- what a body came to, as the value of its call, or what comes where it has no `return`
+abbrev pub returned : (Value → Script) → Script → Out → Script
+returned k fallen (Jump (Return v)) = k v
+returned k fallen (Jump (Throw n)) = Give (Jump (Throw n))
+returned k fallen (Jump w) = Stop NoRule
+returned k fallen o = fallen
+
+-- A body without `return` comes to null. Where it has a type, only `void` takes that; any other one throws. (PHP manual,
+-- "Type declarations": "Return only types"; RFC "Return types".)
+abbrev pub without_return : Tables → Site → Form → Script
+without_return t s f = elim (declaration_at t (declared_here s)) [
+  | None ↦ Stop Declaration
+  | Some d ↦ if not (has_type f) || is_void (result_words d.kids) then give Null else throws TypeError
+]
 
 -- a value that a type lets pass, as the child `i` says
 abbrev pub checked : ℕ → Value → Script → Script
 checked i v k = Run (Kid i (Against v)) (value_then (elim [ Truth true ↦ k | _ ↦ Stop Conversion ]))
 
--- the parameters in order, and then the body, the last child
-abbrev pub enter_body : Form → ℕ → ℕ → Script
-enter_body f i zero =
-    Run (Kid (kids f - 1) Read) (returned (λ v. if has_type f then checked i v (give v) else give v))
-enter_body f i (suc n) = Run (Kid i Entered) (value_then (λ v. enter_body f (suc i) n))
+-- The parameters in order, and then the body, the last child. What it returns was copied there, and moves from then on.
+abbrev pub enter_body : Script → Form → ℕ → ℕ → Script
+enter_body fallen f i zero =
+    Run (Kid (kids f - 1) Read) (returned (λ v. if has_type f then checked i v (Give (Fresh v)) else Give (Fresh v)) fallen)
+enter_body fallen f i (suc n) = Run (Kid i Entered) (value_then (λ v. enter_body fallen f (suc i) n))
 
-abbrev pub body_script : Form → Script
-body_script f = enter_body f 0 (kids f - 1 - cond (has_type f) 1 0)
+abbrev pub body_script : Tables → Site → Form → Script
+body_script t s f = enter_body (without_return t s f) f 0 (kids f - 1 - cond (has_type f) 1 0)
 
 -- ---- parameters
 
@@ -289,8 +300,8 @@ global_all i (suc n) =
       | _ ↦ Stop NoRule
     ]))
 
--- Static variables: each is bound to its cell, which is made with its first value where there is none. Those of a method
--- that a child class inherits are the child's own in 7.4, and the parent's in 8.3. (UPGRADING 8.1.)
+-- Static variables: each is bound to its cell, which is made with its first value where there is none. A child class has a copy
+-- of a method that it inherits, with static variables of its own in 7.4; in 8.3 they are the parent's. (UPGRADING 8.1.)
 abbrev pub same_class : Option Bytes → Option Bytes → Bool
 same_class None None = true
 same_class (Some a) (Some b) = same_name a b
@@ -304,7 +315,7 @@ static_cell (c ∷ cs) d name class = static_cell cs d name class
 
 abbrev pub static_owner : Site → Store → ByVersion (Option Bytes)
 static_owner s st =
-    if is_none s.body || same_class s.class st.here.class then Alike s.class else Differs StaticsOfChild st.here.class s.class
+    if is_none s.body || same_class s.class st.here.copy then Alike s.class else Differs StaticsOfChild st.here.copy s.class
 
 -- A static variable of a file's own code is outside where it is there: PHP makes new ones each time that the file is included.
 abbrev pub unless_included : Site → Script → Script

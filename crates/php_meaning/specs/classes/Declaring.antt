@@ -1,21 +1,25 @@
--- Which declarations of classes and interfaces take place. PHP refuses the others; here they are outside. (PHP manual,
--- "Classes and Objects": "Object Inheritance", "Class Abstraction", "Object Interfaces", "Final Keyword", "Visibility",
--- "Class Constants"; "Exceptions"; RFC "Typed Properties 2.0". Whether the parameters of methods fit is left aside.)
+-- Which declarations of classes and interfaces take place, and which declarations PHP compiles. It refuses the others; here they
+-- are outside. (PHP manual, "Classes and Objects": "Object Inheritance", "Class Abstraction", "Object Interfaces", "Final
+-- Keyword", "Visibility", "Class Constants", "Magic Methods"; "Exceptions"; RFC "Typed Properties 2.0".)
 use Rattle.std.specs.Prelude.{ℕ, zero, suc, ◌+◌, Bool, true, false, not, ◌&&◌, ◌||◌, nat_le, if◌then◌else◌, List, [], ◌∷◌, ◌++◌, length, codes, filter, is_some, Option, Some, None}
 use Rattle.std.specs.Str.{bytes_eq, str_to_ascii_lowercase}
 use Rattle.php_tree.specs.declared.kind.NodeKind.{NodeKind}
 use Rattle.php_tree.specs.declared.kind.NodeKind.TheVariants as kind
-use Rattle.scope_names.specs.Slot.{Declared}
-use Rattle.scope_names.specs.Form.{Form, texts}
-use Rattle.scope_names.specs.Words.{has_word, has_keyword, is_keyword}
-use Rattle.scope_names.specs.Sites.{Site, declared_here}
+use Rattle.scope_names.specs.Slot.{Declared, Slot, StaticVariable}
+use Rattle.scope_names.specs.Form.{Form, Word, Child, texts}
+use Rattle.scope_names.specs.Words.{has_word, has_keyword, is_keyword, last_part}
+use Rattle.scope_names.specs.Sites.{Site, declared_here, class_named, alias_of, or_else}
+use Rattle.scope_names.specs.Imports.{OfClass, OfFunction}
 use Rattle.php_meaning.specs.Cause.{Declaration}
-use Rattle.php_meaning.specs.runs.World.{Bytes}
+use Rattle.php_meaning.specs.runs.World.{Bytes, Store}
 use Rattle.php_meaning.specs.names.Tables.{Tables, declaration_at, is_same_declared}
 use Rattle.php_meaning.specs.names.Tables as table
-use Rattle.php_meaning.specs.names.Reserved.{is_class_newer}
-use Rattle.php_meaning.specs.runs.Stores.{same_name}
-use Rattle.php_meaning.specs.calls.Bodies.{function_word, is_declared, declare, has_body}
+use Rattle.php_meaning.specs.names.Refused.{result_words, is_void}
+use Rattle.php_meaning.specs.names.Reserved.{is_php_class, is_reserved_class, is_function_refused}
+use Rattle.php_meaning.specs.literals.Literals.{name_of}
+use Rattle.php_meaning.specs.runs.Stores.{same_name, is_everywhere}
+use Rattle.php_meaning.specs.expressions.QuotedTexts.{is_filled}
+use Rattle.php_meaning.specs.calls.Bodies.{function_word, function_name, is_function, variable_word, has_type, has_default, declare, has_body}
 use Rattle.php_meaning.specs.classes.Lines.{
   is_class,
   is_interface,
@@ -29,10 +33,23 @@ use Rattle.php_meaning.specs.classes.Lines.{
   kin_within,
   line_within,
   is_in,
+  is_early_class,
 }
-use Rattle.php_meaning.specs.classes.Members.{is_method, is_property, is_constant, belongs, declared_line, method_in, has_modifier, listed, listed_constants}
+use Rattle.php_meaning.specs.classes.Members.{
+  is_method,
+  is_property,
+  is_constant,
+  belongs,
+  declared_line,
+  own_method,
+  method_in,
+  has_modifier,
+  is_dollar,
+  listed,
+  listed_constants,
+}
 use Rattle.php_meaning.specs.runs.Script.{Script, Stop, Look, give}
-use Rattle.php_meaning.specs.values.Value.{Null}
+use Rattle.php_meaning.specs.values.Value.{Null, Cell}
 
 -- ---- small tests
 
@@ -47,6 +64,10 @@ one_of p (x ∷ xs) = p x || one_of p xs
 
 abbrev pub is_listed : Bytes → List Bytes → Bool
 is_listed name names = one_of (bytes_eq name) names
+
+abbrev pub is_empty : {A : Type 0} → List A → Bool
+is_empty [] = true
+is_empty (x ∷ xs) = false
 
 -- whether no name stands twice
 abbrev pub is_distinct : List Bytes → Bool
@@ -109,6 +130,85 @@ same_sort e f =
 abbrev pub share_name : table.Declaration → table.Declaration → Bool
 share_name e f = same_sort e f && one_of (λ n. is_listed n (names_of f)) (names_of e)
 
+-- ---- types
+
+-- the words of a type, by full names: `self` and `parent` stand for the classes that they name
+abbrev pub builtin_types : List Bytes
+builtin_types =
+    codes "int" ∷ codes "float" ∷ codes "bool" ∷ codes "string" ∷ codes "array" ∷ codes "callable" ∷ codes "iterable"
+    ∷ codes "object" ∷ codes "void" ∷ []
+
+abbrev pub full_type : Site → Bytes → Bytes
+full_type s name =
+    if same_name name (codes "self") then or_else s.class []
+    else (if same_name name (codes "parent") then or_else s.parent []
+    else (if is_listed (str_to_ascii_lowercase name) builtin_types then name else class_named s name))
+
+abbrev pub full_words : Site → List Bytes → List Bytes
+full_words s [] = []
+full_words s (w ∷ ws) = if bytes_eq w (codes "?") then w ∷ full_type s (name_of ws) ∷ [] else full_type s (name_of (w ∷ ws)) ∷ []
+
+abbrev pub same_words : List Bytes → List Bytes → Bool
+same_words [] [] = true
+same_words (w ∷ ws) (v ∷ vs) = same_name w v && same_words ws vs
+same_words ws vs = false
+
+abbrev pub is_nullable_of : List Bytes → List Bytes → Bool
+is_nullable_of (w ∷ ws) vs = bytes_eq w (codes "?") && same_words ws vs
+is_nullable_of [] vs = false
+
+-- whether each value of the first type is one of the second; a type is known by its name alone
+abbrev pub is_within : List Bytes → List Bytes → Bool
+is_within ws vs = same_words ws vs || is_nullable_of vs ws
+
+-- the words in front of the first child
+abbrev pub words_in_front : Form → List Bytes
+words_in_front [] = []
+words_in_front (Child ∷ f) = []
+words_in_front (Word k w ∷ f) = w ∷ words_in_front f
+
+-- the words of a parameter's type, which stand in front of its form in the tables
+abbrev pub parameter_type : Form → List Bytes
+parameter_type f = let ws = words_in_front f in if one_of is_dollar ws then [] else ws
+
+-- ---- parameters
+
+abbrev pub parameters_of : List (NodeKind × Form) → List Form
+parameters_of [] = []
+parameters_of ((kind.Param, f) ∷ ks) = f ∷ parameters_of ks
+parameters_of (k ∷ ks) = parameters_of ks
+
+abbrev pub is_variadic : Form → Bool
+is_variadic f = has_word (codes "...") (texts f)
+
+abbrev pub same_mark : Bytes → Form → Form → Bool
+same_mark w e f = if has_word w (texts e) then has_word w (texts f) else not (has_word w (texts f))
+
+-- how many parameters must be passed: all up to the last one without a default
+abbrev pub required : ℕ → ℕ → List Form → ℕ
+required i r [] = r
+required i r (f ∷ fs) = required (suc i) (if has_default f || is_variadic f then r else suc i) fs
+
+-- a parameter takes what the overridden one takes
+abbrev pub takes_type : Site → Site → Form → Form → Bool
+takes_type s u e f =
+    let ws = full_words s (parameter_type e) in
+    let vs = full_words u (parameter_type f) in
+    same_words ws [] || (not (same_words vs []) && is_within vs ws)
+
+abbrev pub takes_all : Site → Site → List Form → List Form → Bool
+takes_all s u es [] = true
+takes_all s u [] (f ∷ fs) = false
+takes_all s u (e ∷ es) (f ∷ fs) =
+    same_mark (codes "&") e f && (is_variadic e || not (is_variadic f)) && takes_type s u e f && takes_all s u es fs
+
+-- a result is of the type of the overridden method's
+abbrev pub gives_type : table.Declaration → table.Declaration → Bool
+gives_type e f =
+    let ws = full_words e.site (result_words e.kids) in
+    let vs = full_words f.site (result_words f.kids) in
+    same_words vs [] || (not (same_words ws []) && is_within ws vs)
+
 -- ---- a member on its own
 
 abbrev pub is_one_visibility : table.Declaration → Bool
@@ -129,42 +229,56 @@ is_proper_property d e = not (is_interface d.kind) && not (has (codes "abstract"
 abbrev pub is_proper_constant : table.Declaration → table.Declaration → Bool
 is_proper_constant d e =
     not (has (codes "abstract") e) && not (has (codes "final") e) && not (has (codes "static") e)
-    && (not (is_interface d.kind) || nat_le 2 (visibility e))
+    && not (one_of (same_name (codes "class")) (names_of e)) && (not (is_interface d.kind) || nat_le 2 (visibility e))
+
+-- a constructor is not static and has no type; `__toString` is a public method without parameters that gives a text
+abbrev pub is_proper_constructor : table.Declaration → Bool
+is_proper_constructor e = not (has (codes "static") e) && not (has_type e.form)
+
+abbrev pub is_proper_to_text : table.Declaration → Bool
+is_proper_to_text e =
+    not (has (codes "static") e) && nat_le 2 (visibility e) && is_empty (parameters_of e.kids)
+    && (not (has_type e.form) || same_words (result_words e.kids) (codes "string" ∷ []))
+
+abbrev pub is_proper_magic : table.Declaration → Bool
+is_proper_magic e =
+    if same_name (function_word e.form) (codes "__construct") then is_proper_constructor e
+    else (if same_name (function_word e.form) (codes "__toString") then is_proper_to_text e else true)
 
 abbrev pub is_proper : table.Declaration → table.Declaration → Bool
 is_proper d e =
     is_one_visibility e
-    && (if is_method e.kind then is_proper_method d e
+    && (if is_method e.kind then is_proper_method d e && is_proper_magic e
     else (if is_property e.kind then is_proper_property d e else is_proper_constant d e))
-
--- ---- a member against one that it overrides
 
 abbrev pub same_static : table.Declaration → table.Declaration → Bool
 same_static e f = if has (codes "static") e then has (codes "static") f else not (has (codes "static") f)
 
--- a method may not override a final one, nor become abstract, nor be seen by fewer; a constructor may be, where the other
--- one has a body
+-- A method takes what the one that it overrides takes, and gives no more. (PHP manual, "Object Inheritance": "Signature
+-- compatibility rules"; RFC "Always generate fatal error for incompatible method signatures". Of types that differ by their
+-- names, PHP takes some; here they are outside.)
+abbrev pub fits_signature : table.Declaration → table.Declaration → Bool
+fits_signature e f =
+    let es = parameters_of e.kids in
+    let fs = parameters_of f.kids in
+    takes_all e.site f.site es fs && nat_le (required 0 0 es) (required 0 0 fs) && gives_type e f
+    && (has_word (codes "&") (texts e.form) || not (has_word (codes "&") (texts f.form)))
+
+-- ---- a member against one that it overrides
+
+-- a method may not override a final one, nor become abstract, nor be seen by fewer, nor take less; a constructor may, where the
+-- other one has a body
 abbrev pub overrides_method : table.Declaration → table.Declaration → Bool
 overrides_method e f =
     not (has (codes "final") f) && same_static e f && (has_body e.form || not (has_body f.form))
-    && (has (codes "private") f || nat_le (visibility f) (visibility e)
+    && (has (codes "private") f || (nat_le (visibility f) (visibility e) && fits_signature e f)
     || (same_name (function_word e.form) (codes "__construct") && has_body f.form))
-
--- the words of a property's type
-abbrev pub type_words : List (NodeKind × Form) → List Bytes
-type_words [] = []
-type_words ((kind.TypeName, f) ∷ ks) = texts f
-type_words (k ∷ ks) = type_words ks
-
-abbrev pub same_words : List Bytes → List Bytes → Bool
-same_words [] [] = true
-same_words (w ∷ ws) (v ∷ vs) = same_name w v && same_words ws vs
-same_words ws vs = false
 
 abbrev pub overrides_property : table.Declaration → table.Declaration → Bool
 overrides_property e f =
     has (codes "private") f
-    || (same_static e f && nat_le (visibility f) (visibility e) && same_words (type_words e.kids) (type_words f.kids))
+    || (same_static e f && nat_le (visibility f) (visibility e)
+    && same_words (full_words e.site (result_words e.kids)) (full_words f.site (result_words f.kids)))
 
 abbrev pub overrides_constant : table.Declaration → table.Declaration → Bool
 overrides_constant e f = has (codes "private") f || nat_le (visibility f) (visibility e)
@@ -236,35 +350,160 @@ is_proper_exception t d names =
     && not (meets (names_of_all is_method (members_of t d)) final_methods)
     && not (meets (names_of_all is_property (members_of t d)) exception_properties))
 
--- ---- classes
+-- ---- what PHP refuses to compile
+
+-- whether a declaration's own name is that of another one that its file imports
+abbrev pub is_imported : Option Bytes → Bytes → Bool
+is_imported None full = false
+is_imported (Some other) full = not (same_name other full)
+
+abbrev pub is_statics : NodeKind → Bool
+is_statics kind.Statics = true
+is_statics k = false
+
+abbrev pub is_refused_file : NodeKind → Bool
+is_refused_file kind.Empty = true
+is_refused_file k = false
+
+abbrev pub stands_in : Option Declared → Declared → Bool
+stands_in None d = false
+stands_in (Some b) d = is_same_declared b d
+
+abbrev pub variables_of : List Bytes → List Bytes
+variables_of ws = filter is_dollar ws
+
+-- the variables that a function's `static` statements declare
+abbrev pub statics_of : Tables → Declared → List Bytes
+statics_of [] d = []
+statics_of (e ∷ es) d =
+    if is_statics e.kind && stands_in e.site.body d then variables_of (texts e.form) ++ statics_of es d else statics_of es d
+
+abbrev pub only_last_variadic : List Form → Bool
+only_last_variadic [] = true
+only_last_variadic (f ∷ []) = not (is_variadic f && has_default f)
+only_last_variadic (f ∷ g ∷ fs) = not (is_variadic f) && only_last_variadic (g ∷ fs)
+
+abbrev pub parameter_names : List Form → List Bytes
+parameter_names [] = []
+parameter_names (f ∷ fs) = variable_word (texts f) ∷ parameter_names fs
+
+-- A function's parameters have names of their own, none of which PHP fills by itself; a list of arguments comes last; a static
+-- variable is declared once. (PHP manual, "Function parameters and arguments"; UPGRADING 8.3, static variables.)
+abbrev pub is_compiled_function : Tables → table.Declaration → Bool
+is_compiled_function t d =
+    let fs = parameters_of d.kids in
+    is_distinct (parameter_names fs)
+    && each (λ n. not (is_filled n || is_everywhere n)) (parameter_names fs)
+    && each (λ f. not (is_void (parameter_type f))) fs && only_last_variadic fs && is_distinct (statics_of t d.at)
+    && (not (is_function d.kind)
+    || (not (is_function_refused (function_name d)) && not (is_imported (alias_of d.site.imports OfFunction (function_word d.form)) (function_name d))))
 
 abbrev pub has_distinct_names : Tables → Bool
 has_distinct_names own =
     is_distinct (names_of_all is_method own) && is_distinct (names_of_all is_property own) && is_distinct (names_of_all is_constant own)
 
--- whether the name of a class is free: it is none of those that are there, in 8.3 at the latest
-abbrev pub is_class_free : Tables → List Declared → table.Declaration → Bool
-is_class_free t ds d =
-    not (is_some (declared_class t ds (class_name d)) || is_some (builtin_class (class_name d)) || is_class_newer (class_name d))
+-- a method that is named like its class is its constructor in 7.4
+abbrev pub is_proper_old : table.Declaration → table.Declaration → Bool
+is_proper_old d e =
+    not (is_method e.kind && bytes_eq d.site.space [] && same_name (function_word e.form) (class_name d)) || is_proper_constructor e
 
-abbrev pub is_class_fit : Tables → List Declared → table.Declaration → Bool
-is_class_fit t ds d =
+abbrev pub is_compiled_class : Tables → table.Declaration → Bool
+is_compiled_class t d =
+    let own = members_of t d in
+    not (is_reserved_class (class_name d)) && not (is_imported (alias_of d.site.imports OfClass (last_part (class_name d))) (class_name d))
+    && not (is_abstract_class d && is_final_class d) && has_distinct_names own && each (is_proper d) own
+    && (is_interface d.kind || is_some (own_method t d (codes "__construct")) || each (is_proper_old d) own)
+
+abbrev pub is_compiled : Tables → table.Declaration → Bool
+is_compiled t d =
+    if is_function d.kind || is_method d.kind then is_compiled_function t d
+    else (if is_class d.kind then is_compiled_class t d else true)
+
+-- whether PHP compiles a file: each declaration in it, wherever it stands, and its statements
+abbrev pub is_compiled_file : Tables → Bytes → Tables → Bool
+is_compiled_file t path ds =
+    each (λ d. not (bytes_eq d.at.file path) || (is_compiled t d && not (is_refused_file d.kind))) ds
+
+-- ---- classes
+
+-- the methods that PHP calls by itself and that have no meaning here (PHP manual, "Magic Methods")
+abbrev pub magic_methods : List Bytes
+magic_methods =
+    codes "__get" ∷ codes "__set" ∷ codes "__isset" ∷ codes "__unset" ∷ codes "__call" ∷ codes "__callstatic"
+    ∷ codes "__invoke" ∷ codes "__clone" ∷ codes "__destruct" ∷ codes "__sleep" ∷ codes "__wakeup" ∷ codes "__serialize"
+    ∷ codes "__unserialize" ∷ codes "__set_state" ∷ codes "__debuginfo" ∷ []
+
+-- whether a class uses a trait
+abbrev pub uses_trait : List (NodeKind × Form) → Bool
+uses_trait [] = false
+uses_trait ((kind.TraitUse, f) ∷ ks) = true
+uses_trait (k ∷ ks) = uses_trait ks
+
+-- whether PHP may have declared another class of this name when a file was started: one that stands unconditionally in it
+abbrev pub is_awaited : Tables → List Bytes → table.Declaration → Bool
+is_awaited t started d =
+    one_of (λ e. is_class e.kind && e.is_top && is_listed e.at.file started && same_name (class_name e) (class_name d)
+    && not (is_same_declared e.at d.at)) t
+
+-- whether the name of a class is free: it is none of those that are there, in 8.3 at the latest
+abbrev pub is_class_free : Tables → Store → table.Declaration → Bool
+is_class_free t st d =
+    not (is_some (declared_class t st.declared (class_name d)) || is_some (builtin_class (class_name d)) || is_php_class (class_name d)
+    || is_awaited t st.started d)
+
+-- Whether an ancestor's method has static variables already: in 7.4 a copy of the method begins with what they hold.
+abbrev pub is_static_of : Tables → Tables → Slot × Option Bytes × Cell → Bool
+is_static_of t line (StaticVariable d n, o, c) = elim (declaration_at t d) [
+  | None ↦ false
+  | Some e ↦ one_of (λ a. same_name (class_name a) (or_else e.site.class [])) line
+]
+is_static_of t line c = false
+
+abbrev pub has_statics : Tables → Store → Tables → Bool
+has_statics t st line = one_of (is_static_of t line) st.statics
+
+abbrev pub is_class_fit : Tables → Store → table.Declaration → Bool
+is_class_fit t st d =
+    let ds = st.declared in
     let names = kin_above t ds d in
     let others = declared_line t ds names in
     let own = members_of t d in
     let all = own ++ members_of_all t others in
-    is_class_free t ds d && extends_well t ds (class_parent d) && each (implements_well t ds) (interfaces_of d)
-    && not (is_abstract_class d && is_final_class d) && has_distinct_names own && each (is_proper d) own
+    is_class_free t st d && extends_well t ds (class_parent d) && each (implements_well t ds) (interfaces_of d)
+    && not (uses_trait d.kids) && not (meets (names_of_all is_method own) magic_methods)
     && each (λ e. each (overrides e) (members_of_all t others)) own
     && (is_interface d.kind || is_abstract_class d || each (is_implemented t (d ∷ line_above t ds d)) all)
     && each (λ e. not (one_of (clashes e) all)) (members_of_all t (only_interfaces others))
-    && is_proper_exception t d names
+    && is_proper_exception t d names && not (has_statics t st (line_above t ds d))
 
--- a declaration that is reached: one that took place when its file started stays
+-- A class that stands unconditionally, has a parent that is there, and no interfaces: PHP binds it when it compiles the file, and
+-- refuses the file where that can't be done. (PHP's source, `zend_try_early_bind`.)
+abbrev pub may_be_bound : Tables → List Declared → table.Declaration → Bool
+may_be_bound t ds d =
+    is_class d.kind && d.is_top && is_empty (interfaces_of d)
+    && (elim (class_parent d) [ None ↦ false | Some p ↦ is_some (declared_class t ds p) || is_some (builtin_class p) ])
+
+-- the classes that stand unconditionally in a file, but one
+abbrev pub tops_beside : table.Declaration → Tables → List Declared
+tops_beside d [] = []
+tops_beside d (e ∷ es) =
+    if is_class e.kind && e.is_top && bytes_eq e.at.file d.at.file && not (is_same_declared e.at d.at) then e.at ∷ tops_beside d es
+    else tops_beside d es
+
+abbrev pub is_bound : Tables → Store → table.Declaration → Bool
+is_bound t st d =
+    let ds = tops_beside d t ++ st.declared in
+    not (may_be_bound t ds d) || is_class_fit t (record st { declared = ds }) d
+
+-- whether the classes of a file are bound that PHP binds when it compiles it
+abbrev pub is_bound_file : Tables → Store → Bytes → Bool
+is_bound_file t st path = each (λ d. not (bytes_eq d.at.file path) || is_bound t st d) t
+
+-- a declaration that is reached: one that takes place when its file starts did so, and no other one takes place twice
 abbrev pub reach_class : Tables → Site → Script
 reach_class t s = elim (declaration_at t (declared_here s)) [
   | None ↦ Stop Declaration
-  | Some d ↦ Look (λ st.
-      if is_declared st.declared d.at then give Null
-      else (if is_class_fit t st.declared d then declare d.at (give Null) else Stop Declaration))
+  | Some d ↦
+      if is_early_class d then give Null
+      else Look (λ st. if is_class_fit t st d then declare d.at (give Null) else Stop Declaration)
 ]

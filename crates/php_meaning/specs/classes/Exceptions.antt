@@ -2,7 +2,7 @@
 use Rattle.std.specs.Prelude.{ℕ, suc, ◌+◌, ◌-◌, Bool, false, not, ◌||◌, if◌then◌else◌, List, [], ◌∷◌, ◌++◌, codes, Option, Some, None}
 use Rattle.std.specs.Str.{bytes_eq}
 use Rattle.php_meaning.specs.values.Value.{Object, own}
-use Rattle.php_meaning.specs.Cause.{NoRule, Error}
+use Rattle.php_meaning.specs.Cause.{NoRule, Declaration, Error}
 use Rattle.php_meaning.specs.runs.World.{Bytes, Store}
 use Rattle.scope_names.specs.Form.{Form, Bit, Word, Child, kids, texts}
 use Rattle.scope_names.specs.Words.{has_keyword, is_keyword}
@@ -11,7 +11,7 @@ use Rattle.php_meaning.specs.names.Tables.{Tables}
 use Rattle.php_meaning.specs.runs.Stores.{object_at}
 use Rattle.php_meaning.specs.expressions.Assigning.{write}
 use Rattle.php_meaning.specs.expressions.Expressions.{plain_name, in_variable}
-use Rattle.php_meaning.specs.classes.Lines.{is_a}
+use Rattle.php_meaning.specs.classes.Lines.{is_in, is_a}
 use Rattle.php_meaning.specs.classes.Members.{is_dollar}
 use Rattle.php_meaning.specs.runs.Script.{Continue, Break, Throw, Out, Jump, Read, Kid, Script, Give, Stop, Look, Run, child_value, throws}
 use Rattle.php_meaning.specs.classes.Properties.{properties_at}
@@ -45,9 +45,13 @@ abbrev pub catches : Tables → Store → Bytes → List Bytes → Bool
 catches t s class [] = false
 catches t s class (n ∷ ns) = is_a t s class n || catches t s class ns
 
-abbrev pub handler_of : Tables → Store → Bytes → List Handler → Option Handler
-handler_of t s class [] = None
-handler_of t s class (h ∷ hs) = if catches t s class h.classes then Some h else handler_of t s class hs
+-- The first handler that catches a class. One before it that names `Stringable`, which every class of exceptions is of in 8.x
+-- alone, is outside.
+abbrev pub handler_then : Tables → Store → Bytes → List Handler → Script → (Handler → Script) → Script
+handler_then t s class [] missing k = missing
+handler_then t s class (h ∷ hs) missing k =
+    if catches t s class h.classes then k h
+    else (if is_in h.classes (codes "Stringable") then Stop Declaration else handler_then t s class hs missing k)
 
 -- What follows a block of a try: the `finally` block, whose own way to leave counts before the other one. It may not leave a
 -- loop around it.
@@ -62,10 +66,9 @@ finished None o = Give o
 finished (Some j) o = Run (Kid j Read) (finished_with o)
 
 abbrev pub after_try : Tables → Site → List Handler → Option ℕ → Out → Script
-after_try t site hs last (Jump (Throw n)) = Look (λ s. elim (handler_of t s (object_at s.objects n).class hs) [
-  | None ↦ finished last (Jump (Throw n))
-  | Some h ↦ write (properties_at t site) site (in_variable h.variable) (Object n) (Run (Kid h.block Read) (finished last))
-])
+after_try t site hs last (Jump (Throw n)) =
+    Look (λ s. handler_then t s (object_at s.objects n).class hs (finished last (Jump (Throw n))) (λ h.
+    write (properties_at t site) site (in_variable h.variable) (Object n) (Run (Kid h.block Read) (finished last))))
 after_try t site hs last o = finished last o
 
 abbrev pub try_script : Tables → Site → Form → Script

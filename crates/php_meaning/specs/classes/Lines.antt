@@ -1,6 +1,6 @@
 -- Classes by name, and what each of them is of: its ancestors and their interfaces. (PHP manual, "Classes and Objects":
 -- "Object Inheritance", "Object Interfaces", "instanceof"; "Predefined Interfaces and Classes".)
-use Rattle.std.specs.Prelude.{ℕ, zero, suc, ◌+◌, Bool, true, false, not, ◌&&◌, ◌||◌, if◌then◌else◌, List, [], ◌∷◌, ◌++◌, length, codes, Option, Some, None}
+use Rattle.std.specs.Prelude.{ℕ, zero, suc, ◌+◌, Bool, true, false, not, ◌&&◌, ◌||◌, if◌then◌else◌, List, [], ◌∷◌, ◌++◌, length, codes, is_some, Option, Some, None}
 use Rattle.std.specs.Str.{bytes_eq, str_to_ascii_lowercase}
 use Rattle.php_tree.specs.declared.kind.NodeKind.{NodeKind}
 use Rattle.php_tree.specs.declared.kind.NodeKind.TheVariants as kind
@@ -12,6 +12,7 @@ use Rattle.scope_names.specs.Words.{has_keyword, behind_word}
 use Rattle.scope_names.specs.Sites.{Site, class_named, within_form, or_else}
 use Rattle.php_meaning.specs.names.Tables.{Tables, declaration_at}
 use Rattle.php_meaning.specs.names.Tables as table
+use Rattle.php_meaning.specs.names.Reserved.{is_php_class}
 use Rattle.php_meaning.specs.runs.Stores.{same_name}
 use Rattle.php_meaning.specs.runs.Script.{Script, Stop, Look, throws}
 
@@ -142,11 +143,15 @@ is_declared_late [] name = false
 is_declared_late (d ∷ ds) name =
     (is_class d.kind && not (is_early_class d) && same_name (class_name d) name) || is_declared_late ds name
 
--- A class that isn't there throws; one that is declared later on is outside, since PHP may have declared it already.
+-- A class that isn't there throws; one that is declared later on is outside, since PHP may have declared it already, and so is
+-- one that PHP has beyond the profile.
 abbrev pub no_class : Tables → Bytes → Script
-no_class t name = if is_declared_late t name then Stop Declaration else throws Error
+no_class t name = if is_declared_late t name || is_php_class name then Stop Declaration else throws Error
 
--- The class that a word names. One that an expression names, and `self` and `parent` where there is none, are outside.
+-- The class that a word names. One that an expression names, `self` and `parent` where there is none, and `static` in a value that
+-- a declaration writes down, are outside.
 abbrev pub class_then : Site → Bytes → (Bytes → Script) → Script
 class_then site [] k = Stop NoRule
-class_then site (b ∷ bs) k = Look (λ s. elim (class_by site s (b ∷ bs)) [ [] ↦ Stop NoRule | c ∷ cs ↦ k (c ∷ cs) ])
+class_then site (b ∷ bs) k = Look (λ s.
+    if is_some s.here.item && same_name (b ∷ bs) (codes "static") then Stop NoRule
+    else (elim (class_by site s (b ∷ bs)) [ [] ↦ Stop NoRule | c ∷ cs ↦ k (c ∷ cs) ]))

@@ -1,6 +1,6 @@
 -- `new`: the properties of an object, its constructor, what an exception has from the start. (PHP manual, "Classes and
 -- Objects": "Constructors and Destructors", "Exceptions".)
-use Rattle.std.specs.Prelude.{ℕ, zero, suc, ◌-◌, Bool, true, false, not, ◌&&◌, cond, if◌then◌else◌, List, [], ◌∷◌, reverse, length, codes, pos, is_some, Option, Some, None}
+use Rattle.std.specs.Prelude.{ℕ, zero, suc, ◌-◌, ℤ, Bool, true, false, not, ◌&&◌, cond, if◌then◌else◌, List, [], ◌∷◌, reverse, length, codes, pos, is_some, Option, Some, None}
 use Rattle.php_tree.specs.declared.version.Version.TheVariants.{V83}
 use Rattle.scope_names.specs.Slot as slot
 use Rattle.php_meaning.specs.values.Value.{Value, Null, Int, Text, Object, Entries, none, own, shared}
@@ -14,21 +14,16 @@ use Rattle.php_meaning.specs.names.Tables.{Tables}
 use Rattle.php_meaning.specs.names.Tables as table
 use Rattle.php_meaning.specs.runs.Stores.{same_name, without_property, with_made}
 use Rattle.php_meaning.specs.expressions.Assigning.{kept}
-use Rattle.php_meaning.specs.calls.Bodies.{call, call_with, may_be_called, entries_then, in_frame}
+use Rattle.php_meaning.specs.calls.Bodies.{call, call_with, may_be_called, entries_then}
 use Rattle.php_meaning.specs.classes.Lines.{is_interface, class_name, declared_class, builtin_class, line, is_in, no_class, class_then}
-use Rattle.php_meaning.specs.classes.Members.{is_property, belongs, own_method, declared_line, has_modifier, is_seen, listed}
+use Rattle.php_meaning.specs.classes.Members.{is_property, belongs, own_method, declared_line, has_modifier, may_call, listed}
 use Rattle.php_meaning.specs.classes.Declaring.{is_abstract_class}
-use Rattle.php_meaning.specs.classes.Types.{type_form, typing_of, of_form}
-use Rattle.php_meaning.specs.runs.Script.{Typing, Untyped, Given, Item, Kid, Script, Stop, Look, Put, Run, give, value_then, asking, throws}
+use Rattle.php_meaning.specs.classes.Preparing.{default_key, item_then, prepared}
+use Rattle.php_meaning.specs.classes.Types.{typing_of}
+use Rattle.php_meaning.specs.runs.Script.{Typing, Untyped, Given, Kid, Script, Stop, Look, Put, Run, give, value_then, asking, throws}
 use Rattle.php_meaning.specs.classes.Properties.{is_nothing}
 
 -- ---- new
-
--- The value that a declaration writes down for an item.
-abbrev pub item_value : table.Declaration → Bytes → ℕ → (Value → Script) → Script
-item_value d class i k =
-    in_frame (record { body = Some d.at; variables = []; this = None; class = Some class; arguments = none; item = Some i }) d.at (Item i)
-    (value_then (λ v. kept v k))
 
 abbrev pub property_owner : table.Declaration → Bytes → Option Bytes
 property_owner d class = if has_modifier (codes "private") d.form then Some class else None
@@ -45,8 +40,8 @@ make_listed t n d class [] k = k
 make_listed t n d class ((name, None) ∷ vs) k =
     make_empty n (record { name = name; owner = property_owner d class }) name (typing_of d) (make_listed t n d class vs k)
 make_listed t n d class ((name, Some i) ∷ vs) k =
-    item_value d class i (λ v. of_form t d.site (type_form d.kids) v
-    (Look (λ s. Put (with_made n (record { name = name; owner = property_owner d class }) (slot.Property name) v s)
+    item_then (default_key class name) (d, Some i) class (λ v. kept v (λ w.
+    Look (λ s. Put (with_made n (record { name = name; owner = property_owner d class }) (slot.Property name) w s)
     (make_listed t n d class vs k))))
 
 -- the properties of one class
@@ -83,8 +78,8 @@ abbrev pub construct : ℕ → ℕ → Bytes → Option table.Declaration → Sc
 construct zero n class None = give (Object n)
 construct (suc i) n class None = Run (Kid i (Given [])) (entries_then (λ es. give (Object n)))
 construct zero n class (Some d) =
-    if may_be_called d then call_with d (Some n) (Some class) (value_then (λ v. give (Object n))) none else Stop Call
-construct (suc i) n class (Some d) = call i d (Some n) (Some class) (value_then (λ v. give (Object n)))
+    if may_be_called d then call_with d (Some n) (Some class) (Some class) (value_then (λ v. give (Object n))) none else Stop Call
+construct (suc i) n class (Some d) = call i d (Some n) (Some class) (Some class) (value_then (λ v. give (Object n)))
 
 -- the text and the code of an exception, as its hidden properties
 abbrev pub hidden : Bytes → Member
@@ -97,11 +92,16 @@ with_hidden n name v s = with_made n (hidden name) slot.Unnamed v s
 abbrev pub with_exception : ℕ → Value → Value → Store → Store
 with_exception n message code s = with_hidden n (codes "code") code (with_hidden n (codes "message") message s)
 
--- The constructor of an exception takes a text and an int. With anything else it is outside: 8.x throws where 7.4 converts.
+-- The constructor of an exception takes a text and an int, and sets what it is given: no text, and the code 0, leave what is
+-- there. With anything else it is outside: 8.x throws where 7.4 converts.
+abbrev pub with_code : ℕ → ℤ → Store → Store
+with_code n (pos zero) s = s
+with_code n i s = with_hidden n (codes "code") (Int i) s
+
 abbrev pub construct_exception : ℕ → Script → List Value → Script
-construct_exception n k [] = Look (λ s. Put (with_exception n (Text []) (Int (pos 0)) s) k)
-construct_exception n k (Text t ∷ []) = Look (λ s. Put (with_exception n (Text t) (Int (pos 0)) s) k)
-construct_exception n k (Text t ∷ Int i ∷ []) = Look (λ s. Put (with_exception n (Text t) (Int i) s) k)
+construct_exception n k [] = k
+construct_exception n k (Text t ∷ []) = Look (λ s. Put (with_hidden n (codes "message") (Text t) s) k)
+construct_exception n k (Text t ∷ Int i ∷ []) = Look (λ s. Put (with_code n i (with_hidden n (codes "message") (Text t) s)) k)
 construct_exception n k vs = Stop Call
 
 abbrev pub values_of : Entries → List Value
@@ -122,7 +122,7 @@ as_exception false n k = k
 abbrev pub make : Tables → Site → ℕ → ℕ → Bytes → Tables → Bool → Script
 make t site count n class cs is_exception =
     make_all t n (reverse cs) (as_exception is_exception n (asking (constructor t cs) (λ m. elim m [
-      | Some d ↦ Look (λ s. if is_seen t s site d.0.form d.1 then construct count n class (Some d.0) else throws Error)
+      | Some d ↦ Look (λ s. if may_call t s site true d then construct count n class (Some d.0) else throws Error)
       | None ↦ cond is_exception (exception_arguments count n (give (Object n))) (construct count n class None)
     ])))
 
@@ -153,7 +153,7 @@ new_object t site f = Look (λ s.
       | None ↦ no_class t name
       | Some class ↦
           if is_made t s class
-          then Put (with_object class s)
-          (make t site (kids f) (length s.objects) class (declared_line t s.declared (line t s class)) (is_in (line t s class) (codes "Throwable")))
+          then prepared t class (Look (λ u. Put (with_object class u)
+          (make t site (kids f) (length u.objects) class (declared_line t s.declared (line t s class)) (is_in (line t s class) (codes "Throwable")))))
           else throws Error
     ]))

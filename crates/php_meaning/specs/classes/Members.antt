@@ -1,6 +1,6 @@
 -- Members of classes: methods and properties as they are declared, and which code may use them. (PHP manual, "Classes and
 -- Objects": "Properties", "Visibility".)
-use Rattle.std.specs.Prelude.{ℕ, zero, suc, Bool, true, false, not, ◌&&◌, ◌||◌, if◌then◌else◌, nat_eq, List, [], ◌∷◌, codes, Option, Some, None}
+use Rattle.std.specs.Prelude.{ℕ, zero, suc, Bool, true, false, not, ◌&&◌, ◌||◌, if◌then◌else◌, nat_eq, List, [], ◌∷◌, codes, is_some, Option, Some, None}
 use Rattle.std.specs.Str.{bytes_eq}
 use Rattle.php_tree.specs.declared.kind.NodeKind.{NodeKind}
 use Rattle.php_tree.specs.declared.kind.NodeKind.TheVariants as kind
@@ -14,7 +14,7 @@ use Rattle.php_meaning.specs.names.Tables as table
 use Rattle.php_meaning.specs.expressions.Expressions.{plain_name}
 use Rattle.php_meaning.specs.runs.Stores.{same_name}
 use Rattle.php_meaning.specs.calls.Bodies.{function_word}
-use Rattle.php_meaning.specs.classes.Lines.{class_name, declared_class, is_a}
+use Rattle.php_meaning.specs.classes.Lines.{class_name, declared_class, line, kin, is_in, is_a}
 
 -- ---- members
 
@@ -46,6 +46,13 @@ abbrev pub method_in : Tables → Tables → Bytes → Option (table.Declaration
 method_in t [] name = None
 method_in t (d ∷ ds) name = elim (own_method t d name) [ Some m ↦ Some (m, class_name d) | None ↦ method_in t ds name ]
 
+-- Whether a class is of `Stringable` in 8.x, and in 7.4 not: one of exceptions, and one with a method `__toString`. (UPGRADING
+-- 8.0.)
+abbrev pub is_stringable : Tables → Store → Bytes → Bool
+is_stringable t s class =
+    is_in (line t s class) (codes "Throwable")
+    || is_some (method_in t (declared_line t s.declared (kin t s class)) (codes "__toString"))
+
 abbrev pub is_dollar : Bytes → Bool
 is_dollar [] = false
 is_dollar (b ∷ bs) = nat_eq b 36
@@ -67,6 +74,27 @@ is_seen t s site f class = elim site.class [
       if has_modifier (codes "private") f then same_name c class
       else (not (has_modifier (codes "protected") f) || is_a t s c class || is_a t s class c)
 ]
+
+-- The class that a protected method is seen by, found from the class that declares it, the first of a line: the farthest
+-- ancestor that declares it too, with no private one between. A constructor overrides an abstract one alone.
+abbrev pub root_from : Tables → Bool → Bytes → Bytes → Tables → Bytes
+root_from t is_constructor name class [] = class
+root_from t is_constructor name class (d ∷ ds) = elim (own_method t d name) [
+  | None ↦ root_from t is_constructor name class ds
+  | Some m ↦
+      if has_modifier (codes "private") m.form then class
+      else root_from t is_constructor name (if is_constructor && not (has_modifier (codes "abstract") m.form) then class else class_name d) ds
+]
+
+abbrev pub root_class : Tables → Store → Bool → table.Declaration × Bytes → Bytes
+root_class t s is_constructor m =
+    root_from t is_constructor (function_word m.0.form) m.1 (declared_line t s.declared (line t s m.1))
+
+-- whether code at a site may call a method: a constructor, or another one
+abbrev pub may_call : Tables → Store → Site → Bool → table.Declaration × Bytes → Bool
+may_call t s site is_constructor m =
+    is_seen t s site m.0.form
+    (if has_modifier (codes "protected") m.0.form then root_class t s is_constructor m else m.1)
 
 -- ---- properties
 
@@ -123,6 +151,18 @@ own_static (e ∷ es) d name = elim (index_of (listed 0 e.form) name) [
   | None ↦ own_static es d name
   | Some i ↦ if is_property e.kind && belongs d e.of && has_modifier (codes "static") e.form then Some (e, i) else own_static es d name
 ]
+
+-- a constant that a class has: one of its own, or one of another class of its line that isn't private
+abbrev pub inherited_constant : Tables → Tables → Bytes → Option (Listed × Bytes)
+inherited_constant t [] name = None
+inherited_constant t (d ∷ ds) name = elim (own_constant t d name) [
+  | None ↦ inherited_constant t ds name
+  | Some l ↦ if has_modifier (codes "private") l.0.form then inherited_constant t ds name else Some (l, class_name d)
+]
+
+abbrev pub constant_in : Tables → Tables → Bytes → Option (Listed × Bytes)
+constant_in t [] name = None
+constant_in t (d ∷ ds) name = elim (own_constant t d name) [ Some l ↦ Some (l, class_name d) | None ↦ inherited_constant t ds name ]
 
 -- the first such item along a line, and its class
 abbrev pub first_listed : (table.Declaration → Bytes → Option Listed) → Tables → Bytes → Option (Listed × Bytes)

@@ -1,6 +1,6 @@
 -- Properties of objects: which one code at a site means, its cell, its value. (PHP manual, "Classes and Objects":
 -- "Properties", "Visibility"; RFC "Typed Properties 2.0".)
-use Rattle.std.specs.Prelude.{ℕ, ◌-◌, Bool, true, false, not, ◌&&◌, ◌||◌, cond, if◌then◌else◌, nat_eq, [], ◌∷◌, codes, Option, Some, None}
+use Rattle.std.specs.Prelude.{ℕ, ◌-◌, Bool, true, false, not, ◌&&◌, ◌||◌, cond, if◌then◌else◌, nat_eq, [], ◌∷◌, codes, is_some, Option, Some, None}
 use Rattle.scope_names.specs.Slot as slot
 use Rattle.php_meaning.specs.values.Value.{Value, Null, Object, Cell, none, own}
 use Rattle.php_meaning.specs.Cause.{NoRule, Reference, Error}
@@ -13,7 +13,7 @@ use Rattle.php_meaning.specs.names.Tables as table
 use Rattle.php_meaning.specs.runs.Stores.{object_at, cell_of, with_property, without_property}
 use Rattle.php_meaning.specs.expressions.Assigning.{Properties, Base, Made, Unmade}
 use Rattle.php_meaning.specs.classes.Lines.{class_name, declared_class, line, is_a}
-use Rattle.php_meaning.specs.classes.Members.{declared_line, has_modifier, is_seen, own_property}
+use Rattle.php_meaning.specs.classes.Members.{declared_line, has_modifier, is_seen, own_property, own_static, first_listed}
 use Rattle.php_meaning.specs.classes.Declaring.{is_listed, exception_properties}
 use Rattle.php_meaning.specs.classes.Types.{typing_of, of_type}
 use Rattle.php_meaning.specs.runs.Script.{Typing, Untyped, Typed, Script, Stop, Look, Put, give, throws}
@@ -66,11 +66,17 @@ property_found t s site class name = elim (own_found t s site class name) [
   | None ↦ found_from t s site (declared_line t s.declared (line t s class)) name true
 ]
 
--- The property of an object as code at a site means it, or what comes where it may not be used. A property without a name of
--- its own here, and one that an exception has from the start, are outside.
+-- whether a property has no meaning at an object of a class: it has no name of its own here, an exception has it from the start,
+-- or it is a static one
+abbrev pub is_barred : Tables → Store → Bytes → Bytes → Bool
+is_barred t s class name =
+    is_nothing name || (is_listed name exception_properties && is_a t s class (codes "Throwable"))
+    || is_some (first_listed (own_static t) (declared_line t s.declared (line t s class)) name)
+
+-- The property of an object as code at a site means it, or what comes where it may not be used.
 abbrev pub found_then : Tables → Site → ℕ → Bytes → Script → (Found → Script) → Script
 found_then t site n name unseen k = Look (λ s.
-    if is_nothing name || (is_listed name exception_properties && is_a t s (object_at s.objects n).class (codes "Throwable"))
+    if is_barred t s (object_at s.objects n).class name
     then Stop NoRule
     else (elim (property_found t s site (object_at s.objects n).class name) [ None ↦ unseen | Some f ↦ k f ]))
 
@@ -118,7 +124,6 @@ unset_property t site v name = Stop Reference
 abbrev pub properties_at : Tables → Site → Properties
 properties_at t site = record {
   base = property_base_then t site;
-  quietly = property_quietly t site;
   typed = of_type t;
 }
 

@@ -15,40 +15,17 @@ use Rattle.php_meaning.specs.literals.Literals.{found, behind_backslash}
 use Rattle.php_meaning.specs.runs.Stores.{same_name, next_cell, with_cell, with_static, static_property_cell, object_at}
 use Rattle.php_meaning.specs.expressions.Expressions.{plain_name}
 use Rattle.php_meaning.specs.classes.Lines.{line, kin, is_a, no_class, class_then}
-use Rattle.php_meaning.specs.classes.Members.{declared_line, is_seen, Listed, own_constant, own_static, first_listed}
+use Rattle.php_meaning.specs.classes.Members.{declared_line, is_stringable, is_seen, Listed, own_static, constant_in, first_listed}
 use Rattle.php_meaning.specs.classes.Types.{type_form, typing_of, of_form}
 use Rattle.php_meaning.specs.runs.Script.{Typing, Untyped, InCell, InStatic, At, Script, Give, Stop, Look, Put, give, child_value, throws, still}
-use Rattle.php_meaning.specs.classes.Making.{item_value, known_class}
+use Rattle.php_meaning.specs.classes.Preparing.{constant_key, item_then, first_value, make_static, prepared}
+use Rattle.php_meaning.specs.classes.Making.{known_class}
 use Rattle.php_meaning.specs.classes.Methods.{class_word, word_of_class}
 
 -- ---- class constants and static properties, found when they are first used
 
-abbrev pub same_item : Option ℕ → ℕ → Bool
-same_item None i = false
-same_item (Some j) i = nat_eq i j
-
-abbrev pub belongs_to : Option Declared → Declared → Bool
-belongs_to None d = false
-belongs_to (Some e) d = is_same_declared e d
-
--- whether the value of an item is being found
-abbrev pub is_found_in : List Frame → Declared → ℕ → Bool
-is_found_in [] d i = false
-is_found_in (f ∷ fs) d i = (same_item f.item i && belongs_to f.body d) || is_found_in fs d i
-
-abbrev pub constant_key : Bytes → Bytes → Bytes
-constant_key class name = str_to_ascii_lowercase class ++ codes "::" ++ name
-
-abbrev pub value_of_item : Listed → Bytes → (Value → Script) → Script
-value_of_item (d, None) class k = k Null
-value_of_item (d, Some i) class k =
-    Look (λ s. if is_found_in (s.here ∷ s.waiting) d.at i then Stop Declaration else item_value d class i k)
-
 abbrev pub find_constant : Listed → Bytes → Bytes → Script
-find_constant l class name = Look (λ s. elim (found s.constants (constant_key class name)) [
-  | Some v ↦ give v
-  | None ↦ value_of_item l class (λ v. Look (λ u. Put (record u { constants = (constant_key class name, v) ∷ u.constants }) (give v)))
-])
+find_constant l class name = item_then (constant_key class name) l class give
 
 -- a member that a class, which may not be there, doesn't have
 abbrev pub no_member : Tables → Store → Bytes → Script
@@ -61,19 +38,10 @@ declared_kin t s class = declared_line t s.declared (kin t s class)
 abbrev pub class_constant : Tables → Site → Form → Script
 class_constant t site f = class_then site (class_word 0 f) (λ class. Look (λ s.
     if same_name (word_of_class f) (codes "class") then give (Text class)
-    else (elim (first_listed (own_constant t) (declared_kin t s class) (word_of_class f)) [
+    else (elim (constant_in t (declared_kin t s class) (word_of_class f)) [
       | None ↦ no_member t s class
       | Some l ↦ if is_seen t s site l.0.0.form l.1 then find_constant l.0 l.1 (word_of_class f) else throws Error
     ])))
-
--- the value that a static property begins with, of its type
-abbrev pub first_value : Tables → Listed → Bytes → (Value → Script) → Script
-first_value t l class k = value_of_item l class (λ v. of_form t l.0.site (type_form l.0.kids) v (k v))
-
-abbrev pub make_static : Bytes → Bytes → Value → (Cell → Script) → Script
-make_static class name v k = Look (λ s.
-    let c = next_cell (slot.StaticProperty name) s in
-    Put (with_static class name c (with_cell (slot.StaticProperty name) v s)) (k c))
 
 -- The cell of a static property, made when it is first used; none, where it has a type and no value is written down.
 abbrev pub find_static : Tables → Listed → Bytes → Bytes → Script → (Cell → Typing → Script) → Script
@@ -93,7 +61,7 @@ static_property t site f missing unmade k = class_then site (class_word 0 f) (λ
     elim (first_listed (own_static t) (declared_line t s.declared (line t s class)) name) [
       | None ↦ if is_some (known_class t s class) then missing (throws Error) else no_class t class
       | Some l ↦
-          if is_seen t s site l.0.0.form l.1 then find_static t l.0 l.1 name (unmade l.0 l.1 name) k
+          if is_seen t s site l.0.0.form l.1 then prepared t class (find_static t l.0 l.1 name (unmade l.0 l.1 name) k)
           else missing (throws Error)
     ]))
 
@@ -118,15 +86,25 @@ abbrev pub is_object_of : Tables → Store → Value → Bytes → Bool
 is_object_of t s (Object n) class = is_a t s (object_at s.objects n).class class
 is_object_of t s v class = false
 
+-- whether an object's class is of `Stringable`, in 8.x alone
+abbrev pub is_text_object : Tables → Store → Value → Bool
+is_text_object t s (Object n) = is_stringable t s (object_at s.objects n).class
+is_text_object t s v = false
+
+-- whether a value is an object of a class; of `Stringable` it is outside where the versions differ
+abbrev pub instance_of_class : Tables → Value → Bytes → Script
+instance_of_class t v class = Look (λ s.
+    if same_name class (codes "Stringable") && is_text_object t s v then Stop Declaration else give (Truth (is_object_of t s v class)))
+
 -- by the value of an expression: a class by its full name, or that of an object; anything else throws
 abbrev pub instance_of_value : Tables → Value → Value → Script
 instance_of_value t v (Object n) = Look (λ s. give (Truth (is_object_of t s v (object_at s.objects n).class)))
-instance_of_value t v (Text name) = Look (λ s. give (Truth (is_object_of t s v (behind_backslash name))))
+instance_of_value t v (Text name) = instance_of_class t v (behind_backslash name)
 instance_of_value t v w = throws Error
 
 abbrev pub instance_of : Tables → Site → Form → Script
 instance_of t site f =
     if nat_eq (kids f) 1
-    then child_value 0 (λ v. class_then site (first_word (behind_word (codes "instanceof") (texts f))) (λ class. Look (λ s.
-    give (Truth (is_object_of t s v class)))))
+    then child_value 0 (λ v. class_then site (first_word (behind_word (codes "instanceof") (texts f))) (λ class.
+    instance_of_class t v class))
     else child_value 0 (λ v. child_value 1 (λ w. still 0 v (instance_of_value t v w)))

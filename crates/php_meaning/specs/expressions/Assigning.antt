@@ -2,7 +2,6 @@
 -- Explained".)
 use Rattle.std.specs.Prelude.{ℕ, suc, ◌+◌, Bool, true, false, List, [], ◌∷◌, Option, Some, None}
 use Rattle.scope_names.specs.Slot.{Declared, Slot, StaticProperty, Unnamed}
-use Rattle.php_meaning.specs.values.Offsets.{Strict, Quiet}
 use Rattle.php_meaning.specs.values.Value.{Value, Null, Arr, Cell, Entries, none, own, shared}
 use Rattle.php_meaning.specs.Cause.{Outcome, NoRule, Reference}
 use Rattle.php_meaning.specs.Differences.{ByVersion}
@@ -14,7 +13,6 @@ use Rattle.php_meaning.specs.runs.Stores.{
   next_cell,
   with_cell,
   with_value,
-  held_or_null,
   variable_cell,
   variable_slot,
   with_variable,
@@ -22,7 +20,7 @@ use Rattle.php_meaning.specs.runs.Stores.{
   static_property_cell,
   with_static,
 }
-use Rattle.php_meaning.specs.runs.Locations.{Change, Changed, Refused, value_at, changed_at, written, shared_at, bound_at, unset_at, front, last_of}
+use Rattle.php_meaning.specs.runs.Locations.{Change, Changed, Refused, value_at, value_to_unset, changed_at, written, shared_at, bound_at, unset_at, front, last_of}
 use Rattle.php_meaning.specs.runs.Script.{
   Typing,
   Untyped,
@@ -32,6 +30,7 @@ use Rattle.php_meaning.specs.runs.Script.{
   InCell,
   InProperty,
   InStatic,
+  InValue,
   Location,
   Out,
   Val,
@@ -79,6 +78,13 @@ kept_then k (Fresh v) = k v
 kept_then k (At l) = Stop NoRule
 kept_then k (Jump w) = Give (Jump w)
 
+-- the same with what the child came to, before it was copied
+abbrev pub both_kept : (Value → Value → Script) → Out → Script
+both_kept k (Val v) = kept v (k v)
+both_kept k (Fresh v) = k v v
+both_kept k (At l) = Stop NoRule
+both_kept k (Jump w) = Give (Jump w)
+
 -- ---- where locations begin
 
 -- What a location begins with, in a store: a cell; or none yet, then with the slot of the cell that is to be made, and how it is
@@ -113,12 +119,10 @@ static_base class name d s = elim (static_property_cell s.statics class name) [
   | None ↦ Unmade (StaticProperty name) (Typed d) (with_static class name)
 ]
 
--- What depends on classes, for code at a site: what a location in a property begins with; the value of a property where
--- nothing is said of what isn't there; and what comes where a value is of the type that a declaration has, which is outside
--- for any other value.
+-- What depends on classes, for code at a site: what a location in a property begins with; and what comes where a value is of
+-- the type that a declaration has, which is outside for any other value.
 pub record Properties : Type 0 where
   pub base : Value → Bytes → (Base → Script) → Script
-  pub quietly : Value → Bytes → (Value → Script) → Script
   pub typed : Declared → Value → Script → Script
 
 abbrev pub root_then : Properties → Site → Root → (Base → Script) → Script
@@ -126,6 +130,7 @@ root_then properties site (InVariable name) k = Look (λ s. k (variable_base sit
 root_then properties site (InCell c typing) k = k (Made c typing)
 root_then properties site (InProperty v name) k = properties.base v name k
 root_then properties site (InStatic class name d) k = Look (λ s. k (static_base class name d s))
+root_then properties site (InValue v) k = Stop NoRule
 
 -- ---- locations, read and written
 
@@ -162,19 +167,7 @@ write properties site l v k = change properties site l.root l.offsets (written v
 abbrev pub read : Properties → Site → Location → (Value → Script) → Script
 read properties site l k =
     root_then properties site l.root (λ base. unless_unwritten base
-    (Look (λ s. given (value_at (cells_of s) Strict (base_value base s) l.offsets) (came_then k))))
-
--- the same where nothing is said of what isn't there
-abbrev pub root_quietly : Properties → Root → (Value → Script) → Script
-root_quietly properties (InVariable name) k = Look (λ s. k (held_or_null s (variable_cell name s)))
-root_quietly properties (InCell c typing) k = Look (λ s. k (s.held c))
-root_quietly properties (InProperty v name) k = properties.quietly v name k
-root_quietly properties (InStatic class name d) k =
-    Look (λ s. k (held_or_null s (static_property_cell s.statics class name)))
-
-abbrev pub read_quietly : Properties → Location → (Value → Script) → Script
-read_quietly properties l k =
-    root_quietly properties l.root (λ v. Look (λ s. given (value_at (cells_of s) Quiet v l.offsets) (came_then k)))
+    (Look (λ s. given (value_at (cells_of s) (base_value base s) l.offsets) (came_then k))))
 
 -- ---- references
 
@@ -209,6 +202,7 @@ bind_root (InVariable name) c k = Look (λ s. Put (with_variable name c s) k)
 bind_root (InCell d typing) c k = Stop Reference
 bind_root (InProperty v name) c k = Stop Reference
 bind_root (InStatic class name d) c k = Stop Reference
+bind_root (InValue v) c k = Stop NoRule
 
 abbrev pub bind : Properties → Site → Location → Cell → Script → Script
 bind properties site l c k = elim (last_of l.offsets) [
@@ -223,13 +217,16 @@ unset_in properties site l key k v = change properties site l.root (front l.offs
 
 abbrev pub unset_element : Properties → Site → Location → Option Value → Script → Script
 unset_element properties site l None k = Stop NoRule
-unset_element properties site l (Some key) k = read properties site (record l { offsets = front l.offsets }) (unset_in properties site l key k)
+unset_element properties site l (Some key) k =
+    root_then properties site l.root (λ base. unless_unwritten base
+    (Look (λ s. given (value_to_unset (cells_of s) (base_value base s) (front l.offsets)) (came_then (unset_in properties site l key k)))))
 
 abbrev pub unset_root : Root → Script → Script
 unset_root (InVariable name) k = Look (λ s. Put (without_variable name s) k)
 unset_root (InCell c typing) k = Stop NoRule
 unset_root (InProperty v name) k = Stop NoRule
 unset_root (InStatic class name d) k = Stop NoRule
+unset_root (InValue v) k = Stop NoRule
 
 abbrev pub unset : Properties → Site → Location → Script → Script
 unset properties site l k = elim (last_of l.offsets) [

@@ -2,7 +2,7 @@
 -- Operators", "Incrementing/Decrementing Operators".)
 use Rattle.std.specs.Prelude.{ℕ, zero, suc, Bool, true, false, not, cond, if◌then◌else◌, List, [], ◌∷◌, ◌++◌, codes, Option, Some, None}
 use Rattle.std.specs.Str.{bytes_eq}
-use Rattle.php_meaning.specs.values.Value.{Value, Null, Truth, Text, Object, Arr}
+use Rattle.php_meaning.specs.values.Value.{Value, Null, Truth, Text, Object, Arr, Cell}
 use Rattle.php_meaning.specs.Cause.{NoRule, Outcome, Reference}
 use Rattle.php_meaning.specs.values.Convert.{to_text, to_truth}
 use Rattle.php_meaning.specs.values.Keys.{to_key}
@@ -12,13 +12,13 @@ use Rattle.php_meaning.specs.expressions.QuotedTexts.{variable_read}
 use Rattle.php_meaning.specs.values.Same.{is_same}
 use Rattle.php_meaning.specs.runs.Locations.{front, last_of}
 use Rattle.php_meaning.specs.expressions.Operators.{Operation, operation}
-use Rattle.php_meaning.specs.runs.World.{Bytes}
+use Rattle.php_meaning.specs.runs.World.{Bytes, Store}
 use Rattle.scope_names.specs.Slot.{Unnamed}
 use Rattle.scope_names.specs.Form.{Form, Word, Child, texts}
 use Rattle.scope_names.specs.Words.{has_word}
 use Rattle.scope_names.specs.Sites.{Site}
-use Rattle.php_meaning.specs.runs.Stores.{cells_of, held_or_null, variable_cell}
-use Rattle.php_meaning.specs.expressions.Assigning.{Properties, numbered, kept_then, write, read, bind, cell_then, has_offsets, slot_of, read_quietly}
+use Rattle.php_meaning.specs.runs.Stores.{cells_of, held_or_null, variable_cell, lending}
+use Rattle.php_meaning.specs.expressions.Assigning.{Properties, numbered, kept, kept_then, both_kept, write, read, bind, cell_then, has_offsets, slot_of}
 use Rattle.php_meaning.specs.runs.Script.{
   InVariable,
   Location,
@@ -47,12 +47,13 @@ use Rattle.php_meaning.specs.runs.Script.{
   asking,
   came_then,
   comes,
-  Write,
   still,
-  standing,
-  Root,
-  InProperty,
   stands,
+  Placed,
+  FoundQuietly,
+  early,
+  found_value,
+  placed,
 }
 
 -- ---- variables
@@ -100,34 +101,54 @@ simple_key ws = Null
 abbrev pub offset_of : Reading → Value → Value → Script
 offset_of reading v k = Look (λ s. given (at_offset (cells_of s) reading v k) comes)
 
--- read, of a base in a mode
-abbrev pub read_offset : Mode → Reading → Form → Script
-read_offset m reading (Child ∷ Word _ o ∷ Child ∷ f) =
-    Run (Kid 0 m) (value_then (λ v. child_value 1 (λ k. offset_of reading v k)))
-read_offset m reading (Child ∷ Word _ o ∷ Word _ c ∷ []) = Stop NoRule
-read_offset m reading (Child ∷ f) = Run (Kid 0 m) (value_then (λ v. offset_of reading v (simple_key (texts f))))
-read_offset m reading f = Stop NoRule
+-- Read: the key is evaluated before the base is found, a variable, offset or property, which the key may change. (As PHP
+-- compiles it: what finds a base comes behind the keys, in the order of the bases.)
+abbrev pub read_offset : (Location → Mode) → Reading → Form → Script
+read_offset found reading (Child ∷ Word _ o ∷ Child ∷ f) =
+    early 0 (λ l. child_value 1 (λ k. found_value 0 found l (λ v. offset_of reading v k)))
+read_offset found reading (Child ∷ Word _ o ∷ Word _ c ∷ []) = Stop NoRule
+read_offset found reading (Child ∷ f) = early 0 (λ l. found_value 0 found l (λ v. offset_of reading v (simple_key (texts f))))
+read_offset found reading f = Stop NoRule
 
 -- as location
 abbrev pub offset_location : Form → (Location → Script) → Script
-offset_location (Child ∷ Word _ o ∷ Child ∷ f) k =
-    child_location 0 (λ l. child_value 1 (λ v. k (behind_offset l (Some v))))
+offset_location (Child ∷ Word _ o ∷ Child ∷ f) k = early 0 (λ l. child_value 1 (λ v. placed 0 l (λ m. k (behind_offset m (Some v)))))
 offset_location (Child ∷ Word _ o ∷ Word _ c ∷ []) k = child_location 0 (λ l. k (behind_offset l None))
 offset_location f k = Stop NoRule
 
--- a location's key, and what it is a key of
-abbrev pub key_still : Location → Option (Option Value) → Script
-key_still l (Some (Some k)) = still 1 k (standing 0 (record l { offsets = front l.offsets }) (Give stands))
-key_still l o = standing 0 (record l { offsets = front l.offsets }) (Give stands)
+-- as a base or target: its key, behind what its own base was given
+abbrev pub early_offset : Form → Script
+early_offset (Child ∷ Word _ o ∷ Child ∷ f) = early 0 (λ l. child_value 1 (λ k. Give (At (behind_offset l (Some k)))))
+early_offset (Child ∷ Word _ o ∷ Word _ c ∷ []) = early 0 (λ l. Give (At (behind_offset l None)))
+early_offset f = Stop NoRule
 
--- an offset that came to a location: its key and its base stand
-abbrev pub offset_standing : Location → Script
-offset_standing l = key_still l (last_of l.offsets)
+-- A property as a base or target has no key.
+abbrev pub early_property : Script
+early_property = early 0 (λ l. Give (At (behind_offset l None)))
 
--- a property that came to a location: the object that it is of is the same
-abbrev pub property_standing : Location → Root → Script
-property_standing l (InProperty v name) = still 0 v (Give stands)
-property_standing l root = Give stands
+abbrev pub before_last : Location → Location
+before_last l = record l { offsets = front l.offsets }
+
+-- such an offset read; where its key is a variable that was changed meanwhile, which PHP reads only now, it is outside
+abbrev pub found_at : (Location → Mode) → Reading → Location → Option (Option Value) → Script
+found_at found reading l (Some (Some k)) = still 1 k (found_value 0 found l (λ v. offset_of reading v k))
+found_at found reading l o = Stop NoRule
+
+abbrev pub found_offset : (Location → Mode) → Reading → Location → Script
+found_offset found reading l = found_at found reading (before_last l) (last_of l.offsets)
+
+-- and as location
+abbrev pub placed_at : Location → Option (Option Value) → Script
+placed_at l (Some (Some k)) = still 1 k (placed 0 l (λ m. Give (At (behind_offset m (Some k)))))
+placed_at l (Some None) = placed 0 l (λ m. Give (At (behind_offset m None)))
+placed_at l None = Stop NoRule
+
+abbrev pub placed_offset : Location → Script
+placed_offset l = placed_at (before_last l) (last_of l.offsets)
+
+-- the object of a property that is found
+abbrev pub found_object : (Location → Mode) → Location → (Value → Script) → Script
+found_object found l k = found_value 0 found (before_last l) k
 
 -- ---- array literals
 
@@ -143,6 +164,10 @@ fresh a = Give (Fresh (array a))
 abbrev pub item_value : Form → ℕ → (Bool → Script) → Script
 item_value f i k = k (has_word (codes "&") (texts f))
 
+-- An item refers to a cell: a copy of what else holds the cell is outside from then on.
+abbrev pub lend : Cell → Script → Script
+lend c k = Look (λ s. Put (lending c s) k)
+
 -- an item, into the array so far
 abbrev pub item : Properties → Site → Form → Array → Script
 item properties s f a =
@@ -150,10 +175,10 @@ item properties s f a =
     else (if has_word (codes "=>") (texts f)
     then child_value 0 (λ v. given (to_key v) (λ key.
     (if has_word (codes "&") (texts f)
-    then child_location 1 (λ l. still 0 v (cell_then properties s Unnamed l (λ c. fresh (with_element key (Shared c) a))))
+    then child_location 1 (λ l. still 0 v (cell_then properties s Unnamed l (λ c. lend c (fresh (with_element key (Shared c) a)))))
     else Run (Kid 1 Read) (kept_then (λ w. still 0 v (fresh (with_element key (Own w) a)))))))
     else (if has_word (codes "&") (texts f)
-    then child_location 0 (λ l. cell_then properties s Unnamed l (λ c. asking (appended (Shared c) a) (λ o. given o fresh)))
+    then child_location 0 (λ l. cell_then properties s Unnamed l (λ c. lend c (asking (appended (Shared c) a) (λ o. given o fresh))))
     else Run (Kid 0 Read) (kept_then (λ w. asking (appended (Own w) a) (λ o. given o fresh)))))
 
 abbrev pub fresh_then : (Value → Script) → Out → Script
@@ -171,16 +196,29 @@ array_literal n = Look (λ s. Put (numbered n s) (items 0 n (array (empty_array 
 
 -- ---- assignments
 
+-- A value goes into a target that was evaluated before. A right side that is a variable and refers to the array in which an
+-- element is written is outside: PHP reads it once the element is there.
+abbrev pub put_in : Properties → Site → Location → Value → Value → Script
+put_in properties s p w v =
+    placed 0 p (λ l. write properties s l v (if has_offsets l then still 1 w (give v) else give v))
+
+-- the keys of the target, the right side, and then the target itself
 abbrev pub assign : Properties → Site → Script
-assign properties s =
-    child_location 0 (λ l. Run (Kid 1 Read) (kept_then (λ v. standing 0 l (write properties s l v (give v)))))
+assign properties s = early 0 (λ p. Run (Kid 1 Read) (both_kept (λ w v. put_in properties s p w v)))
+
+-- What PHP throws while it finds the target of a reference comes after the reference is made, so that is outside.
+abbrev pub placed_surely : (Location → Script) → Out → Script
+placed_surely k (At l) = k l
+placed_surely k o = Stop NoRule
+
+abbrev pub refer : Properties → Site → Location → Location → Script
+refer properties s l m = cell_then properties s (slot_of s l) m (λ c. bind properties s l c (Look (λ st. give (st.held c))))
 
 -- by reference; an element to an element is outside
 abbrev pub assign_reference : Properties → Site → Script
 assign_reference properties s =
-    child_location 0 (λ l. child_location 1 (λ m. standing 0 l (
-    if has_offsets l then cond (has_offsets m) (Stop NoRule) (cell_then properties s (slot_of s l) m (λ c. bind properties s l c (Look (λ st. give (st.held c)))))
-    else cell_then properties s (slot_of s l) m (λ c. bind properties s l c (Look (λ st. give (st.held c)))))))
+    early 0 (λ p. child_location 1 (λ m. Run (Kid 0 (Placed p)) (placed_surely (λ l.
+    if has_offsets l then cond (has_offsets m) (Stop NoRule) (refer properties s l m) else refer properties s l m))))
 
 -- the operator of a compound assignment, without its `=`
 abbrev pub operator_of : Bytes → Bytes
@@ -188,25 +226,19 @@ operator_of [] = []
 operator_of (b ∷ []) = []
 operator_of (b ∷ c ∷ bs) = b ∷ operator_of (c ∷ bs)
 
--- the target is read after the right side
+-- the target is found and read after the right side
 abbrev pub compound : Properties → Site → Option Operation → Script
 compound properties s None = Stop NoRule
 compound properties s (Some o) =
-    child_location 0 (λ l. child_value 1 (λ b. standing 0 l (read properties s l (λ a.
-    given (o.left a) (λ left. asking (o.answer left b) (λ r. given r (came_then (λ v. write properties s l v (give v)))))))))
+    early 0 (λ p. child_value 1 (λ b. placed 0 p (λ l. read properties s l (λ a.
+    given (o.left a) (λ left. asking (o.answer left b) (λ r. given r (came_then (λ v. kept v (λ w. write properties s l w (give w))))))))))
 
--- `??=`: the target is read first, and where it is null the right side is written. What PHP throws while it finds the target
--- comes after the right side, so that is outside.
-abbrev pub found_quietly : (Location → Script) → Out → Script
-found_quietly k (At l) = k l
-found_quietly k (Jump w) = Stop NoRule
-found_quietly k o = Stop NoRule
-
+-- `??=`: the target is read first, and where it is null the right side is written, to what the target is by then
 abbrev pub assign_if_null : Properties → Site → Script
-assign_if_null properties s = Run (Kid 0 Write) (found_quietly (λ l. read_quietly properties l (elim [
-  | Null ↦ Run (Kid 1 Read) (kept_then (λ v. standing 0 l (write properties s l v (give v))))
+assign_if_null properties s = early 0 (λ p. found_value 0 FoundQuietly p (elim [
+  | Null ↦ Run (Kid 1 Read) (both_kept (λ w v. put_in properties s p w v))
   | w ↦ give w
-])))
+]))
 
 abbrev pub compound_by : Properties → Site → Bytes → Script
 compound_by properties s op =

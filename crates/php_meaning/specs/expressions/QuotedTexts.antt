@@ -164,7 +164,7 @@ quoted style (BehindName name) bytes i (Word k w ∷ f) =
     by_name k w (variable_read name (λ v. text_then v (λ t. quoted style (InText false) (bytes ++ t) i f)))
     (cond (is_shut f) (quoted style (InBrackets name) bytes i f) (Stop NoRule))
 quoted style (InBrackets name) bytes i (Child ∷ f) =
-    variable_read name (λ v. child_value i (λ key. text_at v key (λ t. quoted style BeforeBracket (bytes ++ t) (suc i) f)))
+    child_value i (λ key. variable_read name (λ v. text_at v key (λ t. quoted style BeforeBracket (bytes ++ t) (suc i) f)))
 quoted style (InBrackets name) bytes i (Word k w ∷ f) = Stop NoRule
 quoted style BeforeBracket bytes i (Child ∷ f) = Stop NoRule
 quoted style BeforeBracket bytes i (Word k w ∷ f) = quoted style BeforeBrace bytes i f

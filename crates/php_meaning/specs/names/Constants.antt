@@ -1,6 +1,6 @@
 -- Constants: what a name stands for, and how one is defined. (PHP manual, "Constants", `define`, "Name resolution rules";
 -- RFC "Deprecate case-insensitive constants" and UPGRADING 8.0; RFC "Deprecate and remove bareword (unquoted) strings".)
-use Rattle.std.specs.Prelude.{ℕ, suc, Bool, true, false, ◌&&◌, ◌||◌, ◌==◌, nat_le, cond, if◌then◌else◌, List, [], ◌∷◌, ◌++◌, codes, is_some, Option, Some, None}
+use Rattle.std.specs.Prelude.{ℕ, suc, Bool, true, false, not, ◌&&◌, ◌||◌, ◌==◌, nat_le, cond, if◌then◌else◌, List, [], ◌∷◌, ◌++◌, codes, is_none, is_some, Option, Some, None}
 use Rattle.std.specs.Str.{bytes_eq, str_to_ascii_lowercase}
 use Rattle.builtin_tables.specs.declared.constant.ConstantValue.{ConstantValue}
 use Rattle.builtin_tables.specs.declared.constant.ConstantValue.TheVariants as known
@@ -9,12 +9,12 @@ use Rattle.php_meaning.specs.values.Value.{Value, Null, Truth, Int, Text}
 use Rattle.php_meaning.specs.Cause.{Declaration, Error}
 use Rattle.php_meaning.specs.Differences.{Differs, UndefinedConstant}
 use Rattle.php_meaning.specs.Differences as difference
-use Rattle.php_meaning.specs.literals.Literals.{found, behind_backslash}
+use Rattle.php_meaning.specs.literals.Literals.{found}
 use Rattle.php_meaning.specs.runs.World.{Bytes, Store}
-use Rattle.scope_names.specs.Sites.{Site, candidates, in_space}
+use Rattle.scope_names.specs.Sites.{Site, candidates, in_space, alias_of}
 use Rattle.scope_names.specs.Imports.{OfConstant}
-use Rattle.scope_names.specs.Words.{is_keyword, is_end, split}
-use Rattle.php_meaning.specs.names.Reserved.{is_constant_taken}
+use Rattle.scope_names.specs.Words.{is_keyword, is_end}
+use Rattle.php_meaning.specs.names.Reserved.{is_constant_taken, is_php_constant}
 use Rattle.php_meaning.specs.runs.Script.{Script, Stop, Look, Put, give, child_value, asking, throws}
 
 -- ---- the constants that are there from the start
@@ -67,19 +67,24 @@ has_lower_case (b ∷ bs) = (nat_le 97 b && nat_le b 122) || has_lower_case bs
 abbrev pub bare_word : Bytes → Script
 bare_word name = asking (Differs UndefinedConstant true false) (λ b. cond b (give (Text name)) (throws Error))
 
--- A constant that is nowhere defined: where it is a bare name with a lower-case letter, outside of namespaces, it is its
--- own text in 7.4, and 8.3 throws. Any other one is outside.
-abbrev pub undefined : Site → Bytes → Script
-undefined s name = elim (split name).1 [
-  | None ↦ if has_lower_case name && bytes_eq s.space [] then bare_word name else Stop Declaration
-  | Some rest ↦ Stop Declaration
-]
+-- A constant that is nowhere defined: where it is a bare name with a lower-case letter, outside of namespaces and not
+-- imported, it is its own text in 7.4, and 8.3 throws. Any other one is outside, and so is one that PHP has.
+abbrev pub undefined : Site → List Bytes → Bytes → Script
+undefined s names name =
+    if has_lower_case name && bytes_eq s.space [] && is_listed names name
+    && is_none (alias_of s.imports OfConstant name) && not (is_php_constant name) then bare_word name
+    else Stop Declaration
+
+-- the constant from the start that one of these names is
+abbrev pub from_start : List Bytes → Option Value
+from_start [] = None
+from_start (n ∷ ns) = elim (known_constant n) [ Some v ↦ Some v | None ↦ from_start ns ]
 
 -- a constant that isn't known from its place or as a word of the language
 abbrev pub constant_value : Site → Bytes → Script
 constant_value s name = Look (λ st. elim (defined st (candidates s OfConstant name)) [
   | Some v ↦ give v
-  | None ↦ (elim (known_constant (behind_backslash name)) [ Some v ↦ give v | None ↦ undefined s name ])
+  | None ↦ (elim (from_start (candidates s OfConstant name)) [ Some v ↦ give v | None ↦ undefined s (candidates s OfConstant name) name ])
 ])
 
 -- ---- definitions
@@ -93,13 +98,17 @@ abbrev pub with_any_case : Bytes → Value → Store → Store
 with_any_case name v s =
     record s { constants = (str_to_ascii_lowercase name, v) ∷ s.constants; any_case = str_to_ascii_lowercase name ∷ s.any_case }
 
--- Constants that a statement defines. One that is there already is outside.
+-- whether another constant is imported under this name
+abbrev is_imported : Site → Bytes → Bool
+is_imported s w = elim (alias_of s.imports OfConstant w) [ None ↦ false | Some full ↦ not (bytes_eq full (in_space s.space w)) ]
+
+-- Constants that a statement defines. One that is there already is outside, and so is one under whose name another is imported.
 abbrev pub define_all : Site → ℕ → List Bytes → Script
 define_all s i [] = give Null
 define_all s i (w ∷ ws) =
     if is_end w || bytes_eq w (codes "=") || is_keyword (codes "const") w then define_all s i ws
     else child_value i (λ v. Look (λ st.
-    if is_constant_taken (in_space s.space w) || is_some (found st.constants (constant_key (in_space s.space w))) then Stop Declaration
+    if is_constant_taken (in_space s.space w) || is_imported s w || is_some (found st.constants (constant_key (in_space s.space w))) then Stop Declaration
     else Put (with_constant (constant_key (in_space s.space w)) v st) (define_all s (suc i) ws)))
 
 -- whether `::` stands in a name

@@ -7,12 +7,12 @@ use Rattle.php_tree.specs.declared.kind.NodeKind.TheVariants as kind
 use Rattle.php_tree.specs.Tree.{Forest, none, leaf, node}
 use Rattle.scope_names.specs.Slot.{Declared}
 use Rattle.scope_names.specs.Form.{Form, form}
-use Rattle.scope_names.specs.Sites.{Site, file_site, is_declaration, declared_here, within, beside}
-use Rattle.php_meaning.specs.runs.Kinds.{is_expression}
+use Rattle.scope_names.specs.Sites.{Site, file_site, is_declaration, declarations, declared_here, within, beside}
+use Rattle.php_meaning.specs.runs.World.{Bytes}
+use Rattle.php_meaning.specs.names.Refused.{kid_forms, no_loops, refused}
 
--- A declaration: where it stands, its kind and form, the kinds and forms of its children that are no
--- expressions, the class that it is a member
--- of, and whether it is unconditional.
+-- A declaration: where it stands, its kind and form, the kinds and forms of its children that are no expressions, the class that
+-- it is a member of, and whether it is unconditional. A file that PHP refuses to compile stands among them as an `Empty`.
 pub record Declaration : Type 0 where
   pub at : Declared
   pub kind : NodeKind
@@ -24,16 +24,6 @@ pub record Declaration : Type 0 where
 
 abbrev pub Tables : Type 0
 Tables = List Declaration
-
--- the kinds and forms of the nodes that are no expressions
-abbrev pub kid_before : Bool → NodeKind × Form → List (NodeKind × Form) → List (NodeKind × Form)
-kid_before true k ks = ks
-kid_before false k ks = k ∷ ks
-
-abbrev pub kid_forms : Forest → List (NodeKind × Form)
-kid_forms none = []
-kid_forms (leaf t f) = kid_forms f
-kid_forms (node k c f) = kid_before (is_expression k) (k, form c) (kid_forms f)
 
 -- whether what stands in a node is unconditional where the node is
 abbrev pub keeps_top : NodeKind → Bool
@@ -60,10 +50,25 @@ listed s of top (node k c f) =
     (record { at = declared_here s; kind = k; site = s; form = form c; kids = kid_forms c; of = of; is_top = top })
     (listed (within k c s) (holder k s) (keeps_top k && top) c) ++ listed (beside k c s) of top f
 
--- the declarations of a program's files
+-- a file that PHP refuses to compile, under the number behind its declarations
+abbrev pub refused_file : Bytes → ℕ → Declaration
+refused_file path n = record {
+  at = record { file = path; number = n };
+  kind = kind.Empty;
+  site = file_site path;
+  form = [];
+  kids = [];
+  of = None;
+  is_top = true;
+}
+
+abbrev pub file_entry : Bytes → Forest → Tables
+file_entry path f = entry (refused no_loops f) (refused_file path (declarations f)) []
+
+-- the declarations of a program's files, and which files PHP refuses to compile
 abbrev pub tables_of : List (List ℕ × Forest) → Tables
 tables_of [] = []
-tables_of (f ∷ fs) = listed (file_site f.0) None true f.1 ++ tables_of fs
+tables_of (f ∷ fs) = listed (file_site f.0) None true f.1 ++ (file_entry f.0 f.1 ++ tables_of fs)
 
 -- ---- finding
 

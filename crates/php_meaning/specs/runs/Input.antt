@@ -15,7 +15,7 @@ mutual
     nothing : SentItems
     item : Bytes → Sent → SentItems → SentItems
 
--- `$_GET`, `$_POST` and `$argv`
+-- `$_GET`, `$_POST` and `$argv`, whose length `$argc` is
 pub record Input : Type 0 where
   pub get : SentItems
   pub post : SentItems

@@ -1,14 +1,14 @@
 -- Locations: what can be read, written, bound by reference and unset. (PHP manual, "Variables", "Arrays", "References
 -- Explained"; what is outside is this project's own.)
-use Rattle.std.specs.Prelude.{List, [], ◌∷◌, Option, Some, None}
+use Rattle.std.specs.Prelude.{true, List, [], ◌∷◌, Option, Some, None}
 use Rattle.scope_names.specs.Slot.{Slot}
-use Rattle.php_meaning.specs.values.Value.{Value, Null, Arr, Cell, Key}
+use Rattle.php_meaning.specs.values.Value.{Value, Null, Truth, Int, Arr, Cell, Key}
 use Rattle.php_meaning.specs.Cause.{Outcome, Gives, Outside, Offset, ExceptionClass, Came, Returns, Throws, and_then, outcome_map}
 use Rattle.php_meaning.specs.Differences.{ByVersion, Alike, by_version_map, by_version_then, gives_then}
 use Rattle.php_meaning.specs.values.Keys.{to_key}
 use Rattle.php_meaning.specs.values.Cells.{Cells}
 use Rattle.php_meaning.specs.values.Arrays.{Element, Own, Shared, Array, array, element_at, with_element, appended}
-use Rattle.php_meaning.specs.values.Offsets.{Reading, Strict, Quiet, at_offset, array_to_write, without_offset}
+use Rattle.php_meaning.specs.values.Offsets.{Strict, at_offset, array_to_write, without_offset}
 use Rattle.php_meaning.specs.runs.World.{Store}
 use Rattle.php_meaning.specs.runs.Stores.{next_cell, with_cell, with_value}
 
@@ -18,16 +18,19 @@ abbrev pub goes_on : (Value → Outcome Came) → Came → Outcome Came
 goes_on k (Returns v) = k v
 goes_on k (Throws c) = Gives (Throws c)
 
--- what is read without a key: nothing is there, and where it may be missing PHP refuses it
-abbrev pub value_behind : Reading → Outcome Value
-value_behind Strict = Gives Null
-value_behind Quiet = Outside Offset
+-- the value at offsets of a value; without a key nothing is there
+abbrev pub value_at : Cells → Value → List (Option Value) → Outcome Came
+value_at cells v [] = Gives (Returns v)
+value_at cells v (None ∷ ks) = value_at cells Null ks
+value_at cells v (Some k ∷ ks) = and_then (at_offset cells Strict v k) (goes_on (λ w. value_at cells w ks))
 
--- the value at offsets of a value
-abbrev pub value_at : Cells → Reading → Value → List (Option Value) → Outcome Came
-value_at cells reading v [] = Gives (Returns v)
-value_at cells reading v (None ∷ ks) = and_then (value_behind reading) (λ w. value_at cells reading w ks)
-value_at cells reading v (Some k ∷ ks) = and_then (at_offset cells reading v k) (goes_on (λ w. value_at cells reading w ks))
+-- The value in which an element is unset, below offsets: of an int and of true 7.4 takes nothing away and 8.x throws.
+abbrev pub value_to_unset : Cells → Value → List (Option Value) → Outcome Came
+value_to_unset cells v [] = Gives (Returns v)
+value_to_unset cells v (None ∷ ks) = Outside Offset
+value_to_unset cells (Int i) (Some k ∷ ks) = Outside Offset
+value_to_unset cells (Truth true) (Some k ∷ ks) = Outside Offset
+value_to_unset cells v (Some k ∷ ks) = and_then (at_offset cells Strict v k) (goes_on (λ w. value_to_unset cells w ks))
 
 -- ---- changes
 
@@ -68,9 +71,9 @@ change_element a k (Some (Shared c)) s inner =
 -- A value with what stands at the offsets changed: `leaf` says what the value there becomes.
 abbrev pub changed_at : {A : Type 0} → (Store → Value → ByVersion (Outcome (Change A))) → Store → Value → List (Option Value) → ByVersion (Outcome (Change A))
 changed_at leaf s v [] = leaf s v
-changed_at leaf s v (None ∷ ks) = in_array (array_to_write 0 v) (λ a. then_change (changed_at leaf s Null ks) (λ w u x. put_behind a w u x))
+changed_at leaf s v (None ∷ ks) = in_array (array_to_write s.serials v) (λ a. then_change (changed_at leaf s Null ks) (λ w u x. put_behind a w u x))
 changed_at leaf s v (Some k ∷ ks) =
-    in_array (array_to_write 0 v) (λ a. gives_then (to_key k) (λ key.
+    in_array (array_to_write s.serials v) (λ a. gives_then (to_key k) (λ key.
     change_element a key (element_at key a.entries) s (λ w. changed_at leaf s w ks)))
 
 -- another value is written
@@ -94,16 +97,16 @@ shared_behind taker a s =
 
 -- the element at one offset of a value, shared
 abbrev pub shared_at : Slot → Option Value → Store → Value → ByVersion (Outcome (Change Cell))
-shared_at taker None s v = in_array (array_to_write 0 v) (λ a. shared_behind taker a s)
+shared_at taker None s v = in_array (array_to_write s.serials v) (λ a. shared_behind taker a s)
 shared_at taker (Some k) s v =
-    in_array (array_to_write 0 v) (λ a. gives_then (to_key k) (λ key. shared_element taker a key (element_at key a.entries) s))
+    in_array (array_to_write s.serials v) (λ a. gives_then (to_key k) (λ key. shared_element taker a key (element_at key a.entries) s))
 
 -- the element at one offset of a value, bound to a cell
 abbrev pub bound_at : Option Value → Cell → Store → Value → ByVersion (Outcome (Change (Unit {0})))
 bound_at None c s v =
-    in_array (array_to_write 0 v) (λ a. by_version_map (outcome_map (λ b. Changed (array b) s tt)) (appended (Shared c) a))
+    in_array (array_to_write s.serials v) (λ a. by_version_map (outcome_map (λ b. Changed (array b) s tt)) (appended (Shared c) a))
 bound_at (Some k) c s v =
-    in_array (array_to_write 0 v) (λ a. gives_then (to_key k) (λ key. Alike (Gives (Changed (array (with_element key (Shared c) a)) s tt))))
+    in_array (array_to_write s.serials v) (λ a. gives_then (to_key k) (λ key. Alike (Gives (Changed (array (with_element key (Shared c) a)) s tt))))
 
 -- ---- unsetting
 

@@ -1,5 +1,5 @@
 -- Runs: a script is played, a node is entered, a file is started.
-use Rattle.std.specs.Prelude.{ℕ, zero, suc, ◌+◌, pos, Bool, true, false, ◌&&◌, ◌||◌, nat_eq, nat_lt, cond, List, [], ◌∷◌, ◌++◌, codes, Option, Some, None}
+use Rattle.std.specs.Prelude.{ℕ, zero, suc, ◌+◌, pos, Bool, true, false, ◌&&◌, ◌||◌, nat_eq, nat_lt, cond, List, [], ◌∷◌, ◌++◌, length, codes, Option, Some, None}
 use Rattle.std.specs.Str.{bytes_eq}
 use Rattle.php_tree.specs.declared.version.Version.{Version}
 use Rattle.php_tree.specs.declared.version.Version.TheVariants.{V74, V83}
@@ -9,10 +9,11 @@ use Rattle.scope_names.specs.Slot.{Declared, Slot, FileVariable}
 use Rattle.scope_names.specs.Form.{form, kids}
 use Rattle.scope_names.specs.Sites.{Site, file_site, is_declaration, within, beside}
 use Rattle.php_meaning.specs.names.Tables.{Tables, tables_of}
-use Rattle.php_meaning.specs.values.Value.{Value, Null, Cell}
+use Rattle.php_meaning.specs.values.Value.{Value, Null, Int, Cell}
 use Rattle.php_meaning.specs.values.Value as entries
 use Rattle.php_meaning.specs.values.Cells.{is_same_cell}
 use Rattle.php_meaning.specs.values.Arrays.{array}
+use Rattle.php_meaning.specs.expressions.Assigning.{size}
 use Rattle.php_meaning.specs.runs.Input.{Input, no_items, sent_array, texts_array}
 use Rattle.php_meaning.specs.Cause.{NoRule, Call, StopMark, CompileMark}
 use Rattle.php_meaning.specs.runs.World.{
@@ -50,6 +51,9 @@ use Rattle.php_meaning.specs.runs.Script.{
   Mode,
   Read,
   Quiet,
+  Early,
+  Found,
+  FoundQuietly,
   Target,
   Kid,
   Again,
@@ -160,6 +164,10 @@ value_of Read (Val v) = Some v
 value_of Read (Fresh v) = Some v
 value_of Quiet (Val v) = Some v
 value_of Quiet (Fresh v) = Some v
+value_of (Found l) (Val v) = Some v
+value_of (FoundQuietly l) (Val v) = Some v
+value_of Early (Val v) = Some v
+value_of Early (Fresh v) = Some v
 value_of m o = None
 
 abbrev pub moment_of : Out → Moment
@@ -289,7 +297,8 @@ enter is_new t p marks n =
 abbrev pub slot_numbered : ℕ → Slot
 slot_numbered zero = FileVariable (codes "_GET")
 slot_numbered (suc zero) = FileVariable (codes "_POST")
-slot_numbered n = FileVariable (codes "argv")
+slot_numbered (suc (suc zero)) = FileVariable (codes "argv")
+slot_numbered n = FileVariable (codes "argc")
 
 abbrev pub cell_numbered : ℕ → Cell
 cell_numbered n = record { number = n; slot = slot_numbered n }
@@ -298,7 +307,8 @@ abbrev pub first_values : Input → Cell → Value
 first_values input c =
     cond (is_same_cell c (cell_numbered 0)) (array (sent_array no_items input.get))
     (cond (is_same_cell c (cell_numbered 1)) (array (sent_array no_items input.post))
-    (cond (is_same_cell c (cell_numbered 2)) (array (texts_array no_items 0 input.argv)) Null))
+    (cond (is_same_cell c (cell_numbered 2)) (array (texts_array no_items 0 input.argv))
+    (cond (is_same_cell c (cell_numbered 3)) (Int (pos (length input.argv))) Null)))
 
 abbrev pub first_frame : Frame
 first_frame = record {
@@ -306,6 +316,7 @@ first_frame = record {
   variables = [];
   this = None;
   class = None;
+  copy = None;
   arguments = entries.none;
   item = None;
 }
@@ -313,9 +324,10 @@ first_frame = record {
 abbrev pub first_store : Input → Store
 first_store input = record {
   held = first_values input;
-  made = 3;
-  serials = 0;
-  globals = (codes "_GET", cell_numbered 0) ∷ (codes "_POST", cell_numbered 1) ∷ (codes "argv", cell_numbered 2) ∷ [];
+  made = 4;
+  serials = size (array (sent_array no_items input.get)) + (size (array (sent_array no_items input.post)) + size (array (texts_array no_items 0 input.argv)));
+  globals = (codes "_GET", cell_numbered 0) ∷ (codes "_POST", cell_numbered 1) ∷ (codes "argv", cell_numbered 2)
+      ∷ (codes "argc", cell_numbered 3) ∷ [];
   here = first_frame;
   waiting = [];
   statics = [];
@@ -324,6 +336,9 @@ first_store input = record {
   any_case = [];
   declared = [];
   started = [];
+  strict = [];
+  lent = [];
+  walked = [];
 }
 
 abbrev pub first_world : Input → ℕ → World

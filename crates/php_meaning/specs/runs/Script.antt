@@ -21,13 +21,15 @@ pub data Typing : Type 0 where
   Untyped : Typing
   Typed : Declared → Typing
 
--- where a location begins: in the variable with this name, in a cell, in the property with this name of a value, or in the
--- static property of a class that has a type, by its declaration, and no value of its own yet
+-- where a location begins: in the variable with this name, in a cell, in the property with this name of a value, in the
+-- static property of a class that has a type, by its declaration, and no value of its own yet, or with a value that was
+-- evaluated, which is written by nothing
 pub data Root : Type 0 where
   InVariable : Bytes → Root
   InCell : Cell → Typing → Root
   InProperty : Value → Bytes → Root
   InStatic : Bytes → Bytes → Declared → Root
+  InValue : Value → Root
 
 -- What can be written: where it begins, and the offsets from there on, each at a value or without a key.
 pub record Location : Type 0 where
@@ -68,9 +70,15 @@ pub data Mode : Type 0 where
   Entered : Mode
   -- a declaration's item with this index: its value
   Item : ℕ → Mode
-  -- what gave a value, or came to a location, before: to see that the plain variables in it still hold what they held
+  -- what gave a value before: to see that a plain variable still holds what it held
   Unchanged : Value → Mode
-  Standing : Location → Mode
+  -- as a base or a target, which PHP finds once what stands to its right was evaluated: for its keys, and a base that is no
+  -- variable, offset or property, as a location whose offset of a property has no key
+  Early : Mode
+  -- found then: for its value, for its value where nothing is said of what isn't there, or as a location
+  Found : Location → Mode
+  FoundQuietly : Location → Mode
+  Placed : Location → Mode
 
 -- what a node runs: a child by its index, a further pass of itself, a declaration elsewhere, or a file
 pub data Target : Type 0 where
@@ -136,9 +144,27 @@ still i v k = Run (Kid i (Unchanged v)) (value_then (λ u. k))
 abbrev pub stands : Out
 stands = Val Null
 
--- the same of a child that came to a location, and the plain variables among its keys
-abbrev pub standing : ℕ → Location → Script → Script
-standing i l k = Run (Kid i (Standing l)) (value_then (λ u. k))
+-- a child as a base or a target, and what then comes
+abbrev pub early_then : (Location → Script) → Out → Script
+early_then k (Val v) = k (record { root = InValue v; offsets = [] })
+early_then k (Fresh v) = k (record { root = InValue v; offsets = [] })
+early_then k (At l) = k l
+early_then k (Jump w) = Give (Jump w)
+
+abbrev pub early : ℕ → (Location → Script) → Script
+early i k = Run (Kid i Early) (early_then k)
+
+-- the value of such a child, which was evaluated, or is found now
+abbrev pub found_from : List (Option Value) → Root → Script → (Value → Script) → Script
+found_from [] (InValue v) later k = k v
+found_from os root later k = later
+
+abbrev pub found_value : ℕ → (Location → Mode) → Location → (Value → Script) → Script
+found_value i m l k = found_from l.offsets l.root (Run (Kid i (m l)) (value_then k)) k
+
+-- its location, as it is now
+abbrev pub placed : ℕ → Location → (Location → Script) → Script
+placed i l k = Run (Kid i (Placed l)) (location_then k)
 
 -- goes on with what an operation gives
 abbrev pub given : {A : Type 0} → Outcome A → (A → Script) → Script

@@ -167,10 +167,6 @@ abbrev pub object_cells : List world.Object → List Cell
 object_cells [] = []
 object_cells (o ∷ os) = named_cells o.properties ++ object_cells os
 
--- the cells that something outside of arrays holds, one for each holder
-abbrev pub roots : Store → List Cell
-roots s = named_cells s.globals ++ named_cells s.here.variables ++ frame_cells s.waiting ++ static_cells s.statics ++ object_cells s.objects
-
 -- these cells and those, each once
 abbrev pub added_cells : List Cell → List Cell → List Cell
 added_cells seen [] = seen
@@ -179,6 +175,13 @@ added_cells seen (c ∷ cs) = if is_among c seen then added_cells seen cs else a
 abbrev pub cells_held : Store → List Cell → List Cell
 cells_held s [] = []
 cells_held s (c ∷ cs) = cells_in (s.held c) ++ cells_held s cs
+
+-- The cells that something outside of arrays holds, one for each holder. A loop by reference holds the cell that it walks
+-- over, and the cells in its array: copying that array would make 7.4 begin it again, and 8.3 go on.
+abbrev pub roots : Store → List Cell
+roots s =
+    named_cells s.globals ++ named_cells s.here.variables ++ frame_cells s.waiting ++ static_cells s.statics ++ object_cells s.objects
+    ++ s.lent ++ s.walked ++ cells_held s s.walked
 
 -- the cells that are reached from these in at most so many steps
 abbrev pub reached : ℕ → Store → List Cell → List Cell
@@ -192,6 +195,30 @@ times_among c (d ∷ ds) = if is_same_cell c d then suc (times_among c ds) else 
 -- How many holders a cell has, of those that can be reached.
 abbrev pub holders : Store → Cell → ℕ
 holders s c = times_among c (roots s ++ cells_held s (reached s.made s (added_cells [] (roots s))))
+
+-- cells without one of them
+abbrev pub without_cell : Cell → List Cell → List Cell
+without_cell c [] = []
+without_cell c (d ∷ ds) = if is_same_cell c d then ds else d ∷ without_cell c ds
+
+-- the store where something that is not stored yet refers to a cell, or no more to those of entries
+abbrev pub lending : Cell → Store → Store
+lending c s = record s { lent = c ∷ s.lent }
+
+abbrev pub without_shared : Entries → List Cell → List Cell
+without_shared none cs = cs
+without_shared (own k n v rest) cs = without_shared rest cs
+without_shared (shared k n c rest) cs = without_shared rest (without_cell c cs)
+
+abbrev pub given_back : Entries → Store → Store
+given_back es s = record s { lent = without_shared es s.lent }
+
+-- the store where a loop by reference walks over the array in a cell, or no more
+abbrev pub walking : Cell → Store → Store
+walking c s = record s { walked = c ∷ s.walked }
+
+abbrev pub walked_over : Cell → Store → Store
+walked_over c s = record s { walked = without_cell c s.walked }
 
 -- what the store tells of cells
 abbrev pub cells_of : Store → Cells

@@ -20,13 +20,14 @@ pub record Object : Type 0 where
   pub properties : List (Member × Cell)
 
 -- A body that runs: the function or method, or none for a file's own statements; its variables by name; its object; the
--- class that it was called by; the arguments that wait for its parameters, one that is passed by reference as a shared
+-- class that it was called by, and the one whose copy of the method it is; the arguments that wait for its parameters, one that is passed by reference as a shared
 -- entry; and, where it is no body but a value that a declaration writes down, the item: no call may start there.
 pub record Frame : Type 0 where
   pub body : Option Declared
   pub variables : List (Bytes × Cell)
   pub this : Option ℕ
   pub class : Option Bytes
+  pub copy : Option Bytes
   pub arguments : Entries
   pub item : Option ℕ
 
@@ -34,7 +35,8 @@ pub record Frame : Type 0 where
 -- level by name, the body that runs and those that wait for it (the last one is the file's, and has no variables of its own),
 -- the cells of statics and static properties by slot and, where classes have a copy each, by class, the objects by number,
 -- the constants by name and which of them are found without case, and what was declared and which files were started, the
--- newest first.
+-- newest first; the files that declared strict types; the cells that items of arrays and arguments refer to before they are
+-- stored, and those whose arrays loops by reference walk over.
 pub record Store : Type 0 where
   pub held : Cell → Value
   pub made : ℕ
@@ -48,6 +50,9 @@ pub record Store : Type 0 where
   pub any_case : List Bytes
   pub declared : List Declared
   pub started : List Bytes
+  pub strict : List Bytes
+  pub lent : List Cell
+  pub walked : List Cell
 
 -- the store with a new object of a class, without properties
 abbrev pub with_object : Bytes → Store → Store

@@ -11,6 +11,7 @@ use Rattle.scope_names.specs.Slot.{Unnamed}
 use Rattle.scope_names.specs.Form.{Form, Word, Child, kids, texts}
 use Rattle.scope_names.specs.Words.{has_word, has_keyword, ends_statement}
 use Rattle.scope_names.specs.Sites.{Site}
+use Rattle.php_meaning.specs.runs.Stores.{walking, walked_over}
 use Rattle.php_meaning.specs.runs.Locations.{shared_element}
 use Rattle.php_meaning.specs.expressions.Assigning.{Properties, Made, kept_then, after_change, write, bind, cell_then, has_offsets, slot_of}
 use Rattle.php_meaning.specs.runs.Script.{
@@ -34,6 +35,7 @@ use Rattle.php_meaning.specs.runs.Script.{
   Give,
   Stop,
   Look,
+  Put,
   Turn,
   Run,
   give,
@@ -171,7 +173,8 @@ foreach_behind properties s f c met v = give Null
 abbrev pub foreach : Properties → Site → Form → Script
 foreach properties s f =
     if by_reference f
-    then child_location 0 (λ l. cell_then properties s Unnamed l (λ c. Run (Again (Behind c None)) Give))
+    then child_location 0 (λ l. cell_then properties s Unnamed l (λ c. Look (λ st. Put (walking c st)
+    (Run (Again (Behind c None)) (λ o. Look (λ u. Put (walked_over c u) (Give o)))))))
     else Run (Kid 0 Read) (kept_then foreach_over)
 
 -- ---- switch

@@ -12,7 +12,7 @@ use Rattle.php_terminals.specs.declared.terminal.Terminal.TheVariants as t
 use Rattle.php_terminals.specs.Classify.{is_word_kind, terminal_by}
 use Rattle.php_terminals.specs.Terminals.{code}
 use Rattle.php_grammar.specs.Accepts.{accepts}
-use Rattle.php_grammar.specs.Bases.{is_callee, is_class_base, is_list, is_member_base, is_offset_base, is_short_ternary, is_target}
+use Rattle.php_grammar.specs.Bases.{is_callee, is_class_base, is_list, is_member_base, is_offset_base, is_short_ternary, is_target, is_variable_expression}
 use Rattle.php_grammar.specs.Edges.{edge}
 use Rattle.php_grammar.specs.Levels.{level}
 use Rattle.std.specs.Prelude.{nat_le}
@@ -33,7 +33,9 @@ use Rattle.php_shapes.specs.Places.{
   Target,
   TargetOrList,
   ClassName,
+  Embedded,
   begins_with_class_name,
+  begins_with_variable,
   is_class_name,
   is_expression,
   is_prefix,
@@ -219,6 +221,17 @@ class_name k.Prop e = refl
 class_name k.StaticProp e = refl
 class_name _ e = absurd cc
 
+variable_expression : (j : NodeKind) → is_variable_expression j ≡ true → is_value j ≡ true
+variable_expression k.Variable e = refl
+variable_expression k.Offset e = refl
+variable_expression k.BraceOffset e = refl
+variable_expression k.Prop e = refl
+variable_expression k.StaticProp e = refl
+variable_expression k.Call e = refl
+variable_expression k.MethodCall e = refl
+variable_expression k.StaticCall e = refl
+variable_expression _ e = absurd cc
+
 list_is : (j : NodeKind) → is_list j ≡ true → is_value j ≡ true
 list_is k.List e = refl
 list_is _ e = absurd cc
@@ -249,6 +262,7 @@ place_value Callee j c h e = callee j e
 place_value Target j c h e = target j e
 place_value TargetOrList j c h e = value_by (is_target j) (is_list j) j (target j) (list_is j) e
 place_value ClassName j c h e = class_name j (both_left (is_class_name j) (begins_with_class_name c) e)
+place_value Embedded j c h e = variable_expression j (both_left (is_variable_expression j) (begins_with_variable (node j c none)) e)
 
 -- a value or a block
 abbrev pub is_value_or_block : NodeKind → Bool

@@ -219,7 +219,7 @@ quoted_kind j h p = absurd cc
 -- ---- rules that name a kind and its parts
 
 -- whether no quoted text is among them
-abbrev names_no_text : Rule → Bool
+abbrev pub names_no_text : Rule → Bool
 names_no_text nothing = true
 names_no_text (word c) = true
 names_no_text (rule.kind j) = true
@@ -230,7 +230,7 @@ names_no_text (r ||| s) = names_no_text r && names_no_text s
 names_no_text (many r) = names_no_text r
 names_no_text tokens = true
 
-form_names_no_text : (j : NodeKind) → names_no_text (form V74 j) ≡ true
+pub form_names_no_text : (j : NodeKind) → names_no_text (form V74 j) ≡ true
 form_names_no_text k.Block = refl
 form_names_no_text k.Empty = refl
 form_names_no_text k.ExprStmt = refl

@@ -134,11 +134,11 @@ drafted known bytes f reads safe traits =
     }
 
 pub files_have_rows : NamedKeeps → NamesArePut → RowsAreCommon → Known → DraftsHaveRows → FilesHaveRows
-files_have_rows keeps put common known rows bytes f reads safe traits texts =
-    has_row keeps put common f (drafted known bytes f reads safe traits) (rows bytes f reads traits texts)
+files_have_rows keeps put common known rows bytes f reads safe traits =
+    has_row keeps put common f (drafted known bytes f reads safe traits) (rows bytes f reads traits)
 
 pub written_files_are_lexed : FilesHaveRows → RowsAreLexed → WrittenFilesAreLexed
-written_files_are_lexed rows lexed bytes f reads safe traits texts = lexed bytes f reads (rows bytes f reads safe traits texts)
+written_files_are_lexed rows lexed bytes f reads safe traits = lexed bytes f reads (rows bytes f reads safe traits)
 
 pub written_files_are_read : WrittenFilesAreLexed → RewrittenIsRead → WrittenFilesAreRead
-written_files_are_read lexed read bytes f reads reported safe traits texts = read bytes f reads reported (lexed bytes f reads safe traits texts)
+written_files_are_read lexed read bytes f reads reported safe traits = read bytes f reads reported (lexed bytes f reads safe traits)

@@ -24,7 +24,7 @@ use Rattle.syntax_rules.proofs.InContext.{wrapping_is}
 use Rattle.written_tokens.specs.tokens.Written.{draft_tokens}
 use Rattle.rewritten_shapes.specs.paired.Paired.{is_common, is_ternary, may_be_grouped}
 use Rattle.rewritten_shapes.specs.paired.Tokens.{opens_text}
-use Rattle.written_reading.specs.edited.PlainTexts.{has_operands}
+use Rattle.written_reading.proofs.edited.PlainTexts.{has_operands}
 
 -- ---- what is put round nodes
 

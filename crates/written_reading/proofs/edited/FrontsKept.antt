@@ -21,7 +21,7 @@ use Rattle.syntax_rules.specs.UnsetCast.{of_variable, is_edited}
 use Rattle.syntax_rules.specs.InContext.{changed_node, draft_in}
 use Rattle.written_tokens.specs.tokens.Written.{draft_tokens}
 use Rattle.rewritten_shapes.specs.paired.Paired.{Paired, no_part, token, rounds, braces, part, brace_offset, cast, text}
-use Rattle.written_reading.specs.edited.PlainTexts.{has_operands, begins_plainly}
+use Rattle.written_reading.proofs.edited.PlainTexts.{has_operands, begins_plainly}
 use Rattle.written_reading.proofs.edited.Drafts.{is_free, free_wrapping, common_node, part_draft, opening_part}
 
 -- the bytes of the first token, with its trivia

@@ -2,12 +2,9 @@
 use Rattle.std.proofs.Common.{◌≡◌, Bool, true, false, not, ◌&&◌, ◌||◌, refl, sym, subst}
 use Rattle.std.proofs.lemmas.Bool.{and_parts}
 use Rattle.php_tree.specs.declared.kind.NodeKind.{NodeKind}
-use Rattle.php_tree.specs.declared.kind.NodeKind.TheVariants as kind
-use Rattle.php_tree.specs.Tree.{Forest, none, leaf, node, File}
-use Rattle.syntax_rules.specs.Together.{is_quoted}
+use Rattle.php_tree.specs.Tree.{Forest, none, leaf, node}
 use Rattle.written_tokens.specs.tokens.Written.{has_nullsafe, is_quoted_node, is_safe}
 use Rattle.rewritten_shapes.specs.paired.Traits.{PlainTraits, has_plain_rules, is_trait_use}
-use Rattle.written_reading.specs.edited.PlainTexts.{PlainTexts, has_plain_code}
 use Rattle.written_reading.specs.edited.Laws.{FilesWithNeitherArePlain, has_neither}
 
 both : (a b : Bool) → a ≡ true → b ≡ true → (a && b) ≡ true
@@ -22,10 +19,6 @@ neither true b h = absurd cc
 never : (a : Bool) (P : Type 0) → a ≡ false → a ≡ true → P
 never true P p q = absurd cc
 never false P p q = absurd cc
-
-quoted_too : (k : NodeKind) → is_quoted_node k ≡ false → is_quoted k ≡ false
-quoted_too kind.Quoted h = absurd cc
-quoted_too k h = refl
 
 -- what a node without such nodes has
 record Parts (k : NodeKind) (c f : Forest) : Type 0 where
@@ -57,12 +50,5 @@ traits (node k c f) h =
     let p : Parts k c f = parts k c f h in
     (never (is_trait_use k) (has_plain_rules c ≡ true) p.trait, traits c p.within, traits f p.behind)
 
-texts : (f : Forest) → has_neither f ≡ true → PlainTexts f
-texts none h = tt
-texts (leaf t f) h = texts f h
-texts (node k c f) h =
-    let p : Parts k c f = parts k c f h in
-    (never (is_quoted k) (has_plain_code c ≡ true) (quoted_too k p.quoted), texts c p.within, texts f p.behind)
-
 pub files_with_neither_are_plain : FilesWithNeitherArePlain
-files_with_neither_are_plain f h = (safe f.statements h, traits f.statements h, texts f.statements h)
+files_with_neither_are_plain f h = (safe f.statements h, traits f.statements h)

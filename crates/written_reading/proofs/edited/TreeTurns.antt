@@ -21,7 +21,7 @@ use Rattle.written_tokens.specs.tiles.Becomes.{BecomesJoin}
 use Rattle.written_tokens.specs.tiles.Edits.{BracesBecome, BracesAreSquared, RoundsBecome, RoundsComeIn, CastsBecomeFloat, CastsBecomeNull}
 use Rattle.written_tokens.specs.texts.TextRows.{TextsBecome}
 use Rattle.rewritten_shapes.specs.paired.Tokens.{is_op, is_code_kind, is_code_token, has_stop, IsMark}
-use Rattle.written_reading.specs.edited.PlainTexts.{PlainTexts}
+use Rattle.written_reading.proofs.edited.PlainTexts.{PlainTexts}
 use Rattle.written_reading.proofs.edited.TileFacts.{leaves_html, html_behind}
 use Rattle.written_reading.proofs.edited.Turns.{Turns, turns_join}
 use Rattle.written_reading.proofs.edited.Leads.{Means}

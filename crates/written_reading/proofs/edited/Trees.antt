@@ -39,7 +39,7 @@ use Rattle.rewritten_shapes.specs.paired.Paired.{
   expression,
 }
 use Rattle.rewritten_shapes.specs.paired.Tokens.{is_op, is_mark, is_code_kind, is_code_token, opens_text, has_stop, IsMark}
-use Rattle.written_reading.specs.edited.PlainTexts.{begins_plainly, is_curly, has_plain_code, PlainTexts}
+use Rattle.written_reading.proofs.edited.PlainTexts.{begins_plainly, is_curly, has_plain_code, PlainTexts}
 use Rattle.written_reading.proofs.edited.TileFacts.{leaves_html, html_behind}
 use Rattle.written_reading.proofs.edited.Turns.{Turns, turns_join}
 use Rattle.written_reading.proofs.edited.TileKinds.{is_marked}

@@ -33,6 +33,7 @@ use Rattle.written_reading.proofs.edited.TileFacts.{mode_of, html_behind, clean_
 use Rattle.written_reading.proofs.edited.Turns.{Filled, Row, Turns, parted_spelled, steps_left, becomes_both}
 use Rattle.written_reading.proofs.edited.Leads.{Means, inner_mode, clean_trivia, lead_becomes}
 use Rattle.written_reading.proofs.edited.TreeTurns.{Laws}
+use Rattle.written_reading.proofs.edited.ShapedTexts.{shaped_texts}
 use Rattle.written_reading.proofs.edited.Trees.{paired_turns}
 
 -- The row of some draft's tokens and the end of the file.
@@ -120,14 +121,14 @@ module _ (laws : Laws) (ends : EndOfRow) (e : Token) where
   ended_by stop (s ∷ ss) ts tiles steps same r = ended_some stop s ss ts tiles steps r
 
 pub drafts_have_rows : Laws → EndOfRow → TokensAreTiles → ShapedFilesArePaired → DraftsHaveRows
-drafts_have_rows laws ends tiled shaped bytes f reads traits texts =
+drafts_have_rows laws ends tiled shaped bytes f reads traits =
     let lexed = (subst (TokensOf V74 bytes) reads.parsed.text reads.lexed).lexed in
     let all : InARow V74 start [] bytes (map lexeme (file_leaves f)) = tiled V74 start [] bytes (map lexeme (file_leaves f)) lexed in
     let shape : Shape V74 f = (file_has_shape V74 reads.tokens f reads.parsed).0 in
     let d = draft_in at_top true f.statements in
     let same : spelled [] all.tiles ≡ map lexeme (leaves f.statements) ++ lexeme f.end ∷ [] =
     all.tokens ∙ sym (append-nil (map lexeme (file_leaves f))) ∙ parted_spelled (leaves f.statements) (f.end ∷ []) [] in
-    let turns : Turns true (has_stop f.statements) (leaves f.statements) (draft_tokens d) = paired_turns laws (shaped f shape traits) at_top true true texts in
+    let turns : Turns true (has_stop f.statements) (leaves f.statements) (draft_tokens d) = paired_turns laws (shaped f shape traits) at_top true true (shaped_texts f shape) in
     let r : EndedRow (draft_tokens d) f.end =
     ended_by laws ends f.end (has_stop f.statements) (leaves f.statements) (draft_tokens d) all.tiles all.steps same
     (turns [] 0 all.tiles (lexeme f.end ∷ []) refl all.steps same) in

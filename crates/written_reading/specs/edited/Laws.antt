@@ -9,17 +9,15 @@ use Rattle.written_tokens.specs.tokens.Written.{NoNullsafeText, HasTokens, is_qu
 use Rattle.written_reading.specs.Laws.{IsRead}
 use Rattle.written_reading.specs.Parted.{HasRow}
 use Rattle.rewritten_shapes.specs.paired.Traits.{PlainTraits, is_trait_use}
-use Rattle.written_reading.specs.edited.PlainTexts.{PlainTexts}
 
 -- A file that 7.4 reads has the row of 7.4 that its rewriting needs, where no simple variable of a quoted text stands
--- directly before `?->` and a letter, and its uses of traits and the code in its quoted texts are as PHP has them.
+-- directly before `?->` and a letter, and its uses of traits are as PHP has them.
 abbrev pub FilesHaveRows : Type 0
 FilesHaveRows =
     (bytes : List ℕ) (f : File) →
     Reads V74 bytes f →
     NoNullsafeText f →
     PlainTraits f.statements →
-    PlainTexts f.statements →
     HasRow f
 
 -- So it has the tokens of 8.3 once it is rewritten.
@@ -29,7 +27,6 @@ WrittenFilesAreLexed =
     Reads V74 bytes f →
     NoNullsafeText f →
     PlainTraits f.statements →
-    PlainTexts f.statements →
     HasTokens (rewritten f)
 
 -- 8.3 reads from the bytes of the rewritten file this file and no other, where the rules also report nothing that stops
@@ -41,7 +38,6 @@ WrittenFilesAreRead =
     NoneReported f.statements →
     NoNullsafeText f →
     PlainTraits f.statements →
-    PlainTexts f.statements →
     IsRead V83 (rewritten f)
 
 -- whether no node is a quoted text or a use of traits
@@ -54,4 +50,4 @@ has_neither (node k c f) = not (is_quoted_node k || is_trait_use k) && (has_neit
 abbrev pub FilesWithNeitherArePlain : Type 0
 FilesWithNeitherArePlain =
     (f : File) → has_neither f.statements ≡ true →
-    NoNullsafeText f × PlainTraits f.statements × PlainTexts f.statements
+    NoNullsafeText f × PlainTraits f.statements

@@ -12,7 +12,6 @@ use Rattle.php_reading.specs.Reading.{Reads}
 use Rattle.written_tokens.specs.tokens.Written.{new_lexeme, draft_tokens}
 use Rattle.written_tokens.specs.tokens.Spaced.{nameless_draft}
 use Rattle.rewritten_shapes.specs.paired.Traits.{PlainTraits}
-use Rattle.written_reading.specs.edited.PlainTexts.{PlainTexts}
 
 -- whether a tile is neither `${` nor a comment that begins `#[`
 abbrev pub is_clean : Kind → ℕ → List ℕ → Bool
@@ -33,7 +32,7 @@ pub record DraftRow (f : File) : Type 0 where
       spelled [] row
       ≡ map new_lexeme (draft_tokens (nameless_draft f).statements) ++ new_lexeme (nameless_draft f).end ∷ []
 
--- A file that 7.4 reads has such a row, where its uses of traits and its quoted texts are as PHP has them.
+-- A file that 7.4 reads has such a row, where its uses of traits are as PHP has them.
 abbrev pub DraftsHaveRows : Type 0
 DraftsHaveRows =
-    (bytes : List ℕ) (f : File) → Reads V74 bytes f → PlainTraits f.statements → PlainTexts f.statements → DraftRow f
+    (bytes : List ℕ) (f : File) → Reads V74 bytes f → PlainTraits f.statements → DraftRow f

@@ -7,4 +7,5 @@ use Rattle.node_facts.proofs.class_uses.class_uses.Given as goal
 
 abbrev pub invariant-loop-word : goal.invariant-loop-word
 invariant-loop-word l =
-    uses_in l.uses.items ++ class_uses (site_of l.scene) (texts_of (drop l.word-index l.words)) ≡ class_uses (site_of l.scene) (texts_of l.words)
+    uses_in l.uses.items ++ class_uses (site_of l.scene) (texts_of (drop l.word-index l.words))
+    ≡ uses_in l.fn.uses.items ++ class_uses (site_of l.scene) (texts_of l.words)

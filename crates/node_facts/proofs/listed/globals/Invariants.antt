@@ -9,7 +9,7 @@ use Rattle.node_facts.proofs.listed.globals.Given as goal
 abbrev pub invariant-parts : goal.invariant-parts
 invariant-parts l =
     map (slots_in l.scene.spot.path.now) l.slots.items ++ map (with_global (standing_of l.scene)) (kid_variables (forest_in l.left))
-    ≡ map (with_global (standing_of l.scene)) (kid_variables (forest_in l.fn.parts))
+    ≡ map (slots_in l.scene.spot.path.now) l.fn.slots.items ++ map (with_global (standing_of l.scene)) (kid_variables (forest_in l.fn.parts))
 
 abbrev pub decreases-parts : goal.decreases-parts
 decreases-parts l = weight (forest_in l.left)

@@ -9,4 +9,4 @@ abbrev pub invariant-loop-name : goal.invariant-loop-name
 invariant-loop-name l =
     map (slots_in l.scene.spot.path.now) l.slots.items
     ++ map (λ name. twice (if l.is_static then static_property name else instance_property name)) (texts_of (drop l.name-index l.words))
-    ≡ map (λ name. twice (if l.is_static then static_property name else instance_property name)) (texts_of l.words)
+    ≡ map (slots_in l.scene.spot.path.now) l.fn.slots.items ++ map (λ name. twice (if l.is_static then static_property name else instance_property name)) (texts_of l.words)

@@ -9,4 +9,4 @@ use Rattle.node_facts.proofs.listed.statics.Given as goal
 abbrev pub invariant-loop-name : goal.invariant-loop-name
 invariant-loop-name l =
     map (slots_in l.scene.spot.path.now) l.slots.items ++ map (with_static (standing_of l.scene)) (texts_of (drop l.name-index l.words))
-    ≡ map (with_static (standing_of l.scene)) (texts_of l.words)
+    ≡ map (slots_in l.scene.spot.path.now) l.fn.slots.items ++ map (with_static (standing_of l.scene)) (texts_of l.words)

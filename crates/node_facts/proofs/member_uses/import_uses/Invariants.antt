@@ -7,4 +7,5 @@ use Rattle.node_facts.proofs.member_uses.import_uses.Given as goal
 
 abbrev pub invariant-loop-import : goal.invariant-loop-import
 invariant-loop-import l =
-    uses_in l.uses.items ++ map import_use (map import_of (drop l.import-index l.imports)) ≡ map import_use (map import_of l.imports)
+    uses_in l.uses.items ++ map import_use (map import_of (drop l.import-index l.imports))
+    ≡ uses_in l.fn.uses.items ++ map import_use (map import_of l.imports)

@@ -1,4 +1,4 @@
-use Rattle.nothing_reported.proofs.AllNodes.{nothing_reported}
+use Rattle.nothing_reported.proofs.Whole.{nothing_reported}
 use Rattle.nothing_reported.proofs.laws.nothing_reported.Goals as goal
 
 pub returns : goal.returns

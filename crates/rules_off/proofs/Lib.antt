@@ -1,0 +1,12 @@
+pub mod Found
+pub mod Spaces
+pub mod MeekNodes
+pub mod WholeNodes
+pub mod SameTokens
+pub mod SameNodes
+pub mod NullCasts
+pub mod Agreement
+pub mod Tokens
+pub mod Walk
+pub mod Asides
+pub mod Files
