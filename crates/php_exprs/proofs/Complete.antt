@@ -33,9 +33,9 @@ use Rattle.php_terminals.specs.declared.terminal.Terminal.{Terminal}
 use Rattle.php_forms.specs.declared.item.Sort.{Sort}
 use Rattle.php_forms.specs.declared.item.Group.{Group}
 use Rattle.php_forms.specs.declared.item.Item.{Item}
-use Rattle.php_forms.specs.declared.item.Item.TheVariants.{Word, Node, Part, Turns, Span}
-use Rattle.php_forms.specs.Grammar.{Tables, Walks, ends, word, child, part, stop, turn, span, IsFlat, Grows, head, onward, Spells, IsNested, Ranked}
-use Rattle.php_exprs.specs.Parsing.{◌>>=◌, Read, Steps, turns_at, run_at, items_at, walk, under, grow, begin, parse}
+use Rattle.php_forms.specs.declared.item.Item.TheVariants.{Word, Node, Part, Repeats, Span}
+use Rattle.php_forms.specs.Grammar.{Tables, Walks, ends, word, child, part, stop, repeat, span, IsFlat, Grows, head, onward, Spells, IsNested, Ranked}
+use Rattle.php_exprs.specs.Parsing.{◌>>=◌, Read, Steps, repeats_at, run_at, items_at, walk, under, grow, begin, parse}
 use Rattle.php_exprs.proofs.Forests.{bind_some, some_is, leaves_append, depth_append, forest_assoc}
 
 nested_more : (rank : Group → ℕ) (m n : ℕ) (is : List Item) → m ≤ n → IsNested rank m is → IsNested rank n is
@@ -43,7 +43,7 @@ nested_more rank m n [] le h = tt
 nested_more rank m n (Word c ∷ is) le h = nested_more rank m n is le h
 nested_more rank m n (Node s ∷ is) le h = nested_more rank m n is le h
 nested_more rank m n (Part g ∷ is) le h = let lt = h.0 in (omega arith, nested_more rank m n is le h.1)
-nested_more rank m n (Turns g ∷ is) le h = let lt = h.0 in (omega arith, nested_more rank m n is le h.1)
+nested_more rank m n (Repeats g ∷ is) le h = let lt = h.0 in (omega arith, nested_more rank m n is le h.1)
 nested_more rank m n (Span ∷ is) le h = nested_more rank m n is le h
 
 abbrev ChildReads : Tables → ℕ → (Sort → List Token → Read Tree) → Type 0
@@ -74,10 +74,10 @@ module _ (T : Tables) (child_at : Sort → List Token → Read Tree) (steps : St
       → items_at T child_at steps (Part g ∷ is) ts ≡ Some (h +++ f, rest)
   part_reads g is h f ts mid rest p e = rw (p, e) refl
 
-  turns_reads : (g : Group) (is : List Item) (h f : Forest) (ts mid rest : List Token)
-      → turns_at T steps (length ts) g ts ≡ Some (h, mid) → items_at T child_at steps is mid ≡ Some (f, rest)
-      → items_at T child_at steps (Turns g ∷ is) ts ≡ Some (h +++ f, rest)
-  turns_reads g is h f ts mid rest p e = rw (p, e) refl
+  repeats_reads : (g : Group) (is : List Item) (h f : Forest) (ts mid rest : List Token)
+      → repeats_at T steps (length ts) g ts ≡ Some (h, mid) → items_at T child_at steps is mid ≡ Some (f, rest)
+      → items_at T child_at steps (Repeats g ∷ is) ts ≡ Some (h +++ f, rest)
+  repeats_reads g is h f ts mid rest p e = rw (p, e) refl
 
 -- a run reads what is flat
 run_reads : (h : Forest) (rest : List Token) → IsFlat h → run_at (length (leaves h)) (leaves h ++ rest) ≡ Some (h, rest)
@@ -99,8 +99,8 @@ then_items all is o = o >>= with_items all is
 
 -- the items read their parts: a group that may come again does so with any fuel that is enough
 abbrev Reads : Tables → (Sort → List Token → Read Tree) → Steps → List Item → Forest → List Token → Type 0
-Reads T child_at steps (Turns g ∷ is) f rest = (m : ℕ) → length (leaves f ++ rest) ≤ m
-    → then_items (items_at T child_at steps) is (turns_at T steps m g (leaves f ++ rest)) ≡ Some (f, rest)
+Reads T child_at steps (Repeats g ∷ is) f rest = (m : ℕ) → length (leaves f ++ rest) ≤ m
+    → then_items (items_at T child_at steps) is (repeats_at T steps m g (leaves f ++ rest)) ≡ Some (f, rest)
 Reads T child_at steps is f rest = items_at T child_at steps is (leaves f ++ rest) ≡ Some (f, rest)
 
 from_reads : (T : Tables) (child_at : Sort → List Token → Read Tree) (steps : Steps) (is : List Item) (f : Forest)
@@ -110,26 +110,26 @@ from_reads T child_at steps [] f rest h = h
 from_reads T child_at steps (Word c ∷ is) f rest h = h
 from_reads T child_at steps (Node s ∷ is) f rest h = h
 from_reads T child_at steps (Part g ∷ is) f rest h = h
-from_reads T child_at steps (Turns g ∷ is) f rest h = h (length (leaves f ++ rest)) (omega arith)
+from_reads T child_at steps (Repeats g ∷ is) f rest h = h (length (leaves f ++ rest)) (omega arith)
 from_reads T child_at steps (Span ∷ is) f rest h = h
 
 module _ (T : Tables) (child_at : Sort → List Token → Read Tree) (steps : Steps) where
   stop_reads : (g : Group) (is : List Item) (f : Forest) (rest : List Token) → T.parts g (leaves f ++ rest) ≡ []
       → items_at T child_at steps is (leaves f ++ rest) ≡ Some (f, rest)
-      → Reads T child_at steps (Turns g ∷ is) f rest
+      → Reads T child_at steps (Repeats g ∷ is) f rest
   stop_reads g is f rest p e zero le = rw (p, e) refl
   stop_reads g is f rest p e (suc m) le = rw (p, e) refl
 
-  turn_reads : (g : Group) (i : Item) (js is : List Item) (h f : Forest) (rest : List Token)
+  repeat_reads : (g : Group) (i : Item) (js is : List Item) (h f : Forest) (rest : List Token)
       → T.parts g (leaves h ++ (leaves f ++ rest)) ≡ i ∷ js → steps (i ∷ js) (leaves h ++ (leaves f ++ rest)) ≡ Some
-      (h, leaves f ++ rest) → 0 < length (leaves h) → Reads T child_at steps (Turns g ∷ is) f rest → (m : ℕ)
+      (h, leaves f ++ rest) → 0 < length (leaves h) → Reads T child_at steps (Repeats g ∷ is) f rest → (m : ℕ)
       → length (leaves h ++ (leaves f ++ rest)) ≤ m → then_items (items_at T child_at steps) is
-      (turns_at T steps m g (leaves h ++ (leaves f ++ rest))) ≡ Some (h +++ f, rest)
-  turn_reads g i js is h f rest p e has ih zero le = absurd (omega (arith, length-append (leaves h) (leaves f ++ rest)))
-  turn_reads g i js is h f rest p e has ih (suc m) le =
+      (repeats_at T steps m g (leaves h ++ (leaves f ++ rest))) ≡ Some (h +++ f, rest)
+  repeat_reads g i js is h f rest p e has ih zero le = absurd (omega (arith, length-append (leaves h) (leaves f ++ rest)))
+  repeat_reads g i js is h f rest p e has ih (suc m) le =
       let mid = leaves f ++ rest in
       let short : nat_lt (length mid) (length (leaves h ++ mid)) ≡ true = lt-ltb _ _ (omega (arith, length-append (leaves h) mid)) in
-      let a = bind_some (turns_at T steps m g mid) (with_items (items_at T child_at steps) is) (f, rest) (ih m (omega (arith, length-append (leaves h) mid))) in
+      let a = bind_some (repeats_at T steps m g mid) (with_items (items_at T child_at steps) is) (f, rest) (ih m (omega (arith, length-append (leaves h) mid))) in
       let b = bind_some (items_at T child_at steps is a.0.1) (λ x. Some (a.0.0 +++ x.0, x.1)) (f, rest) a.2 in
       let is_f = some_is (a.0.0 +++ b.0.0, b.0.1) (f, rest) b.2 in
       let all : ((h +++ a.0.0) +++ b.0.0, b.0.1) ≡ (h +++ f, rest) = ap (λ z. (z, b.0.1)) (forest_assoc h a.0.0 b.0.0) ∙ ap (λ (z : Forest × List Token). (h +++ z.0, z.1)) is_f in
@@ -160,7 +160,7 @@ module _ (T : Tables) (top : ℕ) (rank : Group → ℕ) (law : Ranked T top ran
       rw (join_text h f rest) (part_reads T child_at (under T child_at n) g is h f text (leaves f ++ rest) rest first r)
   items_read n (stop {g} {is} {f} {rest} p w) nest low =
       stop_reads T child_at (under T child_at n) g is f rest p (from_reads T child_at (under T child_at n) is f rest (items_read n w nest.1 low))
-  items_read n (turn {g} {i} {js} {is} {h} {f} {rest} p w has v) nest low =
+  items_read n (repeat {g} {i} {js} {is} {h} {f} {rest} p w has v) nest low =
       let lows = depth_append h f in
       let r = items_read n v nest (omega arith) in
       let m = deeper T child_at (rank g) n nest.0 in
@@ -169,7 +169,7 @@ module _ (T : Tables) (top : ℕ) (rank : Group → ℕ) (law : Ranked T top ran
       let inner = from_reads T child_at (under T child_at m.0) (i ∷ js) h (leaves f ++ rest) (items_read m.0 w nested (omega arith)) in
       let steps_is : under T child_at n ≡ items_at T child_at (under T child_at m.0) = m.2 ∙ walk_is T child_at m.0 in
       let first : under T child_at n (i ∷ js) text ≡ Some (h, leaves f ++ rest) = ap (λ (st : Steps). st (i ∷ js) text) steps_is ∙ inner in
-      rw (join_text h f rest) (turn_reads T child_at (under T child_at n) g i js is h f rest p first has r)
+      rw (join_text h f rest) (repeat_reads T child_at (under T child_at n) g i js is h f rest p first has r)
   items_read n (span {is} {f} {rest} h flat p w) nest low =
       let lows = depth_append h f in
       let r = from_reads T child_at (under T child_at n) is f rest (items_read n w nest (omega arith)) in

@@ -41,11 +41,11 @@ use Rattle.php_terminals.specs.Marked.{placeless, all_placeless}
 use Rattle.php_forms.specs.declared.item.Sort.{Sort}
 use Rattle.php_forms.specs.declared.item.Group.{Group}
 use Rattle.php_forms.specs.declared.item.Item.{Item}
-use Rattle.php_forms.specs.declared.item.Item.TheVariants.{Word, Node, Part, Turns, Span}
+use Rattle.php_forms.specs.declared.item.Item.TheVariants.{Word, Node, Part, Repeats, Span}
 use Rattle.php_forms.specs.Grammar.{Form}
 use Rattle.php_grammar.specs.Tables.{php}
 use Rattle.php_grammar.proofs.Placeless.{forest_placeless, tree_placeless, accepts_p, form_p, parts_p, spanned_p, tail_p}
-use Rattle.php_exprs.specs.Parsing.{◌>>=◌, given, Read, Steps, turn_at, turns_at, run_at, items_at, walk, grown, grow, begin, parse}
+use Rattle.php_exprs.specs.Parsing.{◌>>=◌, given, Read, Steps, repeat_at, repeats_at, run_at, items_at, walk, grown, grow, begin, parse}
 
 abbrev forest_read : Read Forest → Read Forest
 forest_read None = None
@@ -100,12 +100,12 @@ abbrev BlindMore : (List Token → Read Forest) → Type 0
 BlindMore more = (ts : List Token) → more (all_placeless ts) ≡ forest_read (more ts)
 
 module _ (v : Version) where
-  turn_then : (more : List Token → Read Forest) → BlindMore more → (ts : List Token) (r : Read Forest)
+  repeat_then : (more : List Token → Read Forest) → BlindMore more → (ts : List Token) (r : Read Forest)
       → (forest_read r >>= λ h. given (nat_lt (length h.1) (length (all_placeless ts))) (more h.1) >>= λ f. Some
       (h.0 +++ f.0, f.1)) ≡ forest_read (r >>= λ h. given (nat_lt (length h.1) (length ts)) (more h.1) >>= λ f. Some
       (h.0 +++ f.0, f.1))
-  turn_then more blind ts None = refl
-  turn_then more blind ts (Some h) =
+  repeat_then more blind ts None = refl
+  repeat_then more blind ts (Some h) =
       rw (
         length-map h.1 placeless,
         length-map ts placeless,
@@ -114,17 +114,17 @@ module _ (v : Version) where
       )
       (joins h.0 (given (nat_lt (length h.1) (length ts)) (more h.1)))
 
-  turn_p : (steps : Steps) (more : List Token → Read Forest) → Blind steps → BlindMore more
-      → (is : List Item) (ts : List Token) → turn_at steps more is (all_placeless ts) ≡ forest_read
-      (turn_at steps more is ts)
-  turn_p steps more bs bm [] ts = refl
-  turn_p steps more bs bm (i ∷ is) ts = rw (bs (i ∷ is) ts) (turn_then more bm ts (steps (i ∷ is) ts))
+  repeat_p : (steps : Steps) (more : List Token → Read Forest) → Blind steps → BlindMore more
+      → (is : List Item) (ts : List Token) → repeat_at steps more is (all_placeless ts) ≡ forest_read
+      (repeat_at steps more is ts)
+  repeat_p steps more bs bm [] ts = refl
+  repeat_p steps more bs bm (i ∷ is) ts = rw (bs (i ∷ is) ts) (repeat_then more bm ts (steps (i ∷ is) ts))
 
-  turns_p : (steps : Steps) → Blind steps → (n : ℕ) (g : Group) (ts : List Token) → turns_at (php v) steps n g (all_placeless ts) ≡ forest_read (turns_at (php v) steps n g ts)
-  turns_p steps bs zero g ts = ap (λ (is : List Item). turn_at steps (λ _. None) is (all_placeless ts))
-      (parts_p v g ts) ∙ turn_p steps (λ _. None) bs (λ us. refl) ((php v).parts g ts) ts
-  turns_p steps bs (suc n) g ts = ap (λ (is : List Item). turn_at steps (turns_at (php v) steps n g) is
-      (all_placeless ts)) (parts_p v g ts) ∙ turn_p steps (turns_at (php v) steps n g) bs (turns_p steps bs n g)
+  repeats_p : (steps : Steps) → Blind steps → (n : ℕ) (g : Group) (ts : List Token) → repeats_at (php v) steps n g (all_placeless ts) ≡ forest_read (repeats_at (php v) steps n g ts)
+  repeats_p steps bs zero g ts = ap (λ (is : List Item). repeat_at steps (λ _. None) is (all_placeless ts))
+      (parts_p v g ts) ∙ repeat_p steps (λ _. None) bs (λ us. refl) ((php v).parts g ts) ts
+  repeats_p steps bs (suc n) g ts = ap (λ (is : List Item). repeat_at steps (repeats_at (php v) steps n g) is
+      (all_placeless ts)) (parts_p v g ts) ∙ repeat_p steps (repeats_at (php v) steps n g) bs (repeats_p steps bs n g)
       ((php v).parts g ts) ts
 
   -- a step, and the items behind it
@@ -152,10 +152,10 @@ module _ (v : Version) where
   items_p child steps bc bs (Part g ∷ is) ts =
       ap (λ (js : List Item). steps js (all_placeless ts) >>= λ h. items_at (php v) child steps is h.1 >>= λ f. Some (h.0 +++ f.0, f.1)) (parts_p v g ts)
       ∙ rw (bs ((php v).parts g ts) ts) (behind_step (items_at (php v) child steps) is (λ us. items_p child steps bc bs is us) (steps ((php v).parts g ts) ts))
-  items_p child steps bc bs (Turns g ∷ is) ts =
-      rw (length-map ts placeless, turns_p steps bs (length ts) g ts)
+  items_p child steps bc bs (Repeats g ∷ is) ts =
+      rw (length-map ts placeless, repeats_p steps bs (length ts) g ts)
       (behind_step (items_at (php v) child steps) is (λ us. items_p child steps bc bs is us)
-      (turns_at (php v) steps (length ts) g ts))
+      (repeats_at (php v) steps (length ts) g ts))
   items_p child steps bc bs (Span ∷ is) ts =
       rw (spanned_p 0 ts, run_p ((php v).span ts) ts) (behind_step (items_at (php v) child steps) is (λ us. items_p child steps bc bs is us) (run_at ((php v).span ts) ts))
 

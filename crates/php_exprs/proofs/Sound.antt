@@ -31,9 +31,9 @@ use Rattle.php_tree.specs.Tree.{depth, Forest, Tree, none, leaf, node, ◌+++◌
 use Rattle.php_forms.specs.declared.item.Sort.{Sort}
 use Rattle.php_forms.specs.declared.item.Group.{Group}
 use Rattle.php_forms.specs.declared.item.Item.{Item}
-use Rattle.php_forms.specs.declared.item.Item.TheVariants.{Word, Node, Part, Turns, Span}
-use Rattle.php_forms.specs.Grammar.{Form, Tables, Walks, ends, word, child, part, stop, turn, span, IsFlat, Grows, head, onward, Spells}
-use Rattle.php_exprs.specs.Parsing.{◌>>=◌, Read, given, Steps, turn_at, turns_at, run_at, items_at, walk, grown, grow, begin, parse}
+use Rattle.php_forms.specs.declared.item.Item.TheVariants.{Word, Node, Part, Repeats, Span}
+use Rattle.php_forms.specs.Grammar.{Form, Tables, Walks, ends, word, child, part, stop, repeat, span, IsFlat, Grows, head, onward, Spells}
+use Rattle.php_exprs.specs.Parsing.{◌>>=◌, Read, given, Steps, repeat_at, repeats_at, run_at, items_at, walk, grown, grow, begin, parse}
 use Rattle.php_exprs.proofs.Forests.{bind_some, given_some, some_is, leaves_append, depth_append, forest_assoc}
 
 -- the parts that a step read
@@ -89,23 +89,23 @@ module _ (T : Tables) (d : ℕ) where
         low = low_both h.0 f.0 d p.low q.low;
       }
 
-  -- the turns of a group, and what follows them
-  record Turned (g : Group) (ts : List Token) (y : Forest × List Token) : Type 0 where
-    before : (is : List Item) (f : Forest) (rest : List Token) → y.1 ≡ leaves f ++ rest → Walks T is f rest → Walks T (Turns g ∷ is) (y.0 +++ f) rest
+  -- the repeats of a group, and what follows them
+  record Repeated (g : Group) (ts : List Token) (y : Forest × List Token) : Type 0 where
+    before : (is : List Item) (f : Forest) (rest : List Token) → y.1 ≡ leaves f ++ rest → Walks T is f rest → Walks T (Repeats g ∷ is) (y.0 +++ f) rest
     text : ts ≡ leaves y.0 ++ y.1
     low : depth y.0 ≤ d
 
-  one_turn : (steps : Steps) (more : List Token → Read Forest) → StepsSound T d steps → (g : Group)
-      → ((ts : List Token) (y : Forest × List Token) → more ts ≡ Some y → Turned g ts y)
+  one_repeat : (steps : Steps) (more : List Token → Read Forest) → StepsSound T d steps → (g : Group)
+      → ((ts : List Token) (y : Forest × List Token) → more ts ≡ Some y → Repeated g ts y)
       → (is : List Item) (ts : List Token) (y : Forest × List Token) → T.parts g ts ≡ is
-      → turn_at steps more is ts ≡ Some y → Turned g ts y
-  one_turn steps more sound g ih [] ts y p e =
-      subst (λ (z : Forest × List Token). Turned g ts z) (some_is (none, ts) y e) (record {
+      → repeat_at steps more is ts ≡ Some y → Repeated g ts y
+  one_repeat steps more sound g ih [] ts y p e =
+      subst (λ (z : Forest × List Token). Repeated g ts z) (some_is (none, ts) y e) (record {
         before = λ is f rest q w. stop (ap (T.parts g) (sym q) ∙ p) w;
         text = refl;
         low = omega arith;
       })
-  one_turn steps more sound g ih (i ∷ is) ts y p e =
+  one_repeat steps more sound g ih (i ∷ is) ts y p e =
       let b = bind_some (steps (i ∷ is) ts) (λ h. given (nat_lt (length h.1) (length ts)) (more h.1) >>= λ f. Some (h.0 +++ f.0, f.1)) y e in
       let h = b.0 in
       let c = bind_some (given (nat_lt (length h.1) (length ts)) (more h.1)) (λ f. Some (h.0 +++ f.0, f.1)) y b.2 in
@@ -114,20 +114,20 @@ module _ (T : Tables) (d : ℕ) where
       let all = ih h.1 c.0 m.1 in
       let short : length h.1 < length ts = ltb-true _ _ m.0 in
       let has : 0 < length (leaves h.0) = omega (arith, ap length one.text, length-append (leaves h.0) h.1) in
-      subst (λ (z : Forest × List Token). Turned g ts z) (some_is (h.0 +++ c.0.0, c.0.1) y c.2) (record {
+      subst (λ (z : Forest × List Token). Repeated g ts z) (some_is (h.0 +++ c.0.0, c.0.1) y c.2) (record {
         before = λ js f rest q w.
             let mid : h.1 ≡ leaves (c.0.0 +++ f) ++ rest = two_texts c.0.0 f h.1 c.0.1 rest all.text q in
             let whole : ts ≡ leaves h.0 ++ (leaves (c.0.0 +++ f) ++ rest) = one.text ∙ ap (λ (m : List Token). leaves h.0 ++ m) mid in
             let first : T.parts g (leaves h.0 ++ (leaves (c.0.0 +++ f) ++ rest)) ≡ i ∷ is = ap (T.parts g) (sym whole) ∙ p in
             let one_walks = subst (λ (m : List Token). Walks T (i ∷ is) h.0 m) mid one.walks in
-            subst (λ (z : Forest). Walks T (Turns g ∷ js) z rest) (sym (forest_assoc h.0 c.0.0 f)) (turn first one_walks has (all.before js f rest q w));
+            subst (λ (z : Forest). Walks T (Repeats g ∷ js) z rest) (sym (forest_assoc h.0 c.0.0 f)) (repeat first one_walks has (all.before js f rest q w));
         text = two_texts h.0 c.0.0 ts h.1 c.0.1 one.text all.text;
         low = low_both h.0 c.0.0 d one.low all.low;
       })
 
-  turns_sound : (steps : Steps) → StepsSound T d steps → (n : ℕ) (g : Group) (ts : List Token) (y : Forest × List Token) → turns_at T steps n g ts ≡ Some y → Turned g ts y
-  turns_sound steps sound zero g ts y e = one_turn steps (λ _. None) sound g (λ us z q. absurd cc) (T.parts g ts) ts y refl e
-  turns_sound steps sound (suc n) g ts y e = one_turn steps (turns_at T steps n g) sound g (turns_sound steps sound n g) (T.parts g ts) ts y refl e
+  repeats_sound : (steps : Steps) → StepsSound T d steps → (n : ℕ) (g : Group) (ts : List Token) (y : Forest × List Token) → repeats_at T steps n g ts ≡ Some y → Repeated g ts y
+  repeats_sound steps sound zero g ts y e = one_repeat steps (λ _. None) sound g (λ us z q. absurd cc) (T.parts g ts) ts y refl e
+  repeats_sound steps sound (suc n) g ts y e = one_repeat steps (repeats_at T steps n g) sound g (repeats_sound steps sound n g) (T.parts g ts) ts y refl e
 
   items_sound : (child_at : Sort → List Token → Read Tree) (steps : Steps) → ChildSound T d child_at → StepsSound T d steps → StepsSound T d (items_at T child_at steps)
   items_sound child_at steps cs ss [] ts y e =
@@ -159,13 +159,13 @@ module _ (T : Tables) (d : ℕ) where
       let b = bind_some (items_at T child_at steps is h.1) (λ f. Some (h.0 +++ f.0, f.1)) y a.2 in
       subst (λ (z : Forest × List Token). Took T d (Part g ∷ is) ts z) (some_is (h.0 +++ b.0.0, b.0.1) y b.2)
       (after_part g is ts h b.0 (ss (T.parts g ts) ts h a.1) (items_sound child_at steps cs ss is h.1 b.0 b.1))
-  items_sound child_at steps cs ss (Turns g ∷ is) ts y e =
-      let a = bind_some (turns_at T steps (length ts) g ts) (λ h. items_at T child_at steps is h.1 >>= λ f. Some (h.0 +++ f.0, f.1)) y e in
+  items_sound child_at steps cs ss (Repeats g ∷ is) ts y e =
+      let a = bind_some (repeats_at T steps (length ts) g ts) (λ h. items_at T child_at steps is h.1 >>= λ f. Some (h.0 +++ f.0, f.1)) y e in
       let h = a.0 in
       let b = bind_some (items_at T child_at steps is h.1) (λ f. Some (h.0 +++ f.0, f.1)) y a.2 in
-      let p = turns_sound steps ss (length ts) g ts h a.1 in
+      let p = repeats_sound steps ss (length ts) g ts h a.1 in
       let r = items_sound child_at steps cs ss is h.1 b.0 b.1 in
-      subst (λ (z : Forest × List Token). Took T d (Turns g ∷ is) ts z) (some_is (h.0 +++ b.0.0, b.0.1) y b.2)
+      subst (λ (z : Forest × List Token). Took T d (Repeats g ∷ is) ts z) (some_is (h.0 +++ b.0.0, b.0.1) y b.2)
       (record { walks = p.before is b.0.0 b.0.1 r.text r.walks; text = two_texts h.0 b.0.0 ts h.1 b.0.1 p.text r.text; low = low_both h.0 b.0.0 d p.low r.low })
   items_sound child_at steps cs ss (Span ∷ is) ts y e =
       let a = bind_some (run_at (T.span ts) ts) (λ h. items_at T child_at steps is h.1 >>= λ f. Some (h.0 +++ f.0, f.1)) y e in

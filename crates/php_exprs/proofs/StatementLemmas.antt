@@ -9,7 +9,7 @@ use Rattle.php_terminals.specs.declared.terminal.Terminal.TheVariants as t
 use Rattle.php_forms.specs.declared.item.Sort.{Sort}
 use Rattle.php_forms.specs.declared.item.Sort.TheVariants as s
 use Rattle.php_forms.specs.declared.item.Group.TheVariants.{Statements}
-use Rattle.php_forms.specs.declared.item.Item.TheVariants.{Node, Turns}
+use Rattle.php_forms.specs.declared.item.Item.TheVariants.{Node, Repeats}
 use Rattle.php_terminals.specs.Ahead.{first_of}
 use Rattle.php_forms.specs.Grammar.{Tables, Walks, ends}
 use Rattle.php_forms.specs.Statements.{statements}
@@ -17,8 +17,8 @@ use Rattle.php_grammar.specs.Tables.{php, parts}
 use Rattle.php_grammar.proofs.Ranks.{rank, php_ranked}
 use Rattle.php_exprs.specs.declared.fault.ParseFault.{ParseFault}
 use Rattle.php_exprs.specs.declared.fault.ParseFault.TheVariants.{NotInGrammar, Memory}
-use Rattle.php_exprs.specs.Parsing.{◌>>=◌, Read, Steps, items_at, turns_at, walk, under, parse}
-use Rattle.php_exprs.specs.Parsed.{Extends, node_at, inner_at, parts_at, turned_at}
+use Rattle.php_exprs.specs.Parsing.{◌>>=◌, Read, Steps, items_at, repeats_at, walk, under, parse}
+use Rattle.php_exprs.specs.Parsed.{Extends, node_at, inner_at, parts_at, repeated_at}
 use Rattle.php_rows.specs.declared.row.Row.{Row}
 use Rattle.php_rows.specs.Flatten.{flatten}
 use Rattle.php_rows.specs.Rows.{Grew, IsRowOf}
@@ -29,7 +29,7 @@ use Rattle.php_exprs.proofs.Sound.{Took, parse_sound, walk_sound}
 use Rattle.php_exprs.proofs.Complete.{parse_complete, walk_reads, walk_is}
 use Rattle.php_exprs.proofs.Steps.{inner_is, to_part}
 
--- a turn of statements is one statement
+-- a repeat of statements is one statement
 pub statement_items : (x : Terminal) → 0 < length (statements x) → statements x ≡ Node s.Statement ∷ []
 statement_items t.CloseBrace lt = absurd (omega arith)
 statement_items t.End lt = absurd (omega arith)
@@ -69,10 +69,10 @@ one_statement v d ts has =
     ∙ inner_is (php v) d 7 6 (Node s.Statement ∷ []) ts (omega arith) ∙ one_node (php v) d 6 s.Statement ts
 
 -- the statements of the parser on lists, as items
-as_items : (v : Version) (d : ℕ) (ts : List Token) → walk (php v) (parse (php v) 7 d) 7 (Turns Statements ∷ []) ts ≡
-    (turned_at (php v) d 7 (length ts) Statements ts >>= λ h. Some (h.0 +++ none, h.1))
-unfolding turned_at inner_at node_at
-as_items v d ts = ap (λ (st : Steps). st (Turns Statements ∷ []) ts) (walk_is (php v) (parse (php v) 7 d) 7)
+as_items : (v : Version) (d : ℕ) (ts : List Token) → walk (php v) (parse (php v) 7 d) 7 (Repeats Statements ∷ []) ts ≡
+    (repeated_at (php v) d 7 (length ts) Statements ts >>= λ h. Some (h.0 +++ none, h.1))
+unfolding repeated_at inner_at node_at
+as_items v d ts = ap (λ (st : Steps). st (Repeats Statements ∷ []) ts) (walk_is (php v) (parse (php v) 7 d) 7)
 
 take_none : (r : Read Forest) (y : Forest × List Token) → r ≡ Some y → (r >>= λ h. Some (h.0 +++ none, h.1)) ≡ Some y
 take_none r y e = ap (λ (o : Read Forest). o >>= λ h. Some (h.0 +++ none, h.1)) e ∙ ap (λ (f : Forest). read f y.1) (append_none y.0)
@@ -109,46 +109,46 @@ abbrev Listed : Version → ℕ → List Token → State → Type 0
 Listed v d all new = (f : Forest) × ((rest : List Token) × ReadsStatements v d all f rest × IsListed all new.0 new.1.deep f rest)
 
 pub statements_found : (v : Version) (d : ℕ) (all : List Token) (old new : State) → IsFirst old
-    → Extends (Ok tt) v all old new d (turned_at (php v) d 7 (length (behind all old.0)) Statements
+    → Extends (Ok tt) v all old new d (repeated_at (php v) d 7 (length (behind all old.0)) Statements
     (behind all old.0)) → Listed v d all new
-statements_found v d all old new o g = go (turned_at (php v) d 7 (length (behind all old.0)) Statements (behind all old.0)) refl g
+statements_found v d all old new o g = go (repeated_at (php v) d 7 (length (behind all old.0)) Statements (behind all old.0)) refl g
   where
     whole : behind all old.0 ≡ all
     whole = ap (λ (n : ℕ). drop n all) o.at
 
-    go : (r : Read Forest) → turned_at (php v) d 7 (length (behind all old.0)) Statements (behind all old.0) ≡ r → Extends (Ok tt) v all old new d r → Listed v d all new
+    go : (r : Read Forest) → repeated_at (php v) d 7 (length (behind all old.0)) Statements (behind all old.0) ≡ r → Extends (Ok tt) v all old new d r → Listed v d all new
     go None e g = absurd g
     go (Some y) e g =
-        let same : turned_at (php v) d 7 (length all) Statements all ≡ Some y = ap (λ (ts : List Token). turned_at (php v) d 7 (length ts) Statements ts) (sym whole) ∙ e in
-        let w = walk_sound (php v) d (parse (php v) 7 d) (parse_sound (php v) 7 d) 7 (Turns Statements ∷ []) all y
-        (as_items v d all ∙ take_none (turned_at (php v) d 7 (length all) Statements all) y same) in
+        let same : repeated_at (php v) d 7 (length all) Statements all ≡ Some y = ap (λ (ts : List Token). repeated_at (php v) d 7 (length ts) Statements ts) (sym whole) ∙ e in
+        let w = walk_sound (php v) d (parse (php v) 7 d) (parse_sound (php v) 7 d) 7 (Repeats Statements ∷ []) all y
+        (as_items v d all ∙ take_none (repeated_at (php v) d 7 (length all) Statements all) y same) in
         (y.0, (y.1, record { walks = w.walks; text = w.text; low = w.low }, listed v all old new y.0 y.1 o.nodes o.at o.deep g.0 g.1))
 
-pub turned_is : (v : Version) (d : ℕ) (ts : List Token) (f : Forest) (rest : List Token)
-    → ReadsStatements v d ts f rest → turned_at (php v) d 7 (length ts) Statements ts ≡ Some (f, rest)
-turned_is v d ts f rest p =
+pub repeated_is : (v : Version) (d : ℕ) (ts : List Token) (f : Forest) (rest : List Token)
+    → ReadsStatements v d ts f rest → repeated_at (php v) d 7 (length ts) Statements ts ≡ Some (f, rest)
+repeated_is v d ts f rest p =
     let w = walk_reads (php v) 7 rank (php_ranked v) d (parse (php v) 7 d) (parse_complete (php v) 7 rank (php_ranked v) d) 7 p.walks (omega arith, tt) p.low in
-    drop_none (turned_at (php v) d 7 (length ts) Statements ts) (f, rest)
-    (sym (as_items v d ts) ∙ ap (walk (php v) (parse (php v) 7 d) 7 (Turns Statements ∷ [])) p.text ∙ w)
+    drop_none (repeated_at (php v) d 7 (length ts) Statements ts) (f, rest)
+    (sym (as_items v d ts) ∙ ap (walk (php v) (parse (php v) 7 d) 7 (Repeats Statements ∷ [])) p.text ∙ w)
 
 pub statements_only : (v : Version) (d : ℕ) (all : List Token) (old new : State) → IsFirst old
-    → Extends (Ok tt) v all old new d (turned_at (php v) d 7 (length (behind all old.0)) Statements
+    → Extends (Ok tt) v all old new d (repeated_at (php v) d 7 (length (behind all old.0)) Statements
     (behind all old.0)) → (f : Forest) (rest : List Token) → ReadsStatements v d all f rest
     → IsListed all new.0 new.1.deep f rest
 statements_only v d all old new o g f rest p =
     let l = statements_found v d all old new o g in
-    let one = turned_is v d all l.0 l.1.0 l.1.1 in
-    let other = turned_is v d all f rest p in
+    let one = repeated_is v d all l.0 l.1.0 l.1.1 in
+    let other = repeated_is v d all f rest p in
     let same = some_is (l.0, l.1.0) (f, rest) (sym one ∙ other) in
     let P : Forest × List Token → Type 0 = λ y. IsListed all new.0 new.1.deep y.0 y.1 in
     subst P same l.1.2
 
 pub statements_none : (v : Version) (d : ℕ) (all : List Token) (old new : State) → IsFirst old → (e : ParseFault)
-    → Extends (Err e) v all old new d (turned_at (php v) d 7 (length (behind all old.0)) Statements
+    → Extends (Err e) v all old new d (repeated_at (php v) d 7 (length (behind all old.0)) Statements
     (behind all old.0)) → (f : Forest) (rest : List Token) → ReadsStatements v d all f rest
     → AnswersStatements (Err e) all f rest
 statements_none v d all old new o Memory g f rest p = tt
 statements_none v d all old new o NotInGrammar g f rest p =
     let whole : behind all old.0 ≡ all = ap (λ (n : ℕ). drop n all) o.at in
-    let e = sym (turned_is v d all f rest p) ∙ ap (λ (ts : List Token). turned_at (php v) d 7 (length ts) Statements ts) (sym whole) ∙ g in
+    let e = sym (repeated_is v d all f rest p) ∙ ap (λ (ts : List Token). repeated_at (php v) d 7 (length ts) Statements ts) (sym whole) ∙ g in
     absurd cc

@@ -47,7 +47,7 @@ use Rattle.php_tree.specs.Tree.{Forest, Tree, none, leaf, node, ◌+++◌, leave
 use Rattle.php_forms.specs.declared.item.Sort.{Sort}
 use Rattle.php_forms.specs.declared.item.Group.{Group}
 use Rattle.php_forms.specs.declared.item.Item.{Item}
-use Rattle.php_forms.specs.declared.item.Item.TheVariants.{Word, Node, Part, Turns, Span}
+use Rattle.php_forms.specs.declared.item.Item.TheVariants.{Word, Node, Part, Repeats, Span}
 use Rattle.php_grammar.specs.Edges.{edge, edge_from}
 use Rattle.php_grammar.specs.Tables.{php, tail, tail_by}
 use Rattle.php_grammar.proofs.EdgeLemmas.{edge_alone}
@@ -60,8 +60,8 @@ use Rattle.php_exprs.specs.declared.fault.ParseFault.{ParseFault}
 use Rattle.php_exprs.specs.declared.fault.ParseFault.TheVariants.{NotInGrammar, Memory}
 use Rattle.php_forms.specs.Grammar.{Form, Tables}
 use Rattle.php_exprs.specs.Built.{Added, AddedNode, IsClosed, IsReady, State, behind}
-use Rattle.php_exprs.specs.Parsing.{◌>>=◌, given, Read, Steps, items_at, run_at, turn_at, turns_at, walk, under, begin, grown, grow, parse}
-use Rattle.php_exprs.specs.Parsed.{run_read, Extends, GivesTree, node_at, inner_at, parts_at, turned_at, grown_at, item_at, word_at, as_part, with_front, Walked, Turned}
+use Rattle.php_exprs.specs.Parsing.{◌>>=◌, given, Read, Steps, items_at, run_at, repeat_at, repeats_at, walk, under, begin, grown, grow, parse}
+use Rattle.php_exprs.specs.Parsed.{run_read, Extends, GivesTree, node_at, inner_at, parts_at, repeated_at, grown_at, item_at, word_at, as_part, with_front, Walked, Repeated}
 use Rattle.php_exprs.proofs.Forests.{append_none, depth_append, forest_assoc}
 use Rattle.php_exprs.proofs.Complete.{walk_is}
 use Rattle.php_exprs.proofs.Grown.{added_join, added_none, leaf_added, leaves_added, node_added, ready, closed_node}
@@ -122,7 +122,7 @@ abbrev node_then : Tables → ℕ → ℕ → List Item → Read Tree → Read F
 node_then T d n is r = r >>= λ x. items_at T (node_at T d) (inner_at T d n) is x.1 >>= λ f. Some (node x.0.0 x.0.1 f.0, f.1)
 
 first_item : (T : Tables) (d n : ℕ) (i : Item) (is : List Item) (ts : List Token) → parts_at T d n (i ∷ is) ts ≡ then_parts T d n is (item_at T d n i ts)
-unfolding parts_at item_at turned_at
+unfolding parts_at item_at repeated_at
 first_item T d n (Word c) is [] = refl
 first_item T d n (Word c) is (t ∷ ts) = go (T.accepts c t)
   where
@@ -135,7 +135,7 @@ first_item T d n (Node s) is ts = go (node_at T d s ts)
     go None = refl
     go (Some x) = refl
 first_item T d n (Part g) is ts = refl
-first_item T d n (Turns g) is ts = refl
+first_item T d n (Repeats g) is ts = refl
 first_item T d n Span is ts = refl
 
 pub walked_first : (v : Version) (all : List Token) (d n : ℕ) (form : List Item) (old : State) → old.0.at ≤ length all → Walked v all d n form form old old
@@ -180,10 +180,10 @@ walked_ends v all d n form old new w =
     let e : parts_at (php v) d n form (behind all old.0) ≡ Some (w.parts +++ none, behind all new.0) = w.same in
     subst (λ (r : Read Forest). Extends (Ok tt) v all old new d r) (sym e) (added_as v all old new w.parts w.added, refl, low_none w.parts d w.low)
 
--- ---- the turns of a group
+-- ---- the repeats of a group
 
-pub turned_first : (v : Version) (all : List Token) (d n : ℕ) (g : Group) (old : State) → old.0.at ≤ length all → Turned v all d n g old old
-turned_first v all d n g old w = record {
+pub repeated_first : (v : Version) (all : List Token) (d n : ℕ) (g : Group) (old : State) → old.0.at ≤ length all → Repeated v all d n g old old
+repeated_first v all d n g old w = record {
   parts = none;
   fuel = length (behind all old.0);
   added =
@@ -191,83 +191,83 @@ turned_first v all d n g old w = record {
   low = omega arith;
   enough = omega arith;
   same =
-      front_none (turned_at (php v) d n (length (behind all old.0)) g (behind all old.0));
+      front_none (repeated_at (php v) d n (length (behind all old.0)) g (behind all old.0));
 }
 
-no_turn : (T : Tables) (d n m : ℕ) (g : Group) (rest : List Token) → T.parts g rest ≡ [] → turned_at T d n m g rest ≡ Some (none, rest)
-unfolding turned_at
-no_turn T d n zero g rest e = rw e refl
-no_turn T d n (suc m) g rest e = rw e refl
+no_repeat : (T : Tables) (d n m : ℕ) (g : Group) (rest : List Token) → T.parts g rest ≡ [] → repeated_at T d n m g rest ≡ Some (none, rest)
+unfolding repeated_at
+no_repeat T d n zero g rest e = rw e refl
+no_repeat T d n (suc m) g rest e = rw e refl
 
-turn_then : (List Token → Read Forest) → List Token → Read Forest → Read Forest
-turn_then more ts r = r >>= λ h. given (nat_lt (length h.1) (length ts)) (more h.1) >>= λ f. Some (h.0 +++ f.0, f.1)
+repeat_then : (List Token → Read Forest) → List Token → Read Forest → Read Forest
+repeat_then more ts r = r >>= λ h. given (nat_lt (length h.1) (length ts)) (more h.1) >>= λ f. Some (h.0 +++ f.0, f.1)
 
-one_turn : (T : Tables) (d n m : ℕ) (g : Group) (i : Item) (is : List Item) (rest : List Token) → T.parts g rest ≡ i
-    ∷ is → turned_at T d n (suc m) g rest ≡ turn_then (turned_at T d n m g) rest
+one_repeat : (T : Tables) (d n m : ℕ) (g : Group) (i : Item) (is : List Item) (rest : List Token) → T.parts g rest ≡ i
+    ∷ is → repeated_at T d n (suc m) g rest ≡ repeat_then (repeated_at T d n m g) rest
     (inner_at T d n (T.parts g rest) rest)
-unfolding turned_at turn_then
-one_turn T d n m g i is rest e = rw e refl
+unfolding repeated_at repeat_then
+one_repeat T d n m g i is rest e = rw e refl
 
-last_turn : (T : Tables) (d n : ℕ) (g : Group) (i : Item) (is : List Item) (rest : List Token) → T.parts g rest ≡ i
-    ∷ is → turned_at T d n zero g rest ≡ turn_then (λ _. None) rest (inner_at T d n (T.parts g rest) rest)
-unfolding turned_at turn_then
-last_turn T d n g i is rest e = rw e refl
+last_repeat : (T : Tables) (d n : ℕ) (g : Group) (i : Item) (is : List Item) (rest : List Token) → T.parts g rest ≡ i
+    ∷ is → repeated_at T d n zero g rest ≡ repeat_then (λ _. None) rest (inner_at T d n (T.parts g rest) rest)
+unfolding repeated_at repeat_then
+last_repeat T d n g i is rest e = rw e refl
 
-turn_goes : (more : List Token → Read Forest) (ts : List Token) (y : Forest × List Token) → length y.1 < length ts → turn_then more ts (Some y) ≡ with_front y.0 (more y.1)
-unfolding turn_then
-turn_goes more ts y lt = rw (lt-ltb (length y.1) (length ts) lt) refl
+repeat_goes : (more : List Token → Read Forest) (ts : List Token) (y : Forest × List Token) → length y.1 < length ts → repeat_then more ts (Some y) ≡ with_front y.0 (more y.1)
+unfolding repeat_then
+repeat_goes more ts y lt = rw (lt-ltb (length y.1) (length ts) lt) refl
 
-turn_stays : (more : List Token → Read Forest) (ts : List Token) (y : Forest × List Token) → length ts ≤ length y.1 → turn_then more ts (Some y) ≡ None
-unfolding turn_then
-turn_stays more ts y le = rw (le-ltb (length y.1) (length ts) le) refl
+repeat_stays : (more : List Token → Read Forest) (ts : List Token) (y : Forest × List Token) → length ts ≤ length y.1 → repeat_then more ts (Some y) ≡ None
+unfolding repeat_then
+repeat_stays more ts y le = rw (le-ltb (length y.1) (length ts) le) refl
 
-turn_fails : (more : List Token → Read Forest) (ts : List Token) → turn_then more ts None ≡ None
-unfolding turn_then
-turn_fails more ts = refl
+repeat_fails : (more : List Token → Read Forest) (ts : List Token) → repeat_then more ts None ≡ None
+unfolding repeat_then
+repeat_fails more ts = refl
 
-pub turned_ends : (v : Version) (all : List Token) (d n : ℕ) (g : Group) (old new : State)
-    → (php v).parts g (behind all new.0) ≡ [] → Turned v all d n g old new
-    → Extends (Ok tt) v all old new d (turned_at (php v) d n (length (behind all old.0)) g (behind all old.0))
-turned_ends v all d n g old new e w =
-    let same = w.same ∙ ap (with_front w.parts) (no_turn (php v) d n w.fuel g (behind all new.0) e) in
+pub repeated_ends : (v : Version) (all : List Token) (d n : ℕ) (g : Group) (old new : State)
+    → (php v).parts g (behind all new.0) ≡ [] → Repeated v all d n g old new
+    → Extends (Ok tt) v all old new d (repeated_at (php v) d n (length (behind all old.0)) g (behind all old.0))
+repeated_ends v all d n g old new e w =
+    let same = w.same ∙ ap (with_front w.parts) (no_repeat (php v) d n w.fuel g (behind all new.0) e) in
     subst (λ (r : Read Forest). Extends (Ok tt) v all old new d r) (sym same) (added_as v all old new w.parts w.added, refl, low_none w.parts d w.low)
 
-turned_fails : (v : Version) (all : List Token) (d n : ℕ) (g : Group) (i : Item) (is : List Item) (old mid : State)
+repeated_fails : (v : Version) (all : List Token) (d n : ℕ) (g : Group) (i : Item) (is : List Item) (old mid : State)
     → (php v).parts g (behind all mid.0) ≡ i ∷ is → inner_at (php v) d n ((php v).parts g (behind all mid.0))
-    (behind all mid.0) ≡ None → Turned v all d n g old mid → turned_at (php v) d n (length (behind all old.0)) g
+    (behind all mid.0) ≡ None → Repeated v all d n g old mid → repeated_at (php v) d n (length (behind all old.0)) g
     (behind all old.0) ≡ None
-turned_fails v all d n g i is old mid e x w = w.same ∙ ap (with_front w.parts) (go w.fuel)
+repeated_fails v all d n g i is old mid e x w = w.same ∙ ap (with_front w.parts) (go w.fuel)
   where
-    go : (m : ℕ) → turned_at (php v) d n m g (behind all mid.0) ≡ None
-    go zero = last_turn (php v) d n g i is (behind all mid.0) e ∙ ap (turn_then (λ _. None) (behind all mid.0)) x ∙ turn_fails (λ _. None) (behind all mid.0)
-    go (suc m) = one_turn (php v) d n m g i is (behind all mid.0) e
-        ∙ ap (turn_then (turned_at (php v) d n m g) (behind all mid.0)) x
-        ∙ turn_fails (turned_at (php v) d n m g) (behind all mid.0)
+    go : (m : ℕ) → repeated_at (php v) d n m g (behind all mid.0) ≡ None
+    go zero = last_repeat (php v) d n g i is (behind all mid.0) e ∙ ap (repeat_then (λ _. None) (behind all mid.0)) x ∙ repeat_fails (λ _. None) (behind all mid.0)
+    go (suc m) = one_repeat (php v) d n m g i is (behind all mid.0) e
+        ∙ ap (repeat_then (repeated_at (php v) d n m g) (behind all mid.0)) x
+        ∙ repeat_fails (repeated_at (php v) d n m g) (behind all mid.0)
 
-turned_stays : (v : Version) (all : List Token) (d n : ℕ) (g : Group) (i : Item) (is : List Item) (old mid : State)
+repeated_stays : (v : Version) (all : List Token) (d n : ℕ) (g : Group) (i : Item) (is : List Item) (old mid : State)
     (y : Forest × List Token) → (php v).parts g (behind all mid.0) ≡ i ∷ is
     → inner_at (php v) d n ((php v).parts g (behind all mid.0)) (behind all mid.0) ≡ Some y
-    → length (behind all mid.0) ≤ length y.1 → Turned v all d n g old mid
-    → turned_at (php v) d n (length (behind all old.0)) g (behind all old.0) ≡ None
-turned_stays v all d n g i is old mid y e x le w = w.same ∙ ap (with_front w.parts) (go w.fuel)
+    → length (behind all mid.0) ≤ length y.1 → Repeated v all d n g old mid
+    → repeated_at (php v) d n (length (behind all old.0)) g (behind all old.0) ≡ None
+repeated_stays v all d n g i is old mid y e x le w = w.same ∙ ap (with_front w.parts) (go w.fuel)
   where
-    go : (m : ℕ) → turned_at (php v) d n m g (behind all mid.0) ≡ None
-    go zero = last_turn (php v) d n g i is (behind all mid.0) e ∙ ap (turn_then (λ _. None) (behind all mid.0)) x ∙ turn_stays (λ _. None) (behind all mid.0) y le
-    go (suc m) = one_turn (php v) d n m g i is (behind all mid.0) e
-        ∙ ap (turn_then (turned_at (php v) d n m g) (behind all mid.0)) x
-        ∙ turn_stays (turned_at (php v) d n m g) (behind all mid.0) y le
+    go : (m : ℕ) → repeated_at (php v) d n m g (behind all mid.0) ≡ None
+    go zero = last_repeat (php v) d n g i is (behind all mid.0) e ∙ ap (repeat_then (λ _. None) (behind all mid.0)) x ∙ repeat_stays (λ _. None) (behind all mid.0) y le
+    go (suc m) = one_repeat (php v) d n m g i is (behind all mid.0) e
+        ∙ ap (repeat_then (repeated_at (php v) d n m g) (behind all mid.0)) x
+        ∙ repeat_stays (repeated_at (php v) d n m g) (behind all mid.0) y le
 
-turned_more : (v : Version) (all : List Token) (d n : ℕ) (g : Group) (i : Item) (is : List Item) (old mid new : State)
+repeated_more : (v : Version) (all : List Token) (d n : ℕ) (g : Group) (i : Item) (is : List Item) (old mid new : State)
     (r : Read Forest) → (php v).parts g (behind all mid.0) ≡ i ∷ is
     → inner_at (php v) d n ((php v).parts g (behind all mid.0)) (behind all mid.0) ≡ r
     → Extends (Ok tt) v all mid new d r → length (behind all new.0) < length (behind all mid.0)
-    → Turned v all d n g old mid → Turned v all d n g old new
-turned_more v all d n g i is old mid new None e p x lt w = absurd x
-turned_more v all d n g i is old mid new (Some y) e p x lt w = go w.fuel w.enough w.same
+    → Repeated v all d n g old mid → Repeated v all d n g old new
+repeated_more v all d n g i is old mid new None e p x lt w = absurd x
+repeated_more v all d n g i is old mid new (Some y) e p x lt w = go w.fuel w.enough w.same
   where
-    go : (m : ℕ) → length (behind all mid.0) ≤ m → turned_at (php v) d n (length (behind all old.0)) g
-        (behind all old.0) ≡ with_front w.parts (turned_at (php v) d n m g (behind all mid.0))
-        → Turned v all d n g old new
+    go : (m : ℕ) → length (behind all mid.0) ≤ m → repeated_at (php v) d n (length (behind all old.0)) g
+        (behind all old.0) ≡ with_front w.parts (repeated_at (php v) d n m g (behind all mid.0))
+        → Repeated v all d n g old new
     go zero le same = absurd (omega arith)
     go (suc m) le same =
         let T = php v in
@@ -275,17 +275,17 @@ turned_more v all d n g i is old mid new (Some y) e p x lt w = go w.fuel w.enoug
         let low1 = w.low in
         let low2 = x.2 in
         let len : length (behind all new.0) ≡ length y.1 = ap length x.1 in
-        let step : turned_at T d n (suc m) g rest ≡ with_front y.0 (turned_at T d n m g y.1) =
-        one_turn T d n m g i is rest e ∙ ap (turn_then (turned_at T d n m g) rest) p
-        ∙ turn_goes (turned_at T d n m g) rest y (omega arith) in
+        let step : repeated_at T d n (suc m) g rest ≡ with_front y.0 (repeated_at T d n m g y.1) =
+        one_repeat T d n m g i is rest e ∙ ap (repeat_then (repeated_at T d n m g) rest) p
+        ∙ repeat_goes (repeated_at T d n m g) rest y (omega arith) in
         record {
           parts = w.parts +++ y.0;
           fuel = m;
           added = added_join v all old mid new w.parts y.0 w.added x.0;
           low = omega (arith, depth_append w.parts y.0);
           enough = omega arith;
-          same = same ∙ ap (with_front w.parts) step ∙ front_front w.parts y.0 (turned_at T d n m g y.1)
-              ∙ ap (λ (ts : List Token). with_front (w.parts +++ y.0) (turned_at T d n m g ts)) (sym x.1);
+          same = same ∙ ap (with_front w.parts) step ∙ front_front w.parts y.0 (repeated_at T d n m g y.1)
+              ∙ ap (λ (ts : List Token). with_front (w.parts +++ y.0) (repeated_at T d n m g ts)) (sym x.1);
         }
 
 -- ---- groups in groups
@@ -502,30 +502,30 @@ drop_past (i ∷ is) (suc n) le = drop_past is n (omega arith)
 
 pub stays_none : (v : Version) (all : List Token) (d n : ℕ) (g : Group) (old mid new : State) (r : Read Forest)
     → 0 < length ((php v).parts g (behind all mid.0)) → inner_at (php v) d n ((php v).parts g (behind all mid.0))
-    (behind all mid.0) ≡ r → Extends (Ok tt) v all mid new d r → new.0.at ≤ mid.0.at → Turned v all d n g old mid
-    → turned_at (php v) d n (length (behind all old.0)) g (behind all old.0) ≡ None
+    (behind all mid.0) ≡ r → Extends (Ok tt) v all mid new d r → new.0.at ≤ mid.0.at → Repeated v all d n g old mid
+    → repeated_at (php v) d n (length (behind all old.0)) g (behind all old.0) ≡ None
 stays_none v all d n g old mid new None has e x le w = absurd x
 stays_none v all d n g old mid new (Some y) has e x le w =
     let c = cons_of ((php v).parts g (behind all mid.0)) has in
     let len = ap length x.1 in
     let more = no_fewer all mid.0 new.0 le in
-    turned_stays v all d n g c.0 c.1 old mid y c.2 e (omega arith) w
+    repeated_stays v all d n g c.0 c.1 old mid y c.2 e (omega arith) w
 
-pub turned_breaks : (v : Version) (all : List Token) (d n : ℕ) (g : Group) (old mid new : State) (e : ParseFault)
+pub repeated_breaks : (v : Version) (all : List Token) (d n : ℕ) (g : Group) (old mid new : State) (e : ParseFault)
     → 0 < length ((php v).parts g (behind all mid.0)) → Extends (Err e) v all mid new d
-    (inner_at (php v) d n ((php v).parts g (behind all mid.0)) (behind all mid.0)) → Turned v all d n g old mid
-    → Extends (Err e) v all old new d (turned_at (php v) d n (length (behind all old.0)) g (behind all old.0))
-turned_breaks v all d n g old mid new NotInGrammar has x w = let c = cons_of ((php v).parts g (behind all mid.0)) has in turned_fails v all d n g c.0 c.1 old mid c.2 x w
-turned_breaks v all d n g old mid new Memory has x w = tt
+    (inner_at (php v) d n ((php v).parts g (behind all mid.0)) (behind all mid.0)) → Repeated v all d n g old mid
+    → Extends (Err e) v all old new d (repeated_at (php v) d n (length (behind all old.0)) g (behind all old.0))
+repeated_breaks v all d n g old mid new NotInGrammar has x w = let c = cons_of ((php v).parts g (behind all mid.0)) has in repeated_fails v all d n g c.0 c.1 old mid c.2 x w
+repeated_breaks v all d n g old mid new Memory has x w = tt
 
-pub turned_on : (v : Version) (all : List Token) (d n : ℕ) (g : Group) (old mid new : State)
+pub repeated_on : (v : Version) (all : List Token) (d n : ℕ) (g : Group) (old mid new : State)
     → 0 < length ((php v).parts g (behind all mid.0)) → Extends (Ok tt) v all mid new d
     (inner_at (php v) d n ((php v).parts g (behind all mid.0)) (behind all mid.0)) → mid.0.at < new.0.at
-    → Turned v all d n g old mid → Turned v all d n g old new
-turned_on v all d n g old mid new has x lt w =
+    → Repeated v all d n g old mid → Repeated v all d n g old new
+repeated_on v all d n g old mid new has x lt w =
     let c = cons_of ((php v).parts g (behind all mid.0)) has in
     let less = fewer all mid.0 new.0 (extends_within v all mid new d _ x) lt in
-    turned_more v all d n g c.0 c.1 old mid new _ c.2 refl x less w
+    repeated_more v all d n g c.0 c.1 old mid new _ c.2 refl x less w
 
 -- ---- runs of tokens
 

@@ -13,10 +13,10 @@ use Rattle.php_forms.specs.declared.item.Item.{Item}
 use Rattle.php_exprs.specs.declared.fault.ParseFault.{ParseFault}
 use Rattle.php_exprs.specs.declared.fault.ParseFault.TheVariants.{NotInGrammar, Memory}
 use Rattle.php_forms.specs.Grammar.{Tables}
-use Rattle.php_exprs.specs.Parsing.{◌>>=◌, given, Read, Steps, items_at, run_at, turns_at, walk, under, grow, parse}
+use Rattle.php_exprs.specs.Parsing.{◌>>=◌, given, Read, Steps, items_at, run_at, repeats_at, walk, under, grow, parse}
 use Rattle.php_tree.specs.Tree.{none, leaf, node}
 use Rattle.php_terminals.specs.declared.terminal.Terminal.{Terminal}
-use Rattle.php_forms.specs.declared.item.Item.TheVariants.{Word, Node, Part, Turns, Span}
+use Rattle.php_forms.specs.declared.item.Item.TheVariants.{Word, Node, Part, Repeats, Span}
 
 -- Parts were added by what was read.
 abbrev pub Extends : Result (Unit {0}) ParseFault → Version → List Token → State → State → ℕ → Read Forest → Type 0
@@ -41,8 +41,8 @@ inner_at T d n = under T (node_at T d) n
 unfoldable pub parts_at : Tables → ℕ → ℕ → Steps
 parts_at T d n = items_at T (node_at T d) (inner_at T d n)
 
-unfoldable pub turned_at : Tables → ℕ → ℕ → ℕ → Group → List Token → Read Forest
-turned_at T d n = turns_at T (inner_at T d n)
+unfoldable pub repeated_at : Tables → ℕ → ℕ → ℕ → Group → List Token → Read Forest
+repeated_at T d n = repeats_at T (inner_at T d n)
 
 abbrev pub word_at : Tables → Terminal → List Token → Read Forest
 word_at T c [] = None
@@ -55,7 +55,7 @@ unfoldable pub item_at : Tables → ℕ → ℕ → Item → List Token → Read
 item_at T d n (Word c) ts = word_at T c ts
 item_at T d n (Node s) ts = node_at T d s ts >>= λ x. Some (as_part x)
 item_at T d n (Part g) ts = inner_at T d n (T.parts g ts) ts
-item_at T d n (Turns g) ts = turned_at T d n (length ts) g ts
+item_at T d n (Repeats g) ts = repeated_at T d n (length ts) g ts
 item_at T d n Span ts = run_at (T.span ts) ts
 
 -- d is one less than the depth of the node
@@ -73,14 +73,14 @@ pub record Walked (v : Version) (all : List Token) (d n : ℕ) (form items : Lis
   pub low : depth parts ≤ d
   pub same : parts_at (php v) d n form (behind all old.0) ≡ with_front parts (parts_at (php v) d n items (behind all new.0))
 
--- some turns of a group were read, and the others are still to come
-pub record Turned (v : Version) (all : List Token) (d n : ℕ) (g : Group) (old new : State) : Type 0 where
+-- some repeats of a group were read, and the others are still to come
+pub record Repeated (v : Version) (all : List Token) (d n : ℕ) (g : Group) (old new : State) : Type 0 where
   pub parts : Forest
   pub fuel : ℕ
   pub added : Added v all old new parts
   pub low : depth parts ≤ d
   pub enough : length (behind all new.0) ≤ fuel
-  pub same : turned_at (php v) d n (length (behind all old.0)) g (behind all old.0) ≡ with_front parts (turned_at (php v) d n fuel g (behind all new.0))
+  pub same : repeated_at (php v) d n (length (behind all old.0)) g (behind all old.0) ≡ with_front parts (repeated_at (php v) d n fuel g (behind all new.0))
 
 -- so many tokens
 unfoldable pub run_read : ℕ → List Token → Read Forest

@@ -5,7 +5,7 @@ use Rattle.php_tree.specs.Tree.{depth, Forest, Tree, none, leaf, node, ◌+++◌
 use Rattle.php_forms.specs.declared.item.Sort.{Sort}
 use Rattle.php_forms.specs.declared.item.Group.{Group}
 use Rattle.php_forms.specs.declared.item.Item.{Item}
-use Rattle.php_forms.specs.declared.item.Item.TheVariants.{Word, Node, Part, Turns, Span}
+use Rattle.php_forms.specs.declared.item.Item.TheVariants.{Word, Node, Part, Repeats, Span}
 use Rattle.php_forms.specs.Grammar.{Form, Tables}
 
 infixl 10 ◌>>=◌
@@ -24,18 +24,18 @@ given false o = None
 abbrev pub Steps : Type 0
 Steps = List Item → List Token → Read Forest
 
--- one turn of a group that begins here, and the others
-abbrev pub turn_at : Steps → (List Token → Read Forest) → List Item → List Token → Read Forest
-turn_at steps more [] ts = Some (none, ts)
-turn_at steps more (i ∷ is) ts = do
+-- one repeat of a group that begins here, and the others
+abbrev pub repeat_at : Steps → (List Token → Read Forest) → List Item → List Token → Read Forest
+repeat_at steps more [] ts = Some (none, ts)
+repeat_at steps more (i ∷ is) ts = do
   h ← steps (i ∷ is) ts
   f ← given (nat_lt (length h.1) (length ts)) (more h.1)
   Some (h.0 +++ f.0, f.1)
 
 -- a group again and again, each time with a token
-abbrev pub turns_at : Tables → Steps → ℕ → Group → List Token → Read Forest
-turns_at T steps zero g ts = turn_at steps (λ _. None) (T.parts g ts) ts
-turns_at T steps (suc n) g ts = turn_at steps (turns_at T steps n g) (T.parts g ts) ts
+abbrev pub repeats_at : Tables → Steps → ℕ → Group → List Token → Read Forest
+repeats_at T steps zero g ts = repeat_at steps (λ _. None) (T.parts g ts) ts
+repeats_at T steps (suc n) g ts = repeat_at steps (repeats_at T steps n g) (T.parts g ts) ts
 
 -- so many tokens
 abbrev pub run_at : ℕ → List Token → Read Forest
@@ -50,7 +50,7 @@ items_at T child steps (Word c ∷ is) [] = None
 items_at T child steps (Word c ∷ is) (t ∷ ts) = given (T.accepts c t) (items_at T child steps is ts >>= λ f. Some (leaf t f.0, f.1))
 items_at T child steps (Node s ∷ is) ts = child s ts >>= λ n. items_at T child steps is n.1 >>= λ f. Some (node n.0.0 n.0.1 f.0, f.1)
 items_at T child steps (Part g ∷ is) ts = steps (T.parts g ts) ts >>= λ h. items_at T child steps is h.1 >>= λ f. Some (h.0 +++ f.0, f.1)
-items_at T child steps (Turns g ∷ is) ts = turns_at T steps (length ts) g ts >>= λ h. items_at T child steps is h.1 >>= λ f. Some (h.0 +++ f.0, f.1)
+items_at T child steps (Repeats g ∷ is) ts = repeats_at T steps (length ts) g ts >>= λ h. items_at T child steps is h.1 >>= λ f. Some (h.0 +++ f.0, f.1)
 items_at T child steps (Span ∷ is) ts = run_at (T.span ts) ts >>= λ h. items_at T child steps is h.1 >>= λ f. Some (h.0 +++ f.0, f.1)
 
 -- groups at most k deep in one another

@@ -11,7 +11,7 @@ use Rattle.php_forms.specs.declared.item.Sort.{Sort}
 use Rattle.php_exprs.specs.declared.fault.ParseFault.{ParseFault}
 use Rattle.php_exprs.specs.declared.fault.ParseFault.TheVariants.{NotInGrammar, Memory}
 use Rattle.php_forms.specs.declared.item.Group.TheVariants.{Statements}
-use Rattle.php_forms.specs.declared.item.Item.TheVariants.{Turns}
+use Rattle.php_forms.specs.declared.item.Item.TheVariants.{Repeats}
 use Rattle.php_forms.specs.Grammar.{Spells, Walks}
 use Rattle.php_grammar.specs.Tables.{php}
 
@@ -35,7 +35,7 @@ Answers (Err Memory) all old new tree rest = Unit {0}
 
 -- The tokens are those of these statements and then the rest, and each statement is at most d deep.
 pub record ReadsStatements (v : Version) (d : ℕ) (tokens : List Token) (f : Forest) (rest : List Token) : Type 0 where
-  pub walks : Walks (php v) (Turns Statements ∷ []) f rest
+  pub walks : Walks (php v) (Repeats Statements ∷ []) f rest
   pub text : tokens ≡ leaves f ++ rest
   pub low : depth f ≤ d
 

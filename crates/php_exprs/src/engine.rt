@@ -6,7 +6,7 @@ ghost use Rattle.php_terminals.specs.Tokens.{tokens_in};
 ghost use Rattle.php_rows.specs.declared.row.Row.{Row as TheRow};
 ghost use Rattle.php_exprs.specs.Built.{AddedNode, IsClosed, behind};
 ghost use Rattle.php_grammar.specs.Tables.{php};
-ghost use Rattle.php_exprs.specs.Parsed.{Extends, GivesTree, grown_at, inner_at, item_at, node_at, parts_at, run_read, turned_at, word_at};
+ghost use Rattle.php_exprs.specs.Parsed.{Extends, GivesTree, grown_at, inner_at, item_at, node_at, parts_at, run_read, repeated_at, word_at};
 
 use crate::build::{Closed, Reach, close};
 use crate::fault::ParseFault;
@@ -151,7 +151,7 @@ fn one_item(
             let form = parts_of(version, group, rest(tokens, row));
             inner(version, form, nesting, limit, tokens, row, reach)
         }
-        Item::Turns(group) => turns(version, group, nesting, limit, tokens, row, reach),
+        Item::Repeats(group) => repeats(version, group, nesting, limit, tokens, row, reach),
         Item::Span => run(rest(tokens, row).spanned(), tokens, row, reach),
     }
 }
@@ -222,7 +222,7 @@ fn inner(
 
 // A group again and again.
 #[cycle(engine)]
-fn turns(
+fn repeats(
     version: Version,
     group: Group,
     nesting: u32,
@@ -235,7 +235,7 @@ fn turns(
     requires nesting { nesting ≤ 7 }
     requires within { row.old.at ≤ length (tokens_in tokens) }
     ensures { Extends result version (tokens_in tokens.entry) (row.old, reach.old) (row.new, reach.new) limit
-        (turned_at (php version) limit nesting (length (behind (tokens_in tokens.entry) row.old)) group
+        (repeated_at (php version) limit nesting (length (behind (tokens_in tokens.entry) row.old)) group
         (behind (tokens_in tokens.entry) row.old)) }
 {
     loop {

@@ -6,7 +6,7 @@ ghost use Rattle.php_terminals.specs.Tokens.{tokens_in};
 ghost use Rattle.php_forms.specs.declared.item.Group.TheVariants.{Statements};
 ghost use Rattle.php_grammar.specs.Tables.{php};
 ghost use Rattle.php_exprs.specs.Built.{behind};
-ghost use Rattle.php_exprs.specs.Parsed.{Extends, turned_at};
+ghost use Rattle.php_exprs.specs.Parsed.{Extends, repeated_at};
 ghost use Rattle.php_exprs.specs.Reading.{AnswersStatements, IsListed, ReadsStatements};
 
 use crate::build::Reach;
@@ -29,10 +29,10 @@ fn statements(
     requires bound { limit ≤ 1500 }
     requires within { row.old.at ≤ length (tokens_in tokens) }
     ensures { Extends result version (tokens_in tokens.entry) (row.old, reach.old) (row.new, reach.new) limit
-        (turned_at (php version) limit 7 (length (behind (tokens_in tokens.entry) row.old)) Statements
+        (repeated_at (php version) limit 7 (length (behind (tokens_in tokens.entry) row.old)) Statements
         (behind (tokens_in tokens.entry) row.old)) }
 {
-    'turns: loop {
+    'repeats: loop {
         if parts_of(version, Group::Statements, rest(tokens, row)).is_empty() {
             return Ok(());
         }

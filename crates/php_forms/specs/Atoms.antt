@@ -6,7 +6,7 @@ use Rattle.php_terminals.specs.declared.terminal.Terminal.TheVariants as t
 use Rattle.php_forms.specs.declared.item.Sort.TheVariants as s
 use Rattle.php_forms.specs.declared.item.Group.TheVariants as g
 use Rattle.php_forms.specs.declared.item.Item.{Item}
-use Rattle.php_forms.specs.declared.item.Item.TheVariants.{Word, Node, Part, Turns}
+use Rattle.php_forms.specs.declared.item.Item.TheVariants.{Word, Node, Part, Repeats}
 use Rattle.php_forms.specs.Forms.{any}
 use Rattle.php_forms.specs.Grammar.{Form}
 
@@ -27,7 +27,7 @@ yield_to _ = []
 
 -- the variables that a closure takes along
 abbrev pub closure_use : Terminal → List Item
-closure_use t.Use = Word t.Use ∷ Word t.OpenParen ∷ Part g.ByRef ∷ Word t.Variable ∷ Turns g.MoreUsed ∷ Word t.CloseParen ∷ []
+closure_use t.Use = Word t.Use ∷ Word t.OpenParen ∷ Part g.ByRef ∷ Word t.Variable ∷ Repeats g.MoreUsed ∷ Word t.CloseParen ∷ []
 closure_use _ = []
 
 -- the other variables that a closure takes along
@@ -63,7 +63,7 @@ atom_form t.Variable = Some (k.Variable, Word t.Variable ∷ [])
 atom_form t.Int = Some (k.Number, Word t.Int ∷ [])
 atom_form t.Float = Some (k.Float, Word t.Float ∷ [])
 atom_form t.Text = Some (k.Text, Word t.Text ∷ [])
-atom_form t.QuoteOpen = Some (k.Quoted, Word t.QuoteOpen ∷ Turns g.QuotedParts ∷ Word t.QuotedEnd ∷ [])
+atom_form t.QuoteOpen = Some (k.Quoted, Word t.QuoteOpen ∷ Repeats g.QuotedParts ∷ Word t.QuotedEnd ∷ [])
 atom_form t.OpenParen = Some (k.Paren, Word t.OpenParen ∷ any ∷ Word t.CloseParen ∷ [])
 atom_form t.New = Some (k.New, Word t.New ∷ Part g.Created ∷ [])
 atom_form t.Clone = Some (k.Prefix, Word t.Clone ∷ Node (s.Operand 1) ∷ [])
@@ -77,7 +77,7 @@ atom_form t.Print = Some (k.Print, Word t.Print ∷ Node (s.Operand 20) ∷ [])
 atom_form t.Yield = Some (k.Yield, Word t.Yield ∷ Part g.YieldValue ∷ [])
 atom_form t.YieldFrom = Some (k.Yield, Word t.YieldFrom ∷ Node (s.Operand 20) ∷ [])
 atom_form t.Include = Some (k.Include, Word t.Include ∷ any ∷ [])
-atom_form t.Isset = Some (k.Isset, Word t.Isset ∷ Word t.OpenParen ∷ any ∷ Turns g.MoreUnset ∷ Word t.CloseParen ∷ [])
+atom_form t.Isset = Some (k.Isset, Word t.Isset ∷ Word t.OpenParen ∷ any ∷ Repeats g.MoreUnset ∷ Word t.CloseParen ∷ [])
 atom_form t.Empty = Some (k.EmptyTest, Word t.Empty ∷ Word t.OpenParen ∷ any ∷ Word t.CloseParen ∷ [])
 atom_form t.Exit = Some (k.Exit, Word t.Exit ∷ Part g.ExitValue ∷ [])
 atom_form t.Eval = Some (k.EvalTest, Word t.Eval ∷ Word t.OpenParen ∷ any ∷ Word t.CloseParen ∷ [])

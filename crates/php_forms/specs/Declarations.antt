@@ -5,7 +5,7 @@ use Rattle.php_terminals.specs.declared.terminal.Terminal.TheVariants as t
 use Rattle.php_forms.specs.declared.item.Sort.TheVariants as s
 use Rattle.php_forms.specs.declared.item.Group.TheVariants as g
 use Rattle.php_forms.specs.declared.item.Item.{Item}
-use Rattle.php_forms.specs.declared.item.Item.TheVariants.{Word, Node, Part, Turns, Span}
+use Rattle.php_forms.specs.declared.item.Item.TheVariants.{Word, Node, Part, Repeats, Span}
 use Rattle.php_forms.specs.Forms.{any}
 
 -- the mark of a reference
@@ -26,7 +26,7 @@ more_variables _ = []
 -- the parameters
 abbrev pub params : Terminal → List Item
 params t.CloseParen = []
-params _ = Node s.Param ∷ Turns g.MoreParams ∷ []
+params _ = Node s.Param ∷ Repeats g.MoreParams ∷ []
 
 -- the other parameters
 abbrev pub more_params : Terminal → List Item
@@ -73,12 +73,12 @@ extends _ = []
 
 -- the parents of an interface
 abbrev pub parents : Terminal → List Item
-parents t.Extends = Word t.Extends ∷ Part g.Name ∷ Turns g.MoreNames ∷ []
+parents t.Extends = Word t.Extends ∷ Part g.Name ∷ Repeats g.MoreNames ∷ []
 parents _ = []
 
 -- the interfaces of a class
 abbrev pub implements : Terminal → List Item
-implements t.Implements = Word t.Implements ∷ Part g.Name ∷ Turns g.MoreNames ∷ []
+implements t.Implements = Word t.Implements ∷ Part g.Name ∷ Repeats g.MoreNames ∷ []
 implements _ = []
 
 -- the members of a class, an interface or a trait
@@ -121,12 +121,12 @@ more_consts _ = []
 
 -- what stands behind `namespace`
 abbrev pub namespace_body : Terminal → List Item
-namespace_body t.OpenBrace = Word t.OpenBrace ∷ Turns g.Statements ∷ Word t.CloseBrace ∷ []
+namespace_body t.OpenBrace = Word t.OpenBrace ∷ Repeats g.Statements ∷ Word t.CloseBrace ∷ []
 namespace_body _ = Part g.NamespaceName ∷ Part g.NamespaceRest ∷ []
 
 -- what stands behind the name of a namespace
 abbrev pub namespace_rest : Terminal → List Item
-namespace_rest t.OpenBrace = Word t.OpenBrace ∷ Turns g.Statements ∷ Word t.CloseBrace ∷ []
+namespace_rest t.OpenBrace = Word t.OpenBrace ∷ Repeats g.Statements ∷ Word t.CloseBrace ∷ []
 namespace_rest _ = Word t.Semi ∷ []
 
 -- what a use imports: functions, constants, or classes and namespaces
@@ -137,8 +137,8 @@ use_body _ = Part g.UsedClass ∷ Part g.ClassUseRest ∷ []
 
 -- behind the first name of a use of functions or constants
 abbrev pub use_rest : Terminal → List Item
-use_rest t.Backslash = Word t.Backslash ∷ Word t.OpenBrace ∷ Part g.Grouped ∷ Turns g.MoreGrouped ∷ Word t.CloseBrace ∷ []
-use_rest _ = Part g.Alias ∷ Turns g.MoreUses ∷ []
+use_rest t.Backslash = Word t.Backslash ∷ Word t.OpenBrace ∷ Part g.Grouped ∷ Repeats g.MoreGrouped ∷ Word t.CloseBrace ∷ []
+use_rest _ = Part g.Alias ∷ Repeats g.MoreUses ∷ []
 
 -- the other names of a use of functions or constants
 abbrev pub more_uses : Terminal → List Item
@@ -168,8 +168,8 @@ more_grouped _ following = []
 
 -- behind the first name of a use of classes
 abbrev pub class_use_rest : Terminal → List Item
-class_use_rest t.Backslash = Word t.Backslash ∷ Word t.OpenBrace ∷ Part g.ClassGrouped ∷ Turns g.MoreClassGrouped ∷ Word t.CloseBrace ∷ []
-class_use_rest _ = Part g.ClassAlias ∷ Turns g.MoreClassUses ∷ []
+class_use_rest t.Backslash = Word t.Backslash ∷ Word t.OpenBrace ∷ Part g.ClassGrouped ∷ Repeats g.MoreClassGrouped ∷ Word t.CloseBrace ∷ []
+class_use_rest _ = Part g.ClassAlias ∷ Repeats g.MoreClassUses ∷ []
 
 -- the other names of a use of classes
 abbrev pub more_class_uses : Terminal → List Item

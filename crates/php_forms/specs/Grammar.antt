@@ -7,7 +7,7 @@ use Rattle.php_terminals.specs.declared.terminal.Terminal.{Terminal}
 use Rattle.php_forms.specs.declared.item.Sort.{Sort}
 use Rattle.php_forms.specs.declared.item.Group.{Group}
 use Rattle.php_forms.specs.declared.item.Item.{Item}
-use Rattle.php_forms.specs.declared.item.Item.TheVariants.{Word, Node, Part, Turns, Span}
+use Rattle.php_forms.specs.declared.item.Item.TheVariants.{Word, Node, Part, Repeats, Span}
 
 -- A form: the kind of its node, and its items in order.
 abbrev pub Form : Type 0
@@ -49,12 +49,12 @@ mutual
     part : {g : Group} {is : List Item} {h f : Forest} {rest : List Token}
         → Walks T (T.parts g (leaves h ++ (leaves f ++ rest))) h (leaves f ++ rest) → Walks T is f rest
         → Walks T (Part g ∷ is) (h +++ f) rest
-    -- no turn of a group: the next tokens choose none
-    stop : {g : Group} {is : List Item} {f : Forest} {rest : List Token} → T.parts g (leaves f ++ rest) ≡ [] → Walks T is f rest → Walks T (Turns g ∷ is) f rest
-    -- a turn of a group, with at least one token, and then the other turns
-    turn : {g : Group} {i : Item} {js is : List Item} {h f : Forest} {rest : List Token}
+    -- no repeat of a group: the next tokens choose none
+    stop : {g : Group} {is : List Item} {f : Forest} {rest : List Token} → T.parts g (leaves f ++ rest) ≡ [] → Walks T is f rest → Walks T (Repeats g ∷ is) f rest
+    -- a repeat of a group, with at least one token, and then the other repeats
+    repeat : {g : Group} {i : Item} {js is : List Item} {h f : Forest} {rest : List Token}
         → T.parts g (leaves h ++ (leaves f ++ rest)) ≡ i ∷ js → Walks T (i ∷ js) h (leaves f ++ rest)
-        → 0 < length (leaves h) → Walks T (Turns g ∷ is) f rest → Walks T (Turns g ∷ is) (h +++ f) rest
+        → 0 < length (leaves h) → Walks T (Repeats g ∷ is) f rest → Walks T (Repeats g ∷ is) (h +++ f) rest
     -- as many tokens as the span takes
     span : {is : List Item} {f : Forest} {rest : List Token} (h : Forest) → IsFlat h
         → T.span (leaves h ++ (leaves f ++ rest)) ≡ length (leaves h) → Walks T is f rest
@@ -78,7 +78,7 @@ IsNested rank n [] = Unit {0}
 IsNested rank n (Word c ∷ is) = IsNested rank n is
 IsNested rank n (Node s ∷ is) = IsNested rank n is
 IsNested rank n (Part g ∷ is) = (rank g < n) × IsNested rank n is
-IsNested rank n (Turns g ∷ is) = (rank g < n) × IsNested rank n is
+IsNested rank n (Repeats g ∷ is) = (rank g < n) × IsNested rank n is
 IsNested rank n (Span ∷ is) = IsNested rank n is
 
 -- No group leads back to itself other than through a node: each has a rank, below that of the groups that use it.

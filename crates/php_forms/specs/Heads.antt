@@ -9,7 +9,7 @@ use Rattle.php_terminals.specs.declared.terminal.Terminal.TheVariants as t
 use Rattle.php_forms.specs.declared.item.Sort.TheVariants as s
 use Rattle.php_forms.specs.declared.item.Group.TheVariants as g
 use Rattle.php_forms.specs.declared.item.Item.{Item}
-use Rattle.php_forms.specs.declared.item.Item.TheVariants.{Word, Node, Part, Turns}
+use Rattle.php_forms.specs.declared.item.Item.TheVariants.{Word, Node, Part, Repeats}
 use Rattle.php_terminals.specs.Classify.{is_any_label, is_modifier, terminal}
 use Rattle.php_terminals.specs.Ahead.{first_of, past_group, second_of, third_of}
 use Rattle.php_forms.specs.Forms.{any, or_else}
@@ -24,14 +24,14 @@ expression_form = (k.ExprStmt, any ∷ Word t.Semi ∷ [])
 abbrev pub if_form : Terminal → Form
 if_form t.Colon = (
   k.IfAlt,
-  Word t.If ∷ Word t.OpenParen ∷ any ∷ Word t.CloseParen ∷ Word t.Colon ∷ Turns g.Statements
-      ∷ Turns g.AltElseIfs ∷ Part g.AltElse ∷ Word t.EndIf ∷ Word t.Semi ∷ [],
+  Word t.If ∷ Word t.OpenParen ∷ any ∷ Word t.CloseParen ∷ Word t.Colon ∷ Repeats g.Statements
+      ∷ Repeats g.AltElseIfs ∷ Part g.AltElse ∷ Word t.EndIf ∷ Word t.Semi ∷ [],
 )
-if_form _ = (k.If, Word t.If ∷ Word t.OpenParen ∷ any ∷ Word t.CloseParen ∷ Node s.Statement ∷ Turns g.ElseIfs ∷ Part g.ElsePart ∷ [])
+if_form _ = (k.If, Word t.If ∷ Word t.OpenParen ∷ any ∷ Word t.CloseParen ∷ Node s.Statement ∷ Repeats g.ElseIfs ∷ Part g.ElsePart ∷ [])
 
 -- what begins with `static`
 abbrev pub static_form : Terminal → Form
-static_form t.Variable = (k.Statics, Word t.Static ∷ Word t.Variable ∷ Part g.FirstValue ∷ Turns g.MoreVariables ∷ Word t.Semi ∷ [])
+static_form t.Variable = (k.Statics, Word t.Static ∷ Word t.Variable ∷ Part g.FirstValue ∷ Repeats g.MoreVariables ∷ Word t.Semi ∷ [])
 static_form _ = expression_form
 
 -- the name that `function` is followed by, where it isn't marked or is
@@ -78,8 +78,8 @@ statement_form ts = or_else (chosen_form ts) (Some (simple_form (first_of ts)))
 
 -- the form of a case
 abbrev pub case_form : Terminal → Option Form
-case_form t.Case = Some (k.Case, Word t.Case ∷ any ∷ Part g.CaseMark ∷ Turns g.Statements ∷ [])
-case_form t.Default = Some (k.Case, Word t.Default ∷ Part g.CaseMark ∷ Turns g.Statements ∷ [])
+case_form t.Case = Some (k.Case, Word t.Case ∷ any ∷ Part g.CaseMark ∷ Repeats g.Statements ∷ [])
+case_form t.Default = Some (k.Case, Word t.Default ∷ Part g.CaseMark ∷ Repeats g.Statements ∷ [])
 case_form _ = None
 
 -- whether a token is a modifier
@@ -98,15 +98,15 @@ behind_modifiers ts = first_of (drop (modifiers_len ts) ts)
 abbrev pub modified_form : Terminal → Form
 modified_form t.Function = (
   k.Method,
-  Turns g.Modifiers ∷ Word t.Function ∷ Part g.ByRef ∷ Word t.AnyWord
+  Repeats g.Modifiers ∷ Word t.Function ∷ Part g.ByRef ∷ Word t.AnyWord
       ∷ Word t.OpenParen ∷ Part g.Params ∷ Word t.CloseParen ∷ Part g.ReturnType ∷ Part g.MethodBody ∷ [],
 )
-modified_form t.Const = (k.ClassConst, Turns g.Modifiers ∷ Word t.Const ∷ Word t.ConstantWord ∷ Word t.Assign ∷ any ∷ Turns g.MoreClassConsts ∷ Word t.Semi ∷ [])
-modified_form _ = (k.Property, Word t.Modifier ∷ Turns g.Modifiers ∷ Part g.PropertyType ∷ Word t.Variable ∷ Part g.FirstValue ∷ Turns g.MoreVariables ∷ Word t.Semi ∷ [])
+modified_form t.Const = (k.ClassConst, Repeats g.Modifiers ∷ Word t.Const ∷ Word t.ConstantWord ∷ Word t.Assign ∷ any ∷ Repeats g.MoreClassConsts ∷ Word t.Semi ∷ [])
+modified_form _ = (k.Property, Word t.Modifier ∷ Repeats g.Modifiers ∷ Part g.PropertyType ∷ Word t.Variable ∷ Part g.FirstValue ∷ Repeats g.MoreVariables ∷ Word t.Semi ∷ [])
 
 -- a use of traits
 abbrev pub trait_use_form : Terminal → Option Form
-trait_use_form t.Use = Some (k.TraitUse, Word t.Use ∷ Part g.Name ∷ Turns g.MoreNames ∷ Part g.TraitRules ∷ [])
+trait_use_form t.Use = Some (k.TraitUse, Word t.Use ∷ Part g.Name ∷ Repeats g.MoreNames ∷ Part g.TraitRules ∷ [])
 trait_use_form _ = None
 
 -- the form of the member that begins here

@@ -6,14 +6,14 @@ use Rattle.php_terminals.specs.declared.terminal.Terminal.TheVariants as t
 use Rattle.php_forms.specs.declared.item.Sort.TheVariants as s
 use Rattle.php_forms.specs.declared.item.Group.TheVariants as g
 use Rattle.php_forms.specs.declared.item.Item.{Item}
-use Rattle.php_forms.specs.declared.item.Item.TheVariants.{Word, Node, Part, Turns}
+use Rattle.php_forms.specs.declared.item.Item.TheVariants.{Word, Node, Part, Repeats}
 use Rattle.php_forms.specs.Forms.{any}
 use Rattle.php_forms.specs.Grammar.{Form}
 
 -- the arguments of a call
 abbrev pub arg_list : Terminal → List Item
 arg_list t.CloseParen = []
-arg_list _ = Part g.Variadic ∷ any ∷ Turns g.MoreArgs ∷ []
+arg_list _ = Part g.Variadic ∷ any ∷ Repeats g.MoreArgs ∷ []
 
 -- behind a comma of arguments
 abbrev pub more_args_last : Terminal → List Item
@@ -29,7 +29,7 @@ more_args _ following = []
 abbrev pub array_items : Terminal → List Item
 array_items t.CloseParen = []
 array_items t.CloseBracket = []
-array_items _ = Node s.Item ∷ Turns g.MoreItems ∷ []
+array_items _ = Node s.Item ∷ Repeats g.MoreItems ∷ []
 
 -- behind a comma of an array
 abbrev pub more_items_last : Terminal → List Item

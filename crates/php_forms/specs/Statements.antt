@@ -6,7 +6,7 @@ use Rattle.php_terminals.specs.declared.terminal.Terminal.TheVariants as t
 use Rattle.php_forms.specs.declared.item.Sort.TheVariants as s
 use Rattle.php_forms.specs.declared.item.Group.TheVariants as g
 use Rattle.php_forms.specs.declared.item.Item.{Item}
-use Rattle.php_forms.specs.declared.item.Item.TheVariants.{Word, Node, Part, Turns}
+use Rattle.php_forms.specs.declared.item.Item.TheVariants.{Word, Node, Part, Repeats}
 use Rattle.php_forms.specs.Forms.{any}
 use Rattle.php_forms.specs.Grammar.{Form}
 
@@ -38,38 +38,38 @@ else_part _ = []
 
 -- the `elseif` parts of an `if` with colons
 abbrev pub alt_else_ifs : Terminal → List Item
-alt_else_ifs t.ElseIf = Word t.ElseIf ∷ Word t.OpenParen ∷ any ∷ Word t.CloseParen ∷ Word t.Colon ∷ Turns g.Statements ∷ []
+alt_else_ifs t.ElseIf = Word t.ElseIf ∷ Word t.OpenParen ∷ any ∷ Word t.CloseParen ∷ Word t.Colon ∷ Repeats g.Statements ∷ []
 alt_else_ifs _ = []
 
 -- the `else` of an `if` with colons
 abbrev pub alt_else : Terminal → List Item
-alt_else t.Else = Word t.Else ∷ Word t.Colon ∷ Turns g.Statements ∷ []
+alt_else t.Else = Word t.Else ∷ Word t.Colon ∷ Repeats g.Statements ∷ []
 alt_else _ = []
 
 -- the body of a `while`
 abbrev pub while_body : Terminal → List Item
-while_body t.Colon = Word t.Colon ∷ Turns g.Statements ∷ Word t.EndWhile ∷ Word t.Semi ∷ []
+while_body t.Colon = Word t.Colon ∷ Repeats g.Statements ∷ Word t.EndWhile ∷ Word t.Semi ∷ []
 while_body _ = Node s.Statement ∷ []
 
 -- the body of a `for`
 abbrev pub for_body : Terminal → List Item
-for_body t.Colon = Word t.Colon ∷ Turns g.Statements ∷ Word t.EndFor ∷ Word t.Semi ∷ []
+for_body t.Colon = Word t.Colon ∷ Repeats g.Statements ∷ Word t.EndFor ∷ Word t.Semi ∷ []
 for_body _ = Node s.Statement ∷ []
 
 -- the body of a `foreach`
 abbrev pub foreach_body : Terminal → List Item
-foreach_body t.Colon = Word t.Colon ∷ Turns g.Statements ∷ Word t.EndForeach ∷ Word t.Semi ∷ []
+foreach_body t.Colon = Word t.Colon ∷ Repeats g.Statements ∷ Word t.EndForeach ∷ Word t.Semi ∷ []
 foreach_body _ = Node s.Statement ∷ []
 
 -- the body of a `declare`
 abbrev pub declare_body : Terminal → List Item
-declare_body t.Colon = Word t.Colon ∷ Turns g.Statements ∷ Word t.EndDeclare ∷ Word t.Semi ∷ []
+declare_body t.Colon = Word t.Colon ∷ Repeats g.Statements ∷ Word t.EndDeclare ∷ Word t.Semi ∷ []
 declare_body _ = Node s.Statement ∷ []
 
 -- the cases of a `switch`
 abbrev pub switch_body : Terminal → List Item
-switch_body t.OpenBrace = Word t.OpenBrace ∷ Part g.FirstSemi ∷ Turns g.Cases ∷ Word t.CloseBrace ∷ []
-switch_body _ = Word t.Colon ∷ Part g.FirstSemi ∷ Turns g.Cases ∷ Word t.EndSwitch ∷ Word t.Semi ∷ []
+switch_body t.OpenBrace = Word t.OpenBrace ∷ Part g.FirstSemi ∷ Repeats g.Cases ∷ Word t.CloseBrace ∷ []
+switch_body _ = Word t.Colon ∷ Part g.FirstSemi ∷ Repeats g.Cases ∷ Word t.EndSwitch ∷ Word t.Semi ∷ []
 
 -- the semicolon before the first case
 abbrev pub first_semi : Terminal → List Item
@@ -101,7 +101,7 @@ return_value _ = any ∷ []
 abbrev pub exprs : Terminal → List Item
 exprs t.Semi = []
 exprs t.CloseParen = []
-exprs _ = any ∷ Turns g.MoreExprs ∷ []
+exprs _ = any ∷ Repeats g.MoreExprs ∷ []
 
 -- what a `foreach` writes
 abbrev pub foreach_target : Terminal → List Item
@@ -126,11 +126,11 @@ more_globals _ = []
 -- the `catch` parts and the `finally` of a `try`: there is at least one
 abbrev pub handlers : Terminal → List Item
 handlers t.Finally = Word t.Finally ∷ Node s.Block ∷ []
-handlers _ = Word t.Catch ∷ Word t.OpenParen ∷ Part g.Name ∷ Turns g.CaughtNames ∷ Word t.Variable ∷ Word t.CloseParen ∷ Node s.Block ∷ Turns g.Catches ∷ Part g.FinallyPart ∷ []
+handlers _ = Word t.Catch ∷ Word t.OpenParen ∷ Part g.Name ∷ Repeats g.CaughtNames ∷ Word t.Variable ∷ Word t.CloseParen ∷ Node s.Block ∷ Repeats g.Catches ∷ Part g.FinallyPart ∷ []
 
 -- the other `catch` parts
 abbrev pub catches : Terminal → List Item
-catches t.Catch = Word t.Catch ∷ Word t.OpenParen ∷ Part g.Name ∷ Turns g.CaughtNames ∷ Word t.Variable ∷ Word t.CloseParen ∷ Node s.Block ∷ []
+catches t.Catch = Word t.Catch ∷ Word t.OpenParen ∷ Part g.Name ∷ Repeats g.CaughtNames ∷ Word t.Variable ∷ Word t.CloseParen ∷ Node s.Block ∷ []
 catches _ = []
 
 -- the other names of a `catch`
@@ -160,9 +160,9 @@ more_unset _ following = []
 
 -- the form of a statement that its first token settles
 abbrev pub simple_form : Terminal → Form
-simple_form t.OpenBrace = (k.Block, Word t.OpenBrace ∷ Turns g.Statements ∷ Word t.CloseBrace ∷ [])
+simple_form t.OpenBrace = (k.Block, Word t.OpenBrace ∷ Repeats g.Statements ∷ Word t.CloseBrace ∷ [])
 simple_form t.Semi = (k.Empty, Word t.Semi ∷ [])
-simple_form t.Echo = (k.Echo, Word t.Echo ∷ any ∷ Turns g.MoreExprs ∷ Word t.Semi ∷ [])
+simple_form t.Echo = (k.Echo, Word t.Echo ∷ any ∷ Repeats g.MoreExprs ∷ Word t.Semi ∷ [])
 simple_form t.InlineHtml = (k.Html, Word t.InlineHtml ∷ [])
 simple_form t.Return = (k.Return, Word t.Return ∷ Part g.ReturnValue ∷ Word t.Semi ∷ [])
 simple_form t.While = (k.While, Word t.While ∷ Word t.OpenParen ∷ any ∷ Word t.CloseParen ∷ Part g.WhileBody ∷ [])
@@ -172,33 +172,33 @@ simple_form t.Foreach = (k.Foreach, Word t.Foreach ∷ Word t.OpenParen ∷ any 
 simple_form t.Switch = (k.Switch, Word t.Switch ∷ Word t.OpenParen ∷ any ∷ Word t.CloseParen ∷ Part g.SwitchBody ∷ [])
 simple_form t.Break = (k.Break, Word t.Break ∷ Part g.LoopCount ∷ Word t.Semi ∷ [])
 simple_form t.Continue = (k.Continue, Word t.Continue ∷ Part g.LoopCount ∷ Word t.Semi ∷ [])
-simple_form t.Global = (k.Global, Word t.Global ∷ Node s.SimpleVariable ∷ Turns g.MoreGlobals ∷ Word t.Semi ∷ [])
-simple_form t.Unset = (k.Unset, Word t.Unset ∷ Word t.OpenParen ∷ any ∷ Turns g.MoreUnset ∷ Word t.CloseParen ∷ Word t.Semi ∷ [])
+simple_form t.Global = (k.Global, Word t.Global ∷ Node s.SimpleVariable ∷ Repeats g.MoreGlobals ∷ Word t.Semi ∷ [])
+simple_form t.Unset = (k.Unset, Word t.Unset ∷ Word t.OpenParen ∷ any ∷ Repeats g.MoreUnset ∷ Word t.CloseParen ∷ Word t.Semi ∷ [])
 simple_form t.Throw = (k.Throw, Word t.Throw ∷ any ∷ Word t.Semi ∷ [])
 simple_form t.Try = (k.Try, Word t.Try ∷ Node s.Block ∷ Part g.Handlers ∷ [])
 simple_form t.Declare = (
   k.Declare,
   Word t.Declare ∷ Word t.OpenParen ∷ Word t.FreeLabel ∷ Word t.Assign ∷ any
-      ∷ Turns g.MoreDirectives ∷ Word t.CloseParen ∷ Part g.DeclareBody ∷ [],
+      ∷ Repeats g.MoreDirectives ∷ Word t.CloseParen ∷ Part g.DeclareBody ∷ [],
 )
 simple_form t.Goto = (k.Goto, Word t.Goto ∷ Word t.FreeLabel ∷ Word t.Semi ∷ [])
 simple_form t.Class = (
   k.Class,
-  Part g.Attribute ∷ Turns g.ClassModifiers ∷ Word t.Class ∷ Word t.ClassLabel
-      ∷ Part g.Extends ∷ Part g.Implements ∷ Word t.OpenBrace ∷ Turns g.Members ∷ Word t.CloseBrace ∷ [],
+  Part g.Attribute ∷ Repeats g.ClassModifiers ∷ Word t.Class ∷ Word t.ClassLabel
+      ∷ Part g.Extends ∷ Part g.Implements ∷ Word t.OpenBrace ∷ Repeats g.Members ∷ Word t.CloseBrace ∷ [],
 )
 simple_form t.ClassModifier = (
   k.Class,
-  Part g.Attribute ∷ Turns g.ClassModifiers ∷ Word t.Class ∷ Word t.ClassLabel
-      ∷ Part g.Extends ∷ Part g.Implements ∷ Word t.OpenBrace ∷ Turns g.Members ∷ Word t.CloseBrace ∷ [],
+  Part g.Attribute ∷ Repeats g.ClassModifiers ∷ Word t.Class ∷ Word t.ClassLabel
+      ∷ Part g.Extends ∷ Part g.Implements ∷ Word t.OpenBrace ∷ Repeats g.Members ∷ Word t.CloseBrace ∷ [],
 )
 simple_form t.AttributeOpen = (
   k.Class,
-  Part g.Attribute ∷ Turns g.ClassModifiers ∷ Word t.Class ∷ Word t.ClassLabel
-      ∷ Part g.Extends ∷ Part g.Implements ∷ Word t.OpenBrace ∷ Turns g.Members ∷ Word t.CloseBrace ∷ [],
+  Part g.Attribute ∷ Repeats g.ClassModifiers ∷ Word t.Class ∷ Word t.ClassLabel
+      ∷ Part g.Extends ∷ Part g.Implements ∷ Word t.OpenBrace ∷ Repeats g.Members ∷ Word t.CloseBrace ∷ [],
 )
-simple_form t.Interface = (k.Interface, Word t.Interface ∷ Word t.ClassLabel ∷ Part g.Parents ∷ Word t.OpenBrace ∷ Turns g.Members ∷ Word t.CloseBrace ∷ [])
-simple_form t.Trait = (k.Trait, Word t.Trait ∷ Word t.ClassLabel ∷ Word t.OpenBrace ∷ Turns g.Members ∷ Word t.CloseBrace ∷ [])
+simple_form t.Interface = (k.Interface, Word t.Interface ∷ Word t.ClassLabel ∷ Part g.Parents ∷ Word t.OpenBrace ∷ Repeats g.Members ∷ Word t.CloseBrace ∷ [])
+simple_form t.Trait = (k.Trait, Word t.Trait ∷ Word t.ClassLabel ∷ Word t.OpenBrace ∷ Repeats g.Members ∷ Word t.CloseBrace ∷ [])
 simple_form t.Use = (k.Use, Word t.Use ∷ Part g.UseBody ∷ Word t.Semi ∷ [])
-simple_form t.Const = (k.Const, Word t.Const ∷ Word t.FreeLabel ∷ Word t.Assign ∷ any ∷ Turns g.MoreConsts ∷ Word t.Semi ∷ [])
+simple_form t.Const = (k.Const, Word t.Const ∷ Word t.FreeLabel ∷ Word t.Assign ∷ any ∷ Repeats g.MoreConsts ∷ Word t.Semi ∷ [])
 simple_form _ = (k.ExprStmt, any ∷ Word t.Semi ∷ [])

@@ -3,7 +3,7 @@ ghost use Rattle.std.specs.Prelude.{◌≡◌};
 ghost use Rattle.php_forms.specs.Atoms.{atom_form, closure_use, ctor_args, exit_code, exit_value, member, more_used, offset_key, static_member, yield_to};
 ghost use Rattle.php_forms.specs.Forms.{form_view};
 
-use crate::item::Item::{self, Node, Part, Turns, Word};
+use crate::item::Item::{self, Node, Part, Repeats, Word};
 use crate::item::{ANY, Form, Group, NOTHING, Sort};
 use php_terminals::terminal::Terminal;
 use php_tree::NodeKind;
@@ -20,7 +20,7 @@ pub static CREATED_CLASS: [Item; 7] = [
     Part(Group::Extends),
     Part(Group::Implements),
     Word(Terminal::OpenBrace),
-    Turns(Group::Members),
+    Repeats(Group::Members),
     Word(Terminal::CloseBrace),
 ];
 
@@ -119,7 +119,7 @@ pub static STATIC_ARROW: [Item; 9] = [
 pub static LIST_BRACKETS: [Item; 4] = [
     Word(Terminal::OpenBracket),
     Part(Group::ListHead),
-    Turns(Group::ListMore),
+    Repeats(Group::ListMore),
     Word(Terminal::CloseBracket),
 ];
 
@@ -127,7 +127,7 @@ pub static LIST_WORD: [Item; 5] = [
     Word(Terminal::List),
     Word(Terminal::OpenParen),
     Part(Group::ListHead),
-    Turns(Group::ListMore),
+    Repeats(Group::ListMore),
     Word(Terminal::CloseParen),
 ];
 
@@ -161,7 +161,7 @@ static CLOSURE_USE: [Item; 6] = [
     Word(Terminal::OpenParen),
     Part(Group::ByRef),
     Word(Terminal::Variable),
-    Turns(Group::MoreUsed),
+    Repeats(Group::MoreUsed),
     Word(Terminal::CloseParen),
 ];
 
@@ -195,7 +195,7 @@ static TEXT: [Item; 1] = [Word(Terminal::Text)];
 
 static QUOTED: [Item; 3] = [
     Word(Terminal::QuoteOpen),
-    Turns(Group::QuotedParts),
+    Repeats(Group::QuotedParts),
     Word(Terminal::QuotedEnd),
 ];
 
@@ -229,7 +229,7 @@ static ISSET: [Item; 5] = [
     Word(Terminal::Isset),
     Word(Terminal::OpenParen),
     Node(Sort::Operand(ANY)),
-    Turns(Group::MoreUnset),
+    Repeats(Group::MoreUnset),
     Word(Terminal::CloseParen),
 ];
 

@@ -2,7 +2,7 @@
 ghost use Rattle.std.specs.Prelude.{◌≡◌};
 ghost use Rattle.php_forms.specs.Declarations.{alias, by_ref, class_alias, class_grouped, class_modifiers, class_use_rest, extends, first_value, grouped, implements, members, method_body, modifiers, more_class_consts, more_class_grouped, more_class_grouped_last, more_class_uses, more_consts, more_grouped, more_grouped_last, more_params, more_uses, more_variables, namespace_body, namespace_rest, nullable, param_type, params, parents, property_type, return_type, trait_rules, type_word, use_body, use_rest, used_class, used_grouped, variadic};
 
-use crate::item::Item::{self, Node, Part, Span, Turns, Word};
+use crate::item::Item::{self, Node, Part, Repeats, Span, Word};
 use crate::item::{ANY, Group, NOTHING, Sort};
 use php_terminals::terminal::Terminal;
 
@@ -15,12 +15,12 @@ pub static ATTRIBUTE: [Item; 3] = [
 pub static TRAIT_USE: [Item; 4] = [
     Word(Terminal::Use),
     Part(Group::Name),
-    Turns(Group::MoreNames),
+    Repeats(Group::MoreNames),
     Part(Group::TraitRules),
 ];
 
 pub static METHOD: [Item; 9] = [
-    Turns(Group::Modifiers),
+    Repeats(Group::Modifiers),
     Word(Terminal::Function),
     Part(Group::ByRef),
     Word(Terminal::AnyWord),
@@ -32,22 +32,22 @@ pub static METHOD: [Item; 9] = [
 ];
 
 pub static CLASS_CONST: [Item; 7] = [
-    Turns(Group::Modifiers),
+    Repeats(Group::Modifiers),
     Word(Terminal::Const),
     Word(Terminal::ConstantWord),
     Word(Terminal::Assign),
     Node(Sort::Operand(ANY)),
-    Turns(Group::MoreClassConsts),
+    Repeats(Group::MoreClassConsts),
     Word(Terminal::Semi),
 ];
 
 pub static PROPERTY: [Item; 7] = [
     Word(Terminal::Modifier),
-    Turns(Group::Modifiers),
+    Repeats(Group::Modifiers),
     Part(Group::PropertyType),
     Word(Terminal::Variable),
     Part(Group::FirstValue),
-    Turns(Group::MoreVariables),
+    Repeats(Group::MoreVariables),
     Word(Terminal::Semi),
 ];
 
@@ -71,7 +71,7 @@ static MORE_VARIABLES: [Item; 3] = [
     Part(Group::FirstValue),
 ];
 
-static PARAMS: [Item; 2] = [Node(Sort::Param), Turns(Group::MoreParams)];
+static PARAMS: [Item; 2] = [Node(Sort::Param), Repeats(Group::MoreParams)];
 
 static MORE_PARAMS: [Item; 2] = [Word(Terminal::Comma), Node(Sort::Param)];
 
@@ -96,13 +96,13 @@ static EXTENDS: [Item; 2] = [Word(Terminal::Extends), Part(Group::Name)];
 static PARENTS: [Item; 3] = [
     Word(Terminal::Extends),
     Part(Group::Name),
-    Turns(Group::MoreNames),
+    Repeats(Group::MoreNames),
 ];
 
 static IMPLEMENTS: [Item; 3] = [
     Word(Terminal::Implements),
     Part(Group::Name),
-    Turns(Group::MoreNames),
+    Repeats(Group::MoreNames),
 ];
 
 static MEMBERS: [Item; 1] = [Node(Sort::Member)];
@@ -135,7 +135,7 @@ static MORE_CONSTS: [Item; 4] = [
 
 static NAMESPACE_BODY_OPEN_BRACE: [Item; 3] = [
     Word(Terminal::OpenBrace),
-    Turns(Group::Statements),
+    Repeats(Group::Statements),
     Word(Terminal::CloseBrace),
 ];
 
@@ -159,11 +159,11 @@ static USE_REST_BACKSLASH: [Item; 5] = [
     Word(Terminal::Backslash),
     Word(Terminal::OpenBrace),
     Part(Group::Grouped),
-    Turns(Group::MoreGrouped),
+    Repeats(Group::MoreGrouped),
     Word(Terminal::CloseBrace),
 ];
 
-static USE_REST: [Item; 2] = [Part(Group::Alias), Turns(Group::MoreUses)];
+static USE_REST: [Item; 2] = [Part(Group::Alias), Repeats(Group::MoreUses)];
 
 static MORE_USES: [Item; 3] = [
     Word(Terminal::Comma),
@@ -195,11 +195,11 @@ static CLASS_USE_REST_BACKSLASH: [Item; 5] = [
     Word(Terminal::Backslash),
     Word(Terminal::OpenBrace),
     Part(Group::ClassGrouped),
-    Turns(Group::MoreClassGrouped),
+    Repeats(Group::MoreClassGrouped),
     Word(Terminal::CloseBrace),
 ];
 
-static CLASS_USE_REST: [Item; 2] = [Part(Group::ClassAlias), Turns(Group::MoreClassUses)];
+static CLASS_USE_REST: [Item; 2] = [Part(Group::ClassAlias), Repeats(Group::MoreClassUses)];
 
 static MORE_CLASS_USES: [Item; 3] = [
     Word(Terminal::Comma),

@@ -252,7 +252,7 @@ pub enum Item {
     /// The parts of a group.
     Part(Group),
     /// The parts of a group again and again, until the tokens that come choose none.
-    Turns(Group),
+    Repeats(Group),
     /// Tokens up to a brace that closes no brace among them.
     Span,
 }

@@ -2,7 +2,7 @@
 ghost use Rattle.std.specs.Prelude.{◌≡◌};
 ghost use Rattle.php_forms.specs.Lists.{arg_list, array_items, entry_value, item_form, item_value, list_head, list_item_form, list_more, more_args, more_args_last, more_items, more_items_last};
 
-use crate::item::Item::{self, Node, Part, Turns, Word};
+use crate::item::Item::{self, Node, Part, Repeats, Word};
 use crate::item::{ANY, Form, Group, NOTHING, Sort};
 use php_terminals::terminal::Terminal;
 use php_tree::NodeKind;
@@ -12,7 +12,7 @@ pub static ARGS: [Item; 1] = [Part(Group::ArgList)];
 static ARG_LIST: [Item; 3] = [
     Part(Group::Variadic),
     Node(Sort::Operand(ANY)),
-    Turns(Group::MoreArgs),
+    Repeats(Group::MoreArgs),
 ];
 
 static MORE_ARGS_LAST_CLOSE_PAREN: [Item; 1] = [Word(Terminal::Comma)];
@@ -23,7 +23,7 @@ static MORE_ARGS_LAST: [Item; 3] = [
     Node(Sort::Operand(ANY)),
 ];
 
-static ARRAY_ITEMS: [Item; 2] = [Node(Sort::Item), Turns(Group::MoreItems)];
+static ARRAY_ITEMS: [Item; 2] = [Node(Sort::Item), Repeats(Group::MoreItems)];
 
 static MORE_ITEMS_LAST: [Item; 2] = [Word(Terminal::Comma), Node(Sort::Item)];
 

@@ -2,7 +2,7 @@
 ghost use Rattle.std.specs.Prelude.{◌≡◌};
 ghost use Rattle.php_forms.specs.Names.{called_name, grouped_class, grouped_name, imported_class, imported_name, more_names, name, name_lead, name_more, name_more_label, namespace_name, root_lead};
 
-use crate::item::Item::{self, Part, Turns, Word};
+use crate::item::Item::{self, Part, Repeats, Word};
 use crate::item::{Group, NOTHING};
 use php_terminals::terminal::Terminal;
 use php_tree::Version;
@@ -10,14 +10,14 @@ use php_tree::Version;
 static NAME_74: [Item; 3] = [
     Part(Group::NameLead),
     Word(Terminal::AnyLabel),
-    Turns(Group::NameMore),
+    Repeats(Group::NameMore),
 ];
 
 static NAME_83: [Item; 1] = [Word(Terminal::NameToken)];
 
 static CALLED_NAME_83: [Item; 1] = [Word(Terminal::CalledName)];
 
-static NAMESPACE_NAME_74: [Item; 2] = [Word(Terminal::AnyLabel), Turns(Group::NameMore)];
+static NAMESPACE_NAME_74: [Item; 2] = [Word(Terminal::AnyLabel), Repeats(Group::NameMore)];
 
 static NAMESPACE_NAME_83: [Item; 1] = [Word(Terminal::NamespaceToken)];
 
@@ -32,7 +32,7 @@ static MORE_NAMES: [Item; 2] = [Word(Terminal::Comma), Part(Group::Name)];
 static IMPORTED_NAME_74: [Item; 3] = [
     Part(Group::RootLead),
     Word(Terminal::AnyLabel),
-    Turns(Group::NameMore),
+    Repeats(Group::NameMore),
 ];
 
 static IMPORTED_NAME_83: [Item; 1] = [Word(Terminal::ImportedName)];

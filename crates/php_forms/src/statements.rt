@@ -2,7 +2,7 @@
 ghost use Rattle.std.specs.Prelude.{◌≡◌};
 ghost use Rattle.php_forms.specs.Statements.{alt_else, alt_else_ifs, case_mark, cases, catches, caught_names, declare_body, else_ifs, else_part, exprs, finally_part, first_semi, for_body, foreach_body, foreach_target, foreach_value, handlers, loop_count, more_directives, more_exprs, more_globals, more_unset, more_unset_last, return_value, simple_form, statements, switch_body, while_body};
 
-use crate::item::Item::{self, Node, Part, Turns, Word};
+use crate::item::Item::{self, Node, Part, Repeats, Word};
 use crate::item::{ANY, Form, Group, NOTHING, Sort};
 use php_terminals::terminal::Terminal;
 use php_tree::NodeKind;
@@ -15,7 +15,7 @@ pub static IF: [Item; 7] = [
     Node(Sort::Operand(ANY)),
     Word(Terminal::CloseParen),
     Node(Sort::Statement),
-    Turns(Group::ElseIfs),
+    Repeats(Group::ElseIfs),
     Part(Group::ElsePart),
 ];
 
@@ -25,8 +25,8 @@ pub static IF_ALT: [Item; 10] = [
     Node(Sort::Operand(ANY)),
     Word(Terminal::CloseParen),
     Word(Terminal::Colon),
-    Turns(Group::Statements),
-    Turns(Group::AltElseIfs),
+    Repeats(Group::Statements),
+    Repeats(Group::AltElseIfs),
     Part(Group::AltElse),
     Word(Terminal::EndIf),
     Word(Terminal::Semi),
@@ -36,7 +36,7 @@ pub static STATICS: [Item; 5] = [
     Word(Terminal::Static),
     Word(Terminal::Variable),
     Part(Group::FirstValue),
-    Turns(Group::MoreVariables),
+    Repeats(Group::MoreVariables),
     Word(Terminal::Semi),
 ];
 
@@ -59,13 +59,13 @@ pub static CASE: [Item; 4] = [
     Word(Terminal::Case),
     Node(Sort::Operand(ANY)),
     Part(Group::CaseMark),
-    Turns(Group::Statements),
+    Repeats(Group::Statements),
 ];
 
 pub static DEFAULT: [Item; 3] = [
     Word(Terminal::Default),
     Part(Group::CaseMark),
-    Turns(Group::Statements),
+    Repeats(Group::Statements),
 ];
 
 static STATEMENTS: [Item; 1] = [Node(Sort::Statement)];
@@ -86,39 +86,39 @@ static ALT_ELSE_IFS: [Item; 6] = [
     Node(Sort::Operand(ANY)),
     Word(Terminal::CloseParen),
     Word(Terminal::Colon),
-    Turns(Group::Statements),
+    Repeats(Group::Statements),
 ];
 
 static ALT_ELSE: [Item; 3] = [
     Word(Terminal::Else),
     Word(Terminal::Colon),
-    Turns(Group::Statements),
+    Repeats(Group::Statements),
 ];
 
 static WHILE_BODY_COLON: [Item; 4] = [
     Word(Terminal::Colon),
-    Turns(Group::Statements),
+    Repeats(Group::Statements),
     Word(Terminal::EndWhile),
     Word(Terminal::Semi),
 ];
 
 static FOR_BODY_COLON: [Item; 4] = [
     Word(Terminal::Colon),
-    Turns(Group::Statements),
+    Repeats(Group::Statements),
     Word(Terminal::EndFor),
     Word(Terminal::Semi),
 ];
 
 static FOREACH_BODY_COLON: [Item; 4] = [
     Word(Terminal::Colon),
-    Turns(Group::Statements),
+    Repeats(Group::Statements),
     Word(Terminal::EndForeach),
     Word(Terminal::Semi),
 ];
 
 static DECLARE_BODY_COLON: [Item; 4] = [
     Word(Terminal::Colon),
-    Turns(Group::Statements),
+    Repeats(Group::Statements),
     Word(Terminal::EndDeclare),
     Word(Terminal::Semi),
 ];
@@ -126,14 +126,14 @@ static DECLARE_BODY_COLON: [Item; 4] = [
 static SWITCH_BODY_OPEN_BRACE: [Item; 4] = [
     Word(Terminal::OpenBrace),
     Part(Group::FirstSemi),
-    Turns(Group::Cases),
+    Repeats(Group::Cases),
     Word(Terminal::CloseBrace),
 ];
 
 static SWITCH_BODY: [Item; 5] = [
     Word(Terminal::Colon),
     Part(Group::FirstSemi),
-    Turns(Group::Cases),
+    Repeats(Group::Cases),
     Word(Terminal::EndSwitch),
     Word(Terminal::Semi),
 ];
@@ -148,7 +148,7 @@ static MORE_EXPRS: [Item; 2] = [Word(Terminal::Comma), Node(Sort::Operand(ANY))]
 
 static RETURN_VALUE: [Item; 1] = [Node(Sort::Operand(ANY))];
 
-static EXPRS: [Item; 2] = [Node(Sort::Operand(ANY)), Turns(Group::MoreExprs)];
+static EXPRS: [Item; 2] = [Node(Sort::Operand(ANY)), Repeats(Group::MoreExprs)];
 
 static FOREACH_TARGET_AMPERSAND: [Item; 2] = [Word(Terminal::Ampersand), Node(Sort::Target)];
 
@@ -170,11 +170,11 @@ static HANDLERS: [Item; 9] = [
     Word(Terminal::Catch),
     Word(Terminal::OpenParen),
     Part(Group::Name),
-    Turns(Group::CaughtNames),
+    Repeats(Group::CaughtNames),
     Word(Terminal::Variable),
     Word(Terminal::CloseParen),
     Node(Sort::Block),
-    Turns(Group::Catches),
+    Repeats(Group::Catches),
     Part(Group::FinallyPart),
 ];
 
@@ -182,7 +182,7 @@ static CATCHES: [Item; 7] = [
     Word(Terminal::Catch),
     Word(Terminal::OpenParen),
     Part(Group::Name),
-    Turns(Group::CaughtNames),
+    Repeats(Group::CaughtNames),
     Word(Terminal::Variable),
     Word(Terminal::CloseParen),
     Node(Sort::Block),
@@ -201,14 +201,14 @@ static MORE_UNSET_LAST_CLOSE_PAREN: [Item; 1] = [Word(Terminal::Comma)];
 
 pub static BLOCK: [Item; 3] = [
     Word(Terminal::OpenBrace),
-    Turns(Group::Statements),
+    Repeats(Group::Statements),
     Word(Terminal::CloseBrace),
 ];
 
 static ECHO: [Item; 4] = [
     Word(Terminal::Echo),
     Node(Sort::Operand(ANY)),
-    Turns(Group::MoreExprs),
+    Repeats(Group::MoreExprs),
     Word(Terminal::Semi),
 ];
 
@@ -283,7 +283,7 @@ static CONTINUE: [Item; 3] = [
 static GLOBAL: [Item; 4] = [
     Word(Terminal::Global),
     Node(Sort::SimpleVariable),
-    Turns(Group::MoreGlobals),
+    Repeats(Group::MoreGlobals),
     Word(Terminal::Semi),
 ];
 
@@ -291,7 +291,7 @@ static UNSET: [Item; 6] = [
     Word(Terminal::Unset),
     Word(Terminal::OpenParen),
     Node(Sort::Operand(ANY)),
-    Turns(Group::MoreUnset),
+    Repeats(Group::MoreUnset),
     Word(Terminal::CloseParen),
     Word(Terminal::Semi),
 ];
@@ -314,7 +314,7 @@ static DECLARE: [Item; 8] = [
     Word(Terminal::FreeLabel),
     Word(Terminal::Assign),
     Node(Sort::Operand(ANY)),
-    Turns(Group::MoreDirectives),
+    Repeats(Group::MoreDirectives),
     Word(Terminal::CloseParen),
     Part(Group::DeclareBody),
 ];
@@ -327,13 +327,13 @@ static GOTO: [Item; 3] = [
 
 static CLASS: [Item; 9] = [
     Part(Group::Attribute),
-    Turns(Group::ClassModifiers),
+    Repeats(Group::ClassModifiers),
     Word(Terminal::Class),
     Word(Terminal::ClassLabel),
     Part(Group::Extends),
     Part(Group::Implements),
     Word(Terminal::OpenBrace),
-    Turns(Group::Members),
+    Repeats(Group::Members),
     Word(Terminal::CloseBrace),
 ];
 
@@ -342,7 +342,7 @@ static INTERFACE: [Item; 6] = [
     Word(Terminal::ClassLabel),
     Part(Group::Parents),
     Word(Terminal::OpenBrace),
-    Turns(Group::Members),
+    Repeats(Group::Members),
     Word(Terminal::CloseBrace),
 ];
 
@@ -350,7 +350,7 @@ static TRAIT: [Item; 5] = [
     Word(Terminal::Trait),
     Word(Terminal::ClassLabel),
     Word(Terminal::OpenBrace),
-    Turns(Group::Members),
+    Repeats(Group::Members),
     Word(Terminal::CloseBrace),
 ];
 
@@ -365,7 +365,7 @@ static CONST: [Item; 6] = [
     Word(Terminal::FreeLabel),
     Word(Terminal::Assign),
     Node(Sort::Operand(ANY)),
-    Turns(Group::MoreConsts),
+    Repeats(Group::MoreConsts),
     Word(Terminal::Semi),
 ];
 

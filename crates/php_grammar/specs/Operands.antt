@@ -9,7 +9,7 @@ use Rattle.php_terminals.specs.declared.terminal.Terminal.TheVariants as t
 use Rattle.php_forms.specs.declared.item.Sort.TheVariants as s
 use Rattle.php_forms.specs.declared.item.Group.TheVariants as g
 use Rattle.php_forms.specs.declared.item.Item.{Item}
-use Rattle.php_forms.specs.declared.item.Item.TheVariants.{Word, Node, Part, Turns}
+use Rattle.php_forms.specs.declared.item.Item.TheVariants.{Word, Node, Part, Repeats}
 use Rattle.php_terminals.specs.Ahead.{behind_name, first_of, is_called, past_group, second_of}
 use Rattle.php_forms.specs.Atoms.{atom_form}
 use Rattle.php_forms.specs.Forms.{any, or_else}
@@ -64,12 +64,12 @@ static_operand ts = static_by (second_of ts) ts
 
 -- `[`, as a list form where a test holds, else as an array
 abbrev pub bracket_form : Bool → Form
-bracket_form true = (k.List, Word t.OpenBracket ∷ Part g.ListHead ∷ Turns g.ListMore ∷ Word t.CloseBracket ∷ [])
+bracket_form true = (k.List, Word t.OpenBracket ∷ Part g.ListHead ∷ Repeats g.ListMore ∷ Word t.CloseBracket ∷ [])
 bracket_form false = (k.Array, Word t.OpenBracket ∷ Part g.ArrayItems ∷ Word t.CloseBracket ∷ [])
 
 -- `list` with its items
 abbrev pub list_word_form : Form
-list_word_form = (k.List, Word t.List ∷ Word t.OpenParen ∷ Part g.ListHead ∷ Turns g.ListMore ∷ Word t.CloseParen ∷ [])
+list_word_form = (k.List, Word t.List ∷ Word t.OpenParen ∷ Part g.ListHead ∷ Repeats g.ListMore ∷ Word t.CloseParen ∷ [])
 
 -- what begins with `array`
 abbrev pub array_word_form : Terminal → Option Form
@@ -158,7 +158,7 @@ abbrev pub created_ref : List Item
 created_ref = Node s.ClassRef ∷ Part g.CtorArgs ∷ []
 
 abbrev pub created_by : Terminal → List Token → List Item
-created_by t.Class ts = Word t.Class ∷ Part g.CtorArgs ∷ Part g.Extends ∷ Part g.Implements ∷ Word t.OpenBrace ∷ Turns g.Members ∷ Word t.CloseBrace ∷ []
+created_by t.Class ts = Word t.Class ∷ Part g.CtorArgs ∷ Part g.Extends ∷ Part g.Implements ∷ Word t.OpenBrace ∷ Repeats g.Members ∷ Word t.CloseBrace ∷ []
 created_by t.Static ts = cond (is_double_colon (second_of ts)) created_ref (Word t.Static ∷ Part g.CtorArgs ∷ [])
 created_by _ ts = created_ref
 

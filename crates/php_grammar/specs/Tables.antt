@@ -12,7 +12,7 @@ use Rattle.php_forms.specs.declared.item.Sort.TheVariants as s
 use Rattle.php_forms.specs.declared.item.Group.{Group}
 use Rattle.php_forms.specs.declared.item.Group.TheVariants as g
 use Rattle.php_forms.specs.declared.item.Item.{Item}
-use Rattle.php_forms.specs.declared.item.Item.TheVariants.{Word, Part, Turns}
+use Rattle.php_forms.specs.declared.item.Item.TheVariants.{Word, Part, Repeats}
 use Rattle.php_grammar.specs.Accepts.{accepts}
 use Rattle.php_terminals.specs.Ahead.{first_of, second_of, spanned}
 use Rattle.php_forms.specs.Names.{called_name, grouped_class, grouped_name, imported_class, imported_name, more_names, name, name_lead, name_more, namespace_name, root_lead}
@@ -100,7 +100,7 @@ plain_variable_form _ = None
 -- the form with which a node of a sort begins, or none where the tokens begin none
 abbrev pub form : Version → Sort → List Token → Option Form
 form v s.Statement ts = statement_form ts
-form v s.Block ts = Some (k.Block, Word t.OpenBrace ∷ Turns g.Statements ∷ Word t.CloseBrace ∷ [])
+form v s.Block ts = Some (k.Block, Word t.OpenBrace ∷ Repeats g.Statements ∷ Word t.CloseBrace ∷ [])
 form v s.Case ts = case_form (first_of ts)
 form v s.Member ts = member_form ts
 form v s.Param ts = Some (k.Param, Part g.ParamType ∷ Part g.ByRef ∷ Part g.Variadic ∷ Word t.Variable ∷ Part g.FirstValue ∷ [])

@@ -38,7 +38,7 @@ use Rattle.php_spellings.specs.declared.table.State.{State}
 use Rattle.php_spellings.specs.declared.table.Run.{Run}
 use Rattle.php_spellings.specs.declared.table.Until.{Until}
 use Rattle.php_spellings.specs.Bytes.{is_empty}
-use Rattle.php_lexer.specs.Tails.{goes, moved, closes, bars, turned, is_run, is_until, some_run}
+use Rattle.php_lexer.specs.Tails.{goes, moved, closes, bars, stepped, is_run, is_until, some_run}
 use Rattle.php_lexer.specs.Scan.{add_to, run_len, until_len, some_len, some_run_len, longer}
 
 -- the number is that of the longest front that is such
@@ -161,10 +161,10 @@ until_only u s [] (suc m) le e = absurd (omega arith)
 until_only u s (b ∷ bs) zero le e = absurd cc
 until_only u s (b ∷ bs) (suc m) le e =
     let e2 = subst (λ (v : List ℕ). (not (bars u s b v) && cond (closes u s b) (is_empty (take m bs))
-    (is_until u (turned u s b) (take m bs) (drop m bs))) ≡ true) (take-append-drop m bs) e in
-    only_step (bars u s b bs) (closes u s b) (take m bs) (is_until u (turned u s b) (take m bs) (drop m bs))
-    (until_len u (turned u s b) bs) m (empty_zero bs m (omega arith))
-    (until_only u (turned u s b) bs m (omega arith)) e2
+    (is_until u (stepped u s b) (take m bs) (drop m bs))) ≡ true) (take-append-drop m bs) e in
+    only_step (bars u s b bs) (closes u s b) (take m bs) (is_until u (stepped u s b) (take m bs) (drop m bs))
+    (until_len u (stepped u s b) bs) m (empty_zero bs m (omega arith))
+    (until_only u (stepped u s b) bs m (omega arith)) e2
 
 is_step : (bar close : Bool) (bs : List ℕ) (in_rest : ℕ → Bool) (len : Option ℕ) (n : ℕ)
     → ((k : ℕ) → len ≡ Some k → (k ≤ length bs) × (in_rest k ≡ true))
@@ -181,7 +181,7 @@ is_step false false bs in_rest (Some k) n ih h =
 until_is : (u : Until) (s : State) (bs : List ℕ) (n : ℕ) → until_len u s bs ≡ Some n → (n ≤ length bs) × (is_until u s (take n bs) (drop n bs) ≡ true)
 until_is u s [] n e = absurd cc
 until_is u s (b ∷ bs) n e =
-    let r = is_step (bars u s b bs) (closes u s b) bs (λ k. is_until u (turned u s b) (take k bs) (drop k bs)) (until_len u (turned u s b) bs) n (until_is u (turned u s b) bs) e in
+    let r = is_step (bars u s b bs) (closes u s b) bs (λ k. is_until u (stepped u s b) (take k bs) (drop k bs)) (until_len u (stepped u s b) bs) n (until_is u (stepped u s b) bs) e in
     rw r.1 (omega (arith, r.2), rw (take-append-drop r.0 bs) r.3)
 
 not_true : (b : Bool) → (b ≡ true → ⊥) → b ≡ false

@@ -97,12 +97,12 @@ pub plain_scan : (b : ℕ) (bs : List ℕ) → is_letter b ≡ true → nat_eq (
     → nat_eq (lower b) 121 ≡ false → scan_by [] common_rows (b ∷ bs) ≡ longer Word
     (behind lower [] (tail_len [] AnyWord) (b ∷ bs)) None
 plain_scan b bs h p q =
-    let b_not : nat_eq 98 (lower b) ≡ false = turn_round (lower b) 98 p in
-    let y_not : nat_eq 121 (lower b) ≡ false = turn_round (lower b) 121 q in
+    let b_not : nat_eq 98 (lower b) ≡ false = other_way_round (lower b) 98 p in
+    let y_not : nat_eq 121 (lower b) ≡ false = other_way_round (lower b) 121 q in
     letter_scan b bs h ∙ rw (b_not, y_not) refl
   where
-    turn_round : (a k : ℕ) → nat_eq a k ≡ false → nat_eq k a ≡ false
-    turn_round a k e = grind (arith, nat_tests)
+    other_way_round : (a k : ℕ) → nat_eq a k ≡ false → nat_eq k a ≡ false
+    other_way_round a k e = grind (arith, nat_tests)
 
 pub digit_scan : (b : ℕ) (bs : List ℕ) → is_digit b ≡ true → scan_by [] common_rows (b ∷ bs) ≡ scan_by [] number_rows (b ∷ bs)
 digit_scan b bs h = scan_kept is_digit b (digit_lower b h) common_rows bs ∙ rw (digit_space b h, digit_letter b h) refl

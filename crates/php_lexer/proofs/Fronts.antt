@@ -50,10 +50,10 @@ use Rattle.php_lexer.specs.declared.fault.LexFault.{LexFault}
 use Rattle.php_lexer.specs.declared.fault.LexFault.TheVariants.{OpenText, OpenComment, OpenHeredoc, BadByte, TooLong, Memory}
 use Rattle.php_lexer.specs.declared.modes.Mode.{Mode as CodeMode}
 use Rattle.php_lexer.specs.declared.modes.Mode.TheVariants.{Html}
-use Rattle.php_lexer.specs.declared.modes.Turn.{Turn as CodeTurn}
+use Rattle.php_lexer.specs.declared.modes.ModeStep.{ModeStep as CodeModeStep}
 use Rattle.php_spellings.specs.Bytes.{starts_word}
 use Rattle.php_spellings.specs.Words.{token_of}
-use Rattle.php_lexer.specs.Modes.{Mode, html, code, named, quoted, offset, property, Turn, stay, enter, leave, turn_of, IsLongest, HasNone}
+use Rattle.php_lexer.specs.Modes.{Mode, html, code, named, quoted, offset, property, ModeStep, stay, enter, leave, mode_step_of, IsLongest, HasNone}
 use Rattle.php_lexer.specs.Lexed.{
   Lexeme,
   Stack,
@@ -65,8 +65,8 @@ use Rattle.php_lexer.specs.Lexed.{
   here,
   unended,
   later,
-  turned_by,
-  turn_at,
+  stepped_by,
+  mode_step_at,
   after,
   Effect,
   opens,
@@ -85,7 +85,7 @@ use Rattle.php_lexer.specs.Lexed.{
   lexeme,
   TokensOf,
 }
-use Rattle.php_lexer.specs.Views.{mode_of, turn_seen, below_of, stack_of, top_after, below_after, IsAfter, IsNoted, first_fault, token_cut, lexemes, Front, Meets}
+use Rattle.php_lexer.specs.Views.{mode_of, mode_step_seen, below_of, stack_of, top_after, below_after, IsAfter, IsNoted, first_fault, token_cut, lexemes, Front, Meets}
 use Rattle.php_lexer.proofs.Labels.{drop_drop}
 use Rattle.php_spellings.proofs.StartLemmas.{drop_end}
 
@@ -144,20 +144,20 @@ fault_placed offset at bytes = tt
 fault_placed property at bytes = tt
 
 -- the stack behind a turn, by its parts
-stack_by : (t : Turn) (top : Mode) (below : List Mode) (n : ℕ) (top' : Mode) (below' : List Mode) (n' : ℕ)
+stack_by : (t : ModeStep) (top : Mode) (below : List Mode) (n : ℕ) (top' : Mode) (below' : List Mode) (n' : ℕ)
     → top' ≡ top_after t below → below' ≡ below_after t below → n' ≡ deeper (effect top t) n
-    → stack_parts top' below' n' ≡ turned_by t (stack_parts top below n)
-stack_by t top below n top' below' n' p q r = rw (p, q, r) (by_turn t top)
+    → stack_parts top' below' n' ≡ stepped_by t (stack_parts top below n)
+stack_by t top below n top' below' n' p q r = rw (p, q, r) (by_mode_step t top)
   where
-    by_turn : (t : Turn) (top : Mode) → stack_parts (top_after t below) (below_after t below) (deeper (effect top t) n) ≡ turned_by t (stack_parts top below n)
-    by_turn (stay m) html = refl
-    by_turn (stay m) code = refl
-    by_turn (stay m) named = refl
-    by_turn (stay m) (quoted mark label fresh) = refl
-    by_turn (stay m) offset = refl
-    by_turn (stay m) property = refl
-    by_turn (enter above under) top = refl
-    by_turn leave top = refl
+    by_mode_step : (t : ModeStep) (top : Mode) → stack_parts (top_after t below) (below_after t below) (deeper (effect top t) n) ≡ stepped_by t (stack_parts top below n)
+    by_mode_step (stay m) html = refl
+    by_mode_step (stay m) code = refl
+    by_mode_step (stay m) named = refl
+    by_mode_step (stay m) (quoted mark label fresh) = refl
+    by_mode_step (stay m) offset = refl
+    by_mode_step (stay m) property = refl
+    by_mode_step (enter above under) top = refl
+    by_mode_step leave top = refl
 
 range_is : (bytes : List ℕ) (lead at n : ℕ) → lead ≤ at → slice_range bytes lead (at + n) ≡ slice_range bytes lead at ++ take n (drop at bytes)
 range_is bytes lead at n le =
@@ -203,7 +203,7 @@ effect_placed keeps at fs p = p
 stops_placed : {v : Version} {stack : Stack} {fs : List LexFault} {at : ℕ} {bytes : List ℕ} {fault : LexFault} → Stops v stack fs at bytes fault → AllPlaced fs → IsPlaced fault
 stops_placed (here {stack = stack} {at = at} {bytes = bytes} some none) p = fault_placed stack.top at bytes
 stops_placed unended p = p.0
-stops_placed (later {version = v} {stack} {fs} {at} {bytes} kind n h s) p = stops_placed s (effect_placed (effect stack.top (turn_at v stack kind n bytes)) at fs p)
+stops_placed (later {version = v} {stack} {fs} {at} {bytes} kind n h s) p = stops_placed s (effect_placed (effect stack.top (mode_step_at v stack kind n bytes)) at fs p)
 
 meets_placed : (v : Version) (bytes : List ℕ) (fault : LexFault) → IsPlaced fault → Stops v start [] 0 bytes fault → Meets v bytes (Err fault)
 meets_placed v bytes (OpenText at) p s = s
@@ -264,22 +264,22 @@ module _ (v : Version) (bytes : List ℕ) (front : List Token) (m : CodeMode) (m
       placed_all = let o = f.order in let w = f.within in subst (λ (us : List Token). ArePlaced 0 us) (sym n)
           (f.placed (token_cut bytes End lead at at ∷ []) (cut_placed bytes End lead at at [] o (omega arith) w tt))
 
-  module _ (kind : Kind) (n : ℕ) (t : CodeTurn) (m' : CodeMode) (ms' : List CodeMode) (fs' : List LexFault)
+  module _ (kind : Kind) (n : ℕ) (t : CodeModeStep) (m' : CodeMode) (ms' : List CodeMode) (fs' : List LexFault)
       (h : IsLongest v (mode_of bytes m) (drop at bytes) kind n)
-      (turns : turn_seen bytes t ≡ turn_of v (mode_of bytes m) kind (take n (drop at bytes)) (drop n (drop at bytes)))
+      (mode_steps : mode_step_seen bytes t ≡ mode_step_of v (mode_of bytes m) kind (take n (drop at bytes)) (drop n (drop at bytes)))
       (follows : IsAfter t ms m' ms') (notes : IsNoted m t at fs fs') where
     next_stack : stack_of bytes m' ms' fs' ≡ after v (stack_of bytes m ms fs) kind n (drop at bytes)
     next_stack =
         let p = follows bytes in
-        stack_by (turn_seen bytes t) (mode_of bytes m) (below_of bytes ms) (length (reverse fs)) (mode_of bytes m')
+        stack_by (mode_step_seen bytes t) (mode_of bytes m) (below_of bytes ms) (length (reverse fs)) (mode_of bytes m')
         (below_of bytes ms') (length (reverse fs')) p.0 p.1
-        (ap length (notes bytes) ∙ depth_is (effect (mode_of bytes m) (turn_seen bytes t)) at (reverse fs))
-        ∙ ap (λ (u : Turn). turned_by u (stack_of bytes m ms fs)) turns
+        (ap length (notes bytes) ∙ depth_is (effect (mode_of bytes m) (mode_step_seen bytes t)) at (reverse fs))
+        ∙ ap (λ (u : ModeStep). stepped_by u (stack_of bytes m ms fs)) mode_steps
 
     next_stops : (fault : LexFault) → Stops v (stack_of bytes m' ms' fs') (reverse fs') (at + n) (drop (at + n) bytes) fault → Stops v start [] 0 bytes fault
     next_stops fault s = f.stops fault (later kind n h (rw (
       sym next_stack,
-      sym (notes bytes ∙ ap (λ (u : Turn). opened_by (mode_of bytes m) u at (reverse fs)) turns),
+      sym (notes bytes ∙ ap (λ (u : ModeStep). opened_by (mode_of bytes m) u at (reverse fs)) mode_steps),
       drop_drop at n bytes,
     ) s))
 

@@ -9,7 +9,7 @@ use Rattle.php_spellings.specs.declared.table.Run.TheVariants.{Spaces, Labels, L
 use Rattle.php_spellings.specs.declared.table.Until.{Until}
 use Rattle.php_spellings.specs.declared.table.Until.TheVariants.{Simple, Closed, Block, CastWord, From}
 use Rattle.php_spellings.specs.Bytes.{is_line_end, is_space, is_letter, is_label_byte, lower}
-use Rattle.php_lexer.specs.Tails.{begins_part, in_piece, in_line, goes, escape, moved, closes, bars, turned}
+use Rattle.php_lexer.specs.Tails.{begins_part, in_piece, in_line, goes, escape, moved, closes, bars, stepped}
 use Rattle.php_lexer.specs.Scan.{add_to, run_len, until_len}
 
 abbrev pub small : ℕ → Bool
@@ -211,4 +211,4 @@ until_by before b bs false false (Some k) n c ih e = let more = some_same (1 + k
 pub until_cuts : (u : Until) (s : State) (before : ℕ) (bs : List ℕ) (n : ℕ) → until_len u s bs ≡ Some n → cuts before bs n ≡ true
 until_cuts u s before [] n e = absurd cc
 until_cuts u s before (b ∷ bs) n e = until_by before b bs (bars u s b bs) (closes u s b)
-    (until_len u (turned u s b) bs) n (λ h. close_small u s b h (small b) refl) (until_cuts u (turned u s b) b bs) e
+    (until_len u (stepped u s b) bs) n (λ h. close_small u s b h (small b) refl) (until_cuts u (stepped u s b) b bs) e

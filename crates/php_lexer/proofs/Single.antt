@@ -6,8 +6,8 @@ use Rattle.php_tree.specs.declared.token.TokenKind.{TokenKind}
 use Rattle.php_spellings.specs.declared.table.Kind.{Kind}
 use Rattle.php_lexer.specs.declared.fault.LexFault.{LexFault}
 use Rattle.php_spellings.specs.Words.{token_of}
-use Rattle.php_lexer.specs.Modes.{Mode, html, code, named, quoted, offset, property, kind_of, IsLongest, Turn, stay, enter, leave}
-use Rattle.php_lexer.specs.Lexed.{Lexeme, Stack, Lexed, ends, trivia, token, Stops, here, unended, later, turn_at, after, opened_by, effect, deeper, turned_by}
+use Rattle.php_lexer.specs.Modes.{Mode, html, code, named, quoted, offset, property, kind_of, IsLongest, ModeStep, stay, enter, leave}
+use Rattle.php_lexer.specs.Lexed.{Lexeme, Stack, Lexed, ends, trivia, token, Stops, here, unended, later, mode_step_at, after, opened_by, effect, deeper, stepped_by}
 use Rattle.php_lexer.proofs.Longest.{longest_some}
 use Rattle.php_lexer.proofs.Fronts.{depth_is}
 
@@ -87,33 +87,33 @@ one_lexing (token {version = v} {stack} {lead} {bytes} {ts = ts} k n t h b l) (t
     (subst (λ (x : ℕ). Lexed v (after v stack j x bytes) [] (drop x bytes) us) (sym sizes) l')) in
     same_token t u lead bytes n i ts us tokens sizes rest
 
-turned_depth : (t : Turn) (top : Mode) (below : List Mode) (n : ℕ) → (turned_by t (stack_parts top below n)).depth ≡ deeper (effect top t) n
-turned_depth (stay m) html below n = refl
-turned_depth (stay m) code below n = refl
-turned_depth (stay m) named below n = refl
-turned_depth (stay m) (quoted mark label fresh) below n = refl
-turned_depth (stay m) offset below n = refl
-turned_depth (stay m) property below n = refl
-turned_depth (enter above under) top below n = refl
-turned_depth leave top below n = refl
+stepped_depth : (t : ModeStep) (top : Mode) (below : List Mode) (n : ℕ) → (stepped_by t (stack_parts top below n)).depth ≡ deeper (effect top t) n
+stepped_depth (stay m) html below n = refl
+stepped_depth (stay m) code below n = refl
+stepped_depth (stay m) named below n = refl
+stepped_depth (stay m) (quoted mark label fresh) below n = refl
+stepped_depth (stay m) offset below n = refl
+stepped_depth (stay m) property below n = refl
+stepped_depth (enter above under) top below n = refl
+stepped_depth leave top below n = refl
 
 deep : (v : Version) (stack : Stack) (k : Kind) (n : ℕ) (bytes : List ℕ) (at : ℕ) (fs : List LexFault)
     → stack.depth ≡ length fs → (after v stack k n bytes).depth ≡ length
-    (opened_by stack.top (turn_at v stack k n bytes) at fs)
+    (opened_by stack.top (mode_step_at v stack k n bytes) at fs)
 deep v stack k n bytes at fs d =
-    turned_depth (turn_at v stack k n bytes) stack.top stack.below stack.depth
-    ∙ ap (λ (i : ℕ). deeper (effect stack.top (turn_at v stack k n bytes)) i) d
-    ∙ sym (depth_is (effect stack.top (turn_at v stack k n bytes)) at fs)
+    stepped_depth (mode_step_at v stack k n bytes) stack.top stack.below stack.depth
+    ∙ ap (λ (i : ℕ). deeper (effect stack.top (mode_step_at v stack k n bytes)) i) d
+    ∙ sym (depth_is (effect stack.top (mode_step_at v stack k n bytes)) at fs)
 
 move : (v : Version) (stack : Stack) (bytes : List ℕ) (fs : List LexFault) (at : ℕ) (f : LexFault) (k j : Kind)
     (n i : ℕ) → k ≡ j → n ≡ i → Stops v (after v stack j i bytes)
-    (opened_by stack.top (turn_at v stack j i bytes) at fs) (at + i) (drop i bytes) f
-    → Stops v (after v stack k n bytes) (opened_by stack.top (turn_at v stack k n bytes) at fs) (at + n)
+    (opened_by stack.top (mode_step_at v stack j i bytes) at fs) (at + i) (drop i bytes) f
+    → Stops v (after v stack k n bytes) (opened_by stack.top (mode_step_at v stack k n bytes) at fs) (at + n)
     (drop n bytes) f
 move v stack bytes fs at f k j n i p q s =
-    subst (λ (x : Kind). Stops v (after v stack x n bytes) (opened_by stack.top (turn_at v stack x n bytes) at fs)
+    subst (λ (x : Kind). Stops v (after v stack x n bytes) (opened_by stack.top (mode_step_at v stack x n bytes) at fs)
     (at + n) (drop n bytes) f) (sym p) (subst (λ (x : ℕ). Stops v (after v stack j x bytes)
-    (opened_by stack.top (turn_at v stack j x bytes) at fs) (at + x) (drop x bytes) f) (sym q) s)
+    (opened_by stack.top (mode_step_at v stack j x bytes) at fs) (at + x) (drop x bytes) f) (sym q) s)
 
 -- Where the tokens stop there are none.
 pub no_stop : {v : Version} {stack : Stack} {lead bytes : List ℕ} {ts : List Lexeme} → Lexed v stack lead bytes ts
@@ -124,13 +124,13 @@ no_stop (ends {version = v} {stack} {lead} {bytes} e d) fs at f same (later j i 
 no_stop (trivia k n h b l) fs at f same (here some none) = clash h.is (none n h.within)
 no_stop (trivia {version = v} {stack} {lead} {bytes} k n h b l) fs at f same unended = none_left v stack.top [] k n refl h
 no_stop (trivia {version = v} {stack} {lead} {bytes} k n h b l) fs at f same (later j i h' s) =
-    no_stop l (opened_by stack.top (turn_at v stack k n bytes) at fs) (at + n) f (deep v stack k n bytes at fs same)
+    no_stop l (opened_by stack.top (mode_step_at v stack k n bytes) at fs) (at + n) f (deep v stack k n bytes at fs same)
     (move v stack bytes fs at f k j n i (same_kind v stack.top bytes k j n i h h')
     (same_length v stack.top bytes k j n i h h') s)
 no_stop (token k n t h b l) fs at f same (here some none) = clash h.is (none n h.within)
 no_stop (token {version = v} {stack} {lead} {bytes} k n t h b l) fs at f same unended = none_left v stack.top [] k n refl h
 no_stop (token {version = v} {stack} {lead} {bytes} k n t h b l) fs at f same (later j i h' s) =
-    no_stop l (opened_by stack.top (turn_at v stack k n bytes) at fs) (at + n) f (deep v stack k n bytes at fs same)
+    no_stop l (opened_by stack.top (mode_step_at v stack k n bytes) at fs) (at + n) f (deep v stack k n bytes at fs same)
     (move v stack bytes fs at f k j n i (same_kind v stack.top bytes k j n i h h')
     (same_length v stack.top bytes k j n i h h') s)
 

@@ -6,7 +6,7 @@ use Rattle.php_spellings.specs.declared.table.Run.{Run}
 use Rattle.php_spellings.specs.declared.table.Until.{Until}
 use Rattle.php_spellings.specs.Bytes.{starts, is_blank_byte, is_line_end}
 use Rattle.php_lexer.specs.Heredocs.{no_label, ends_heredoc}
-use Rattle.php_lexer.specs.Tails.{goes, moved, closes, bars, turned}
+use Rattle.php_lexer.specs.Tails.{goes, moved, closes, bars, stepped}
 use Rattle.php_spellings.specs.declared.table.Shape.{Shape}
 use Rattle.php_spellings.specs.declared.table.Spot.{Spot}
 use Rattle.php_lexer.specs.Shapes.{step, may_end, is_stuck}
@@ -36,8 +36,8 @@ add_add n (Some m) = ap Some (omega arith)
 pub until_step : (u : Until) (s : State) (bs : List ℕ) (i : ℕ) → i < length bs
     → bars u s (get_or bs i 0) (drop (i + 1) bs) ≡ false → closes u s (get_or bs i 0) ≡ false
     → add_to i (until_len u s (drop i bs)) ≡ add_to (i + 1)
-    (until_len u (turned u s (get_or bs i 0)) (drop (i + 1) bs))
-until_step u s bs i lt e f = let p = split bs i lt in rw (p, e, f) (add_add i (until_len u (turned u s (get_or bs i 0)) (drop (i + 1) bs)))
+    (until_len u (stepped u s (get_or bs i 0)) (drop (i + 1) bs))
+until_step u s bs i lt e f = let p = split bs i lt in rw (p, e, f) (add_add i (until_len u (stepped u s (get_or bs i 0)) (drop (i + 1) bs)))
 
 pub until_bar : (u : Until) (s : State) (bs : List ℕ) (i : ℕ) → i < length bs → bars u s (get_or bs i 0) (drop (i + 1) bs) ≡ true → add_to i (until_len u s (drop i bs)) ≡ None
 until_bar u s bs i lt e = let p = split bs i lt in rw (p, e) refl

@@ -12,7 +12,7 @@ use Rattle.php_lexer.specs.declared.fault.LexFault.{LexFault}
 use Rattle.php_lexer.specs.declared.fault.LexFault.TheVariants.{OpenText, OpenComment, OpenHeredoc, BadByte, TooLong, Memory}
 use Rattle.php_spellings.specs.Bytes.{starts_word}
 use Rattle.php_spellings.specs.Words.{token_of}
-use Rattle.php_lexer.specs.Modes.{Mode, html, code, named, quoted, offset, property, Turn, stay, enter, leave, turn_of, IsLongest, HasNone}
+use Rattle.php_lexer.specs.Modes.{Mode, html, code, named, quoted, offset, property, ModeStep, stay, enter, leave, mode_step_of, IsLongest, HasNone}
 
 -- A token without its place: its kind, the trivia before it, and its text.
 pub record Lexeme : Type 0 where
@@ -49,7 +49,7 @@ pub data Effect : Type 0 where
   closes : Effect
   keeps : Effect
 
-abbrev pub effect : Mode → Turn → Effect
+abbrev pub effect : Mode → ModeStep → Effect
 effect top (enter (quoted mark label fresh) under) = opens mark
 effect (quoted mark label fresh) leave = closes
 effect _ _ = keeps
@@ -60,25 +60,25 @@ deeper closes n = less_one n
 deeper keeps n = n
 
 -- the stack behind a turn
-abbrev pub turned_by : Turn → Stack → Stack
-turned_by (stay mode) stack = record { top = mode; below = stack.below; depth = stack.depth }
-turned_by (enter above under) stack = record {
+abbrev pub stepped_by : ModeStep → Stack → Stack
+stepped_by (stay mode) stack = record { top = mode; below = stack.below; depth = stack.depth }
+stepped_by (enter above under) stack = record {
   top = above;
   below = under ∷ stack.below;
   depth = deeper (effect stack.top (enter above under)) stack.depth;
 }
-turned_by leave stack = record {
+stepped_by leave stack = record {
   top = left_top stack.below;
   below = left_below stack.below;
   depth = deeper (effect stack.top leave) stack.depth;
 }
 
 -- what the first n bytes do to the stack as a token, and the stack behind them
-abbrev pub turn_at : Version → Stack → Kind → ℕ → List ℕ → Turn
-turn_at version stack kind n bytes = turn_of version stack.top kind (take n bytes) (drop n bytes)
+abbrev pub mode_step_at : Version → Stack → Kind → ℕ → List ℕ → ModeStep
+mode_step_at version stack kind n bytes = mode_step_of version stack.top kind (take n bytes) (drop n bytes)
 
 abbrev pub after : Version → Stack → Kind → ℕ → List ℕ → Stack
-after version stack kind n bytes = turned_by (turn_at version stack kind n bytes) stack
+after version stack kind n bytes = stepped_by (mode_step_at version stack kind n bytes) stack
 
 -- The tokens of the bytes, where a lead was read before them. Trivia go to the lead; the end comes outside any quoted
 -- text.
@@ -145,8 +145,8 @@ faults_by (opens mark) at fs = open_fault mark at ∷ fs
 faults_by closes at fs = less fs
 faults_by keeps at fs = fs
 
-abbrev pub opened_by : Mode → Turn → ℕ → List LexFault → List LexFault
-opened_by top turn at fs = faults_by (effect top turn) at fs
+abbrev pub opened_by : Mode → ModeStep → ℕ → List LexFault → List LexFault
+opened_by top mode_step at fs = faults_by (effect top mode_step) at fs
 
 -- From a place on the longest tokens lead to a fault: no token begins there, or the bytes end within a quoted text.
 pub data Stops : Version → Stack → List LexFault → ℕ → List ℕ → LexFault → Type 0 where
@@ -161,7 +161,7 @@ pub data Stops : Version → Stack → List LexFault → ℕ → List ℕ → Le
   later :
       {version : Version} {stack : Stack} {fs : List LexFault} {at : ℕ} {bytes : List ℕ} {fault : LexFault} (kind : Kind) (n : ℕ) →
       IsLongest version stack.top bytes kind n →
-      Stops version (after version stack kind n bytes) (opened_by stack.top (turn_at version stack kind n bytes) at fs) (at + n) (drop n bytes) fault →
+      Stops version (after version stack kind n bytes) (opened_by stack.top (mode_step_at version stack kind n bytes) at fs) (at + n) (drop n bytes) fault →
       Stops version stack fs at bytes fault
 
 -- the most bytes that a file may have

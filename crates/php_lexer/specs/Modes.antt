@@ -55,10 +55,10 @@ HasNone version mode bytes =
 
 -- What a token does to the stack of modes: it changes the mode, or puts one above what the mode then is, or leaves the
 -- mode for the one below.
-pub data Turn : Type 0 where
-  stay : Mode → Turn
-  enter : Mode → Mode → Turn
-  leave : Turn
+pub data ModeStep : Type 0 where
+  stay : Mode → ModeStep
+  enter : Mode → Mode → ModeStep
+  leave : ModeStep
 
 -- the bytes of labels that the bytes begin with
 abbrev pub label_front : List ℕ → List ℕ
@@ -79,16 +79,16 @@ is_byte n (b ∷ []) = nat_eq b n
 is_byte n (b ∷ c ∷ bs) = false
 
 -- `{` opens a code of its own, that its `}` closes
-abbrev pub brace_turn : List ℕ → Turn
-brace_turn text = cond (is_byte 123 text) (enter code code) (cond (is_byte 125 text) leave (stay code))
+abbrev pub brace_mode_step : List ℕ → ModeStep
+brace_mode_step text = cond (is_byte 123 text) (enter code code) (cond (is_byte 125 text) leave (stay code))
 
-abbrev pub code_turn : Kind → List ℕ → Turn
-code_turn Close text = stay html
-code_turn Quote text = enter (quoted Double [] false) code
-code_turn Backtick text = enter (quoted Back [] false) code
-code_turn HeredocStart text = enter (quoted Here (label_of text) true) code
-code_turn Op text = brace_turn text
-code_turn _ text = stay code
+abbrev pub code_mode_step : Kind → List ℕ → ModeStep
+code_mode_step Close text = stay html
+code_mode_step Quote text = enter (quoted Double [] false) code
+code_mode_step Backtick text = enter (quoted Back [] false) code
+code_mode_step HeredocStart text = enter (quoted Here (label_of text) true) code
+code_mode_step Op text = brace_mode_step text
+code_mode_step _ text = stay code
 
 -- `->` and a letter
 abbrev pub begins_arrow : List ℕ → Bool
@@ -102,29 +102,29 @@ begins_property V74 rest = begins_arrow rest
 begins_property V83 rest = begins_arrow rest || begins_by 63 rest && begins_arrow (drop 1 rest)
 
 -- behind a variable in a quoted text
-abbrev pub part_turn : Version → Mode → List ℕ → Turn
-part_turn version mode rest =
+abbrev pub part_mode_step : Version → Mode → List ℕ → ModeStep
+part_mode_step version mode rest =
     cond (begins_by 91 rest) (enter offset mode) (cond (begins_property version rest) (enter property mode) (stay mode))
 
 -- whether the text ends with a line end
 abbrev pub ends_line : List ℕ → Bool
 ends_line text = is_line_end (slice_index text (length text - 1))
 
-abbrev pub quoted_turn : Version → Mark → List ℕ → Kind → List ℕ → List ℕ → Turn
-quoted_turn version mark label QuotedEnd text rest = leave
-quoted_turn version mark label Variable text rest = part_turn version (quoted mark label false) rest
-quoted_turn version mark label CurlyOpen text rest = enter code (quoted mark label false)
-quoted_turn version mark label DollarBrace text rest = enter named (quoted mark label false)
-quoted_turn version mark label _ text rest = stay (quoted mark label (ends_line text))
+abbrev pub quoted_mode_step : Version → Mark → List ℕ → Kind → List ℕ → List ℕ → ModeStep
+quoted_mode_step version mark label QuotedEnd text rest = leave
+quoted_mode_step version mark label Variable text rest = part_mode_step version (quoted mark label false) rest
+quoted_mode_step version mark label CurlyOpen text rest = enter code (quoted mark label false)
+quoted_mode_step version mark label DollarBrace text rest = enter named (quoted mark label false)
+quoted_mode_step version mark label _ text rest = stay (quoted mark label (ends_line text))
 
 -- what a token does to the stack, by the mode, its kind, its text and what follows it
-abbrev pub turn_of : Version → Mode → Kind → List ℕ → List ℕ → Turn
-turn_of version html InlineHtml text rest = stay html
-turn_of version html _ text rest = stay code
-turn_of version code kind text rest = code_turn kind text
-turn_of version named kind text rest = code_turn kind text
-turn_of version (quoted mark label fresh) kind text rest = quoted_turn version mark label kind text rest
-turn_of version offset Op text rest = cond (is_byte 93 text) leave (stay offset)
-turn_of version offset _ text rest = stay offset
-turn_of version property Label text rest = leave
-turn_of version property _ text rest = stay property
+abbrev pub mode_step_of : Version → Mode → Kind → List ℕ → List ℕ → ModeStep
+mode_step_of version html InlineHtml text rest = stay html
+mode_step_of version html _ text rest = stay code
+mode_step_of version code kind text rest = code_mode_step kind text
+mode_step_of version named kind text rest = code_mode_step kind text
+mode_step_of version (quoted mark label fresh) kind text rest = quoted_mode_step version mark label kind text rest
+mode_step_of version offset Op text rest = cond (is_byte 93 text) leave (stay offset)
+mode_step_of version offset _ text rest = stay offset
+mode_step_of version property Label text rest = leave
+mode_step_of version property _ text rest = stay property

@@ -13,7 +13,7 @@ use Rattle.php_spellings.specs.declared.table.Tail.{Tail}
 use Rattle.php_spellings.specs.declared.table.Tail.TheVariants.{When, AnyRun, SomeOf, UpTo, Shaped, AnyWord, BracedName, EndLine, NowdocRest}
 use Rattle.php_spellings.specs.Bytes.{lower, as_it_is, is_blank_byte, is_line_end, begins, starts_by}
 use Rattle.php_lexer.specs.Heredocs.{no_label, ends_heredoc, begins_nowdoc, nowdoc_label, nowdoc_head}
-use Rattle.php_lexer.specs.Tails.{goes, moved, closes, bars, turned}
+use Rattle.php_lexer.specs.Tails.{goes, moved, closes, bars, stepped}
 use Rattle.php_lexer.specs.Shapes.{step, may_end, is_stuck}
 use Rattle.php_lexer.specs.Rules.{Row, rule, follows, is_b, begins_text}
 use Rattle.php_lexer.specs.Modes.{Mode, rows_of, label_in}
@@ -39,7 +39,7 @@ some_run_len r label s bs = some_len (run_len r label s bs)
 abbrev pub until_len : Until → State → List ℕ → Option ℕ
 until_len u s [] = None
 until_len u s (b ∷ bs) =
-    cond (bars u s b bs) None (cond (closes u s b) (Some 1) (add_to 1 (until_len u (turned u s b) bs)))
+    cond (bars u s b bs) None (cond (closes u s b) (Some 1) (add_to 1 (until_len u (stepped u s b) bs)))
 
 -- ---- shapes: the longest text that may end
 

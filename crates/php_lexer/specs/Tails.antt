@@ -133,19 +133,19 @@ bars From Plain b bs = not (is_space b || word_alone (codes "from") (b ∷ bs))
 bars From Escaped b bs = false
 
 -- the state behind a byte; in a comment `Escaped` is behind a `*`
-abbrev pub turned : Until → State → ℕ → State
-turned Simple s b = escape s b
-turned Closed s b = escape s b
-turned Block s b = cond (nat_eq b 42) Escaped Plain
-turned CastWord First b = cond (is_blank_byte b) First Plain
-turned CastWord Plain b = cond (is_blank_byte b) Escaped Plain
-turned CastWord Escaped b = Escaped
-turned From First b = Plain
-turned From Plain b = cond (is_space b) Plain Escaped
-turned From Escaped b = Escaped
+abbrev pub stepped : Until → State → ℕ → State
+stepped Simple s b = escape s b
+stepped Closed s b = escape s b
+stepped Block s b = cond (nat_eq b 42) Escaped Plain
+stepped CastWord First b = cond (is_blank_byte b) First Plain
+stepped CastWord Plain b = cond (is_blank_byte b) Escaped Plain
+stepped CastWord Escaped b = Escaped
+stepped From First b = Plain
+stepped From Plain b = cond (is_space b) Plain Escaped
+stepped From Escaped b = Escaped
 
 -- whether the text ends with its first closing byte, and no byte bars it
 abbrev pub is_until : Until → State → List ℕ → List ℕ → Bool
 is_until u s [] rest = false
 is_until u s (b ∷ bs) rest =
-    not (bars u s b (bs ++ rest)) && cond (closes u s b) (is_empty bs) (is_until u (turned u s b) bs rest)
+    not (bars u s b (bs ++ rest)) && cond (closes u s b) (is_empty bs) (is_until u (stepped u s b) bs rest)

@@ -12,10 +12,10 @@ use Rattle.php_lexer.specs.declared.fault.LexFault.{LexFault}
 use Rattle.php_lexer.specs.declared.fault.LexFault.TheVariants.{TooLong, Memory}
 use Rattle.php_lexer.specs.declared.modes.Mode.{Mode as CodeMode}
 use Rattle.php_lexer.specs.declared.modes.Mode.TheVariants.{Html, Code, Named, Quoted, Offset, Property}
-use Rattle.php_lexer.specs.declared.modes.Turn.{Turn as CodeTurn}
-use Rattle.php_lexer.specs.declared.modes.Turn.TheVariants.{Stay, Enter, Leave}
+use Rattle.php_lexer.specs.declared.modes.ModeStep.{ModeStep as CodeModeStep}
+use Rattle.php_lexer.specs.declared.modes.ModeStep.TheVariants.{Stay, Enter, Leave}
 use Rattle.php_spellings.specs.declared.table.Kind.{Kind}
-use Rattle.php_lexer.specs.Modes.{Mode, html, code, named, quoted, offset, property, Turn, stay, enter, leave, turn_of}
+use Rattle.php_lexer.specs.Modes.{Mode, html, code, named, quoted, offset, property, ModeStep, stay, enter, leave, mode_step_of}
 use Rattle.php_lexer.specs.Lexed.{Lexeme, Stack, start, left_top, left_below, opened_by, Lexed, Stops, lexeme, TokensOf}
 
 -- the bytes of a range, or none
@@ -31,10 +31,10 @@ mode_of bytes (Quoted mark from to fresh) = quoted mark (cut bytes from to) fres
 mode_of bytes Offset = offset
 mode_of bytes Property = property
 
-abbrev pub turn_seen : List ℕ → CodeTurn → Turn
-turn_seen bytes (Stay m) = stay (mode_of bytes m)
-turn_seen bytes (Enter m n) = enter (mode_of bytes m) (mode_of bytes n)
-turn_seen bytes Leave = leave
+abbrev pub mode_step_seen : List ℕ → CodeModeStep → ModeStep
+mode_step_seen bytes (Stay m) = stay (mode_of bytes m)
+mode_step_seen bytes (Enter m n) = enter (mode_of bytes m) (mode_of bytes n)
+mode_step_seen bytes Leave = leave
 
 -- ---- the stack
 
@@ -45,35 +45,35 @@ below_of bytes ms = reverse (map (mode_of bytes) ms)
 abbrev pub stack_of : List ℕ → CodeMode → List CodeMode → List LexFault → Stack
 stack_of bytes m ms fs = record { top = mode_of bytes m; below = below_of bytes ms; depth = length (reverse fs) }
 
-abbrev pub top_after : Turn → List Mode → Mode
+abbrev pub top_after : ModeStep → List Mode → Mode
 top_after (stay m) ms = m
 top_after (enter above under) ms = above
 top_after leave ms = left_top ms
 
-abbrev pub below_after : Turn → List Mode → List Mode
+abbrev pub below_after : ModeStep → List Mode → List Mode
 below_after (stay m) ms = ms
 below_after (enter above under) ms = under ∷ ms
 below_after leave ms = left_below ms
 
 -- the mode and those below it are what a turn makes of them
-abbrev pub IsAfter : CodeTurn → List CodeMode → CodeMode → List CodeMode → Type 0
-IsAfter turn ms m ms' =
+abbrev pub IsAfter : CodeModeStep → List CodeMode → CodeMode → List CodeMode → Type 0
+IsAfter mode_step ms m ms' =
     (bytes : List ℕ) →
-    (mode_of bytes m ≡ top_after (turn_seen bytes turn) (below_of bytes ms))
-    × (below_of bytes ms' ≡ below_after (turn_seen bytes turn) (below_of bytes ms))
+    (mode_of bytes m ≡ top_after (mode_step_seen bytes mode_step) (below_of bytes ms))
+    × (below_of bytes ms' ≡ below_after (mode_step_seen bytes mode_step) (below_of bytes ms))
 
 -- the faults of the open quoted texts are what a turn makes of them
-abbrev pub IsNoted : CodeMode → CodeTurn → ℕ → List LexFault → List LexFault → Type 0
-IsNoted m turn at fs fs' =
-    (bytes : List ℕ) → reverse fs' ≡ opened_by (mode_of bytes m) (turn_seen bytes turn) at (reverse fs)
+abbrev pub IsNoted : CodeMode → CodeModeStep → ℕ → List LexFault → List LexFault → Type 0
+IsNoted m mode_step at fs fs' =
+    (bytes : List ℕ) → reverse fs' ≡ opened_by (mode_of bytes m) (mode_step_seen bytes mode_step) at (reverse fs)
 
 -- A token does to the stack, and to the faults of the open quoted texts, what its turn does.
-pub record IsTurned (version : Version) (bytes : List ℕ) (m : CodeMode) (kind : Kind) (at n : ℕ) (ms : List CodeMode)
+pub record IsStepped (version : Version) (bytes : List ℕ) (m : CodeMode) (kind : Kind) (at n : ℕ) (ms : List CodeMode)
     (m' : CodeMode) (ms' : List CodeMode) (fs fs' : List LexFault) : Type 0 where
-  pub turn : CodeTurn
-  pub seen : turn_seen bytes turn ≡ turn_of version (mode_of bytes m) kind (take n (drop at bytes)) (drop n (drop at bytes))
-  pub after : IsAfter turn ms m' ms'
-  pub noted : IsNoted m turn at fs fs'
+  pub mode_step : CodeModeStep
+  pub seen : mode_step_seen bytes mode_step ≡ mode_step_of version (mode_of bytes m) kind (take n (drop at bytes)) (drop n (drop at bytes))
+  pub after : IsAfter mode_step ms m' ms'
+  pub noted : IsNoted m mode_step at fs fs'
 
 abbrev pub first_fault : List LexFault → Option LexFault
 first_fault [] = None

@@ -1,11 +1,11 @@
 // The tokens of a file.
 ghost use Rattle.std.specs.Prelude.{All, map, ◌≡◌, ◌≤◌, ◌<◌, ◌+◌, ◌^◌, ◌++◌, ◌∷◌, length, IfOk, IfErr, OnOk, [], drop, reverse};
 ghost use Rattle.php_lexer.specs.Lexed.{fault_at, code_fault, open_fault, byte_limit, TokensOf, IsFault};
-ghost use Rattle.php_lexer.specs.Views.{mode_of, MarksMeet, IsAfter, IsNoted, IsTurned, first_fault};
+ghost use Rattle.php_lexer.specs.Views.{mode_of, MarksMeet, IsAfter, IsNoted, IsStepped, first_fault};
 ghost use Rattle.php_terminals.specs.Marked.{IsMark, token_at};
 
 use crate::fault::LexFault;
-use crate::modes::{Mode, Turn, stays, turn_of};
+use crate::modes::{Mode, ModeStep, mode_step_of, stays};
 use crate::scan::next;
 use php_spellings::classes::starts_word;
 use php_spellings::numbers::token_kind;
@@ -57,16 +57,16 @@ fn open_fault_at(mark: Quote, at: u32) -> LexFault
 }
 
 // The mode behind the turn.
-fn follow(below: &mut Vec<Mode>, turn: Turn) -> Result<Mode, AllocError>
-    ensures { IfOk result (λ m. IsAfter turn below.old.items m below.new.items) }
+fn follow(below: &mut Vec<Mode>, mode_step: ModeStep) -> Result<Mode, AllocError>
+    ensures { IfOk result (λ m. IsAfter mode_step below.old.items m below.new.items) }
 {
-    match turn {
-        Turn::Stay(mode) => Ok(mode),
-        Turn::Enter(above, under) => {
+    match mode_step {
+        ModeStep::Stay(mode) => Ok(mode),
+        ModeStep::Enter(above, under) => {
             below.push(under)?;
             Ok(above)
         }
-        Turn::Leave => match below.pop() {
+        ModeStep::Leave => match below.pop() {
             None => Ok(Mode::Code),
             Some(mode) => Ok(mode),
         },
@@ -74,12 +74,17 @@ fn follow(below: &mut Vec<Mode>, turn: Turn) -> Result<Mode, AllocError>
 }
 
 // Keeps where a quoted text begins, until it ends.
-fn note(opens: &mut Vec<LexFault>, mode: Mode, turn: Turn, at: u32) -> Result<(), AllocError>
-    ensures { OnOk result (IsNoted mode turn at opens.old.items opens.new.items) }
+fn note(
+    opens: &mut Vec<LexFault>,
+    mode: Mode,
+    mode_step: ModeStep,
+    at: u32,
+) -> Result<(), AllocError>
+    ensures { OnOk result (IsNoted mode mode_step at opens.old.items opens.new.items) }
 {
-    match turn {
-        Turn::Stay(_) => {}
-        Turn::Enter(above, _) => match above {
+    match mode_step {
+        ModeStep::Stay(_) => {}
+        ModeStep::Enter(above, _) => match above {
             Mode::Quoted(mark, _, _, _) => opens.push(open_fault_at(mark, at))?,
             Mode::Html => {}
             Mode::Code => {}
@@ -87,7 +92,7 @@ fn note(opens: &mut Vec<LexFault>, mode: Mode, turn: Turn, at: u32) -> Result<()
             Mode::Offset => {}
             Mode::Property => {}
         },
-        Turn::Leave => match mode {
+        ModeStep::Leave => match mode {
             Mode::Quoted(_, _, _, _) => {
                 opens.pop();
             }
@@ -102,7 +107,7 @@ fn note(opens: &mut Vec<LexFault>, mode: Mode, turn: Turn, at: u32) -> Result<()
 }
 
 // The mode behind the token at a place.
-fn turned(
+fn stepped(
     version: Version,
     bytes: &[u8],
     mode: Mode,
@@ -115,11 +120,11 @@ fn turned(
     requires within { at + len ≤ length bytes.now }
     requires some { 0 < len }
     requires short { length bytes.now ≤ byte_limit }
-    ensures { IfOk result (λ m. IsTurned version bytes.now mode kind at len below.old.items m below.new.items opens.old.items opens.new.items) }
+    ensures { IfOk result (λ m. IsStepped version bytes.now mode kind at len below.old.items m below.new.items opens.old.items opens.new.items) }
 {
-    let turn = turn_of(version, bytes, mode, kind, at, len);
-    note(opens, mode, turn, at as u32)?;
-    let behind = follow(below, turn)?;
+    let mode_step = mode_step_of(version, bytes, mode, kind, at, len);
+    note(opens, mode, mode_step, at as u32)?;
+    let behind = follow(below, mode_step)?;
     Ok(behind)
 }
 
@@ -155,7 +160,7 @@ fn read(alloc: Global, version: Version, bytes: &[u8]) -> Result<Vec<Mark>, LexF
             Some((kind, len)) => {
                 let (text, _) = here.split_at(len);
                 if !stays(mode, kind, text) {
-                    mode = turned(version, bytes, mode, kind, at, len, &mut below, &mut opens)?;
+                    mode = stepped(version, bytes, mode, kind, at, len, &mut below, &mut opens)?;
                 }
                 match token_kind(kind, text) {
                     None => {}

@@ -1,8 +1,8 @@
 // Which mode a token leaves.
 ghost use Rattle.std.specs.Prelude.{IsTrue, ◌≡◌, ◌≤◌, ◌+◌, ◌<◌, ◌∷◌, [], length, take, drop, nat_eq, true};
 ghost use Rattle.php_spellings.specs.declared.table.Mark.TheVariants.{Here};
-ghost use Rattle.php_lexer.specs.Modes.{is_byte, brace_turn, begins_arrow, begins_property, part_turn, ends_line, code_turn, quoted_turn, turn_of, html, code, quoted, offset, property, enter, stay, label_of, label_place};
-ghost use Rattle.php_lexer.specs.Views.{mode_of, turn_seen, cut};
+ghost use Rattle.php_lexer.specs.Modes.{is_byte, brace_mode_step, begins_arrow, begins_property, part_mode_step, ends_line, code_mode_step, quoted_mode_step, mode_step_of, html, code, quoted, offset, property, enter, stay, label_of, label_place};
+ghost use Rattle.php_lexer.specs.Views.{mode_of, mode_step_seen, cut};
 
 use php_spellings::classes::{first_is, first_letter, label_bytes, letter, line_end};
 use php_spellings::table::{Kind, Mark};
@@ -21,7 +21,7 @@ pub enum Mode {
 
 /// What a token does to the stack of modes.
 #[derive(Clone, Copy)]
-pub enum Turn {
+pub enum ModeStep {
     Stay(Mode),
     Enter(Mode, Mode),
     Leave,
@@ -86,67 +86,67 @@ fn label_start(text: &[u8]) -> usize
 }
 
 // The start of a heredoc at `at`.
-fn heredoc_turned(bytes: &[u8], at: usize, len: usize) -> Turn
+fn heredoc_stepped(bytes: &[u8], at: usize, len: usize) -> ModeStep
     requires within { at + len ≤ length bytes.now }
     requires some { 0 < len }
-    ensures { turn_seen bytes.now result ≡ enter (quoted Here (label_of (take len (drop at bytes.now))) true) code }
+    ensures { mode_step_seen bytes.now result ≡ enter (quoted Here (label_of (take len (drop at bytes.now))) true) code }
 {
     let (_, here) = bytes.split_at(at);
     let (text, _) = here.split_at(len);
     let from = 1 + label_start(text);
     let (_, label) = text.split_at(from);
     let to = from + label_bytes(label);
-    Turn::Enter(
+    ModeStep::Enter(
         Mode::Quoted(Mark::Here, at + from, at + to, true),
         Mode::Code,
     )
 }
 
-fn brace_turned(bytes: &[u8], text: &[u8]) -> Turn
-    ensures { turn_seen bytes.now result ≡ brace_turn text.now }
+fn brace_stepped(bytes: &[u8], text: &[u8]) -> ModeStep
+    ensures { mode_step_seen bytes.now result ≡ brace_mode_step text.now }
 {
     if byte_is(text, 123) {
-        Turn::Enter(Mode::Code, Mode::Code)
+        ModeStep::Enter(Mode::Code, Mode::Code)
     } else if byte_is(text, 125) {
-        Turn::Leave
+        ModeStep::Leave
     } else {
-        Turn::Stay(Mode::Code)
+        ModeStep::Stay(Mode::Code)
     }
 }
 
 // What a token of code does, whose text is at `at`.
-fn code_turned(bytes: &[u8], kind: Kind, at: usize, len: usize) -> Turn
+fn code_stepped(bytes: &[u8], kind: Kind, at: usize, len: usize) -> ModeStep
     requires within { at + len ≤ length bytes.now }
     requires some { 0 < len }
-    ensures { turn_seen bytes.now result ≡ code_turn kind (take len (drop at bytes.now)) }
+    ensures { mode_step_seen bytes.now result ≡ code_mode_step kind (take len (drop at bytes.now)) }
 {
     let (_, here) = bytes.split_at(at);
     let (text, _) = here.split_at(len);
     match kind {
-        Kind::Close => Turn::Stay(Mode::Html),
-        Kind::Quote => Turn::Enter(Mode::Quoted(Mark::Double, 1, 0, false), Mode::Code),
-        Kind::Backtick => Turn::Enter(Mode::Quoted(Mark::Back, 1, 0, false), Mode::Code),
-        Kind::HeredocStart => heredoc_turned(bytes, at, len),
-        Kind::Op => brace_turned(bytes, text),
-        _ => Turn::Stay(Mode::Code),
+        Kind::Close => ModeStep::Stay(Mode::Html),
+        Kind::Quote => ModeStep::Enter(Mode::Quoted(Mark::Double, 1, 0, false), Mode::Code),
+        Kind::Backtick => ModeStep::Enter(Mode::Quoted(Mark::Back, 1, 0, false), Mode::Code),
+        Kind::HeredocStart => heredoc_stepped(bytes, at, len),
+        Kind::Op => brace_stepped(bytes, text),
+        _ => ModeStep::Stay(Mode::Code),
     }
 }
 
 // Behind a variable of a quoted text in the mode.
-fn part_turned(version: Version, bytes: &[u8], mode: Mode, rest: &[u8]) -> Turn
-    ensures { turn_seen bytes.now result ≡ part_turn version (mode_of bytes.now mode) rest.now }
+fn part_stepped(version: Version, bytes: &[u8], mode: Mode, rest: &[u8]) -> ModeStep
+    ensures { mode_step_seen bytes.now result ≡ part_mode_step version (mode_of bytes.now mode) rest.now }
 {
     if first_is(91, rest) {
-        Turn::Enter(Mode::Offset, mode)
+        ModeStep::Enter(Mode::Offset, mode)
     } else if property_next(version, rest) {
-        Turn::Enter(Mode::Property, mode)
+        ModeStep::Enter(Mode::Property, mode)
     } else {
-        Turn::Stay(mode)
+        ModeStep::Stay(mode)
     }
 }
 
 // What a token of a quoted text does; the label of a heredoc stands at `from..to`.
-fn quoted_turned(
+fn quoted_stepped(
     version: Version,
     bytes: &[u8],
     mark: Mark,
@@ -155,55 +155,61 @@ fn quoted_turned(
     kind: Kind,
     text: &[u8],
     rest: &[u8],
-) -> Turn
-    ensures { turn_seen bytes.now result ≡ quoted_turn version mark (cut bytes.now from to) kind text.now rest.now }
+) -> ModeStep
+    ensures { mode_step_seen bytes.now result ≡ quoted_mode_step version mark (cut bytes.now from to) kind text.now rest.now }
 {
     let inside = Mode::Quoted(mark, from, to, false);
     match kind {
-        Kind::QuotedEnd => Turn::Leave,
-        Kind::Variable => part_turned(version, bytes, inside, rest),
-        Kind::CurlyOpen => Turn::Enter(Mode::Code, inside),
-        Kind::DollarBrace => Turn::Enter(Mode::Named, inside),
-        _ => Turn::Stay(Mode::Quoted(mark, from, to, line_ended(text))),
+        Kind::QuotedEnd => ModeStep::Leave,
+        Kind::Variable => part_stepped(version, bytes, inside, rest),
+        Kind::CurlyOpen => ModeStep::Enter(Mode::Code, inside),
+        Kind::DollarBrace => ModeStep::Enter(Mode::Named, inside),
+        _ => ModeStep::Stay(Mode::Quoted(mark, from, to, line_ended(text))),
     }
 }
 
-fn html_turned(version: Version, bytes: &[u8], kind: Kind, text: &[u8], rest: &[u8]) -> Turn
-    ensures { turn_seen bytes.now result ≡ turn_of version html kind text.now rest.now }
+fn html_stepped(version: Version, bytes: &[u8], kind: Kind, text: &[u8], rest: &[u8]) -> ModeStep
+    ensures { mode_step_seen bytes.now result ≡ mode_step_of version html kind text.now rest.now }
 {
     match kind {
-        Kind::InlineHtml => Turn::Stay(Mode::Html),
-        _ => Turn::Stay(Mode::Code),
+        Kind::InlineHtml => ModeStep::Stay(Mode::Html),
+        _ => ModeStep::Stay(Mode::Code),
     }
 }
 
-fn offset_turned(version: Version, bytes: &[u8], kind: Kind, text: &[u8], rest: &[u8]) -> Turn
-    ensures { turn_seen bytes.now result ≡ turn_of version offset kind text.now rest.now }
+fn offset_stepped(version: Version, bytes: &[u8], kind: Kind, text: &[u8], rest: &[u8]) -> ModeStep
+    ensures { mode_step_seen bytes.now result ≡ mode_step_of version offset kind text.now rest.now }
 {
     match kind {
         Kind::Op => {
             if byte_is(text, 93) {
-                Turn::Leave
+                ModeStep::Leave
             } else {
-                Turn::Stay(Mode::Offset)
+                ModeStep::Stay(Mode::Offset)
             }
         }
-        _ => Turn::Stay(Mode::Offset),
+        _ => ModeStep::Stay(Mode::Offset),
     }
 }
 
-fn property_turned(version: Version, bytes: &[u8], kind: Kind, text: &[u8], rest: &[u8]) -> Turn
-    ensures { turn_seen bytes.now result ≡ turn_of version property kind text.now rest.now }
+fn property_stepped(
+    version: Version,
+    bytes: &[u8],
+    kind: Kind,
+    text: &[u8],
+    rest: &[u8],
+) -> ModeStep
+    ensures { mode_step_seen bytes.now result ≡ mode_step_of version property kind text.now rest.now }
 {
     match kind {
-        Kind::Label => Turn::Leave,
-        _ => Turn::Stay(Mode::Property),
+        Kind::Label => ModeStep::Leave,
+        _ => ModeStep::Stay(Mode::Property),
     }
 }
 
 // Whether a token of code leaves the stack as it is.
 fn stays_in_code(kind: Kind, text: &[u8]) -> bool
-    ensures { IsTrue result → code_turn kind text.now ≡ stay code }
+    ensures { IsTrue result → code_mode_step kind text.now ≡ stay code }
 {
     match kind {
         Kind::Close => false,
@@ -218,7 +224,7 @@ fn stays_in_code(kind: Kind, text: &[u8]) -> bool
 /// Whether the token is one of code that leaves the stack as it is.
 pub fn stays(mode: Mode, kind: Kind, text: &[u8]) -> bool
     ensures mode { IsTrue result → mode ≡ Mode.Code }
-    ensures turn { IsTrue result → code_turn kind text.now ≡ stay code }
+    ensures mode_step { IsTrue result → code_mode_step kind text.now ≡ stay code }
 {
     match mode {
         Mode::Html => false,
@@ -231,28 +237,28 @@ pub fn stays(mode: Mode, kind: Kind, text: &[u8]) -> bool
 }
 
 /// What the token at `at` does to the stack.
-pub fn turn_of(
+pub fn mode_step_of(
     version: Version,
     bytes: &[u8],
     mode: Mode,
     kind: Kind,
     at: usize,
     len: usize,
-) -> Turn
+) -> ModeStep
     requires within { at + len ≤ length bytes.now }
     requires some { 0 < len }
-    ensures { turn_seen bytes.now result ≡ turn_of version (mode_of bytes.now mode) kind (take len (drop at bytes.now)) (drop len (drop at bytes.now)) }
+    ensures { mode_step_seen bytes.now result ≡ mode_step_of version (mode_of bytes.now mode) kind (take len (drop at bytes.now)) (drop len (drop at bytes.now)) }
 {
     let (_, here) = bytes.split_at(at);
     let (text, rest) = here.split_at(len);
     match mode {
-        Mode::Html => html_turned(version, bytes, kind, text, rest),
-        Mode::Code => code_turned(bytes, kind, at, len),
-        Mode::Named => code_turned(bytes, kind, at, len),
+        Mode::Html => html_stepped(version, bytes, kind, text, rest),
+        Mode::Code => code_stepped(bytes, kind, at, len),
+        Mode::Named => code_stepped(bytes, kind, at, len),
         Mode::Quoted(mark, from, to, _) => {
-            quoted_turned(version, bytes, mark, from, to, kind, text, rest)
+            quoted_stepped(version, bytes, mark, from, to, kind, text, rest)
         }
-        Mode::Offset => offset_turned(version, bytes, kind, text, rest),
-        Mode::Property => property_turned(version, bytes, kind, text, rest),
+        Mode::Offset => offset_stepped(version, bytes, kind, text, rest),
+        Mode::Property => property_stepped(version, bytes, kind, text, rest),
     }
 }

@@ -5,7 +5,7 @@ ghost use Rattle.php_spellings.specs.declared.table.Run.TheVariants.{Spaces, Lab
 ghost use Rattle.std.specs.List.{prefix_len};
 ghost use Rattle.php_spellings.specs.Bytes.{is_space};
 ghost use Rattle.php_lexer.specs.Heredocs.{no_label};
-ghost use Rattle.php_lexer.specs.Tails.{begins_part, begins_tag, in_piece, in_line, goes, escape, moved, word_alone, begins_type, closes, bars, turned};
+ghost use Rattle.php_lexer.specs.Tails.{begins_part, begins_tag, in_piece, in_line, goes, escape, moved, word_alone, begins_type, closes, bars, stepped};
 ghost use Rattle.php_lexer.specs.Scan.{run_len, until_len};
 
 use crate::heredocs::last_line;
@@ -311,7 +311,7 @@ fn barred(until: Until, state: State, byte: u8, rest: &[u8], bytes: &[u8]) -> bo
 }
 
 fn later_state(until: Until, state: State, byte: u8) -> State
-    ensures { result ≡ turned until state byte }
+    ensures { result ≡ stepped until state byte }
 {
     match until {
         Until::Simple => escaped(state, byte),

@@ -10,12 +10,12 @@ use Rattle.php_tree.specs.declared.node.Node.{Node}
 use Rattle.php_tree.specs.declared.version.Version.{Version}
 use Rattle.php_tree.specs.Tree.{File, Forest, depth, leaves, file_leaves, nodes_forest}
 use Rattle.php_forms.specs.declared.item.Group.TheVariants.{Statements}
-use Rattle.php_forms.specs.declared.item.Item.TheVariants.{Turns}
+use Rattle.php_forms.specs.declared.item.Item.TheVariants.{Repeats}
 use Rattle.php_forms.specs.Grammar.{Walks}
 use Rattle.php_grammar.specs.Tables.{php}
 use Rattle.php_exprs.specs.Reading.{AnswersStatements, IsListed, ReadsStatements}
 use Rattle.php_exprs.proofs.Forests.{some_is}
-use Rattle.php_exprs.proofs.StatementLemmas.{turned_is}
+use Rattle.php_exprs.proofs.StatementLemmas.{repeated_is}
 use Rattle.php_exprs.specs.Parsing.{Read}
 use Rattle.php_exprs.specs.declared.fault.ParseFault.{ParseFault}
 use Rattle.php_exprs.specs.declared.fault.ParseFault.TheVariants.{NotInGrammar, Memory}
@@ -39,8 +39,8 @@ first_is t u ts us e = cc
 pub one_tree : (v : Version) (tokens : List Token) (f g : File) → ReadsFile v tokens f → ReadsFile v tokens g → f ≡ g
 one_tree v tokens f g p q =
     let same = some_is (f.statements, f.end ∷ []) (g.statements, g.end ∷ [])
-    (sym (turned_is v (bound v) tokens f.statements (f.end ∷ []) (as_statements v tokens f p))
-    ∙ turned_is v (bound v) tokens g.statements (g.end ∷ []) (as_statements v tokens g q)) in
+    (sym (repeated_is v (bound v) tokens f.statements (f.end ∷ []) (as_statements v tokens f p))
+    ∙ repeated_is v (bound v) tokens g.statements (g.end ∷ []) (as_statements v tokens g q)) in
     let statements : f.statements ≡ g.statements = ap (λ (x : Forest × List Token). x.0) same in
     let ends : f.end ≡ g.end = first_is f.end g.end [] [] (ap (λ (x : Forest × List Token). x.1) same) in
     ap (λ (x : Forest). file_of x f.end) statements ∙ ap (file_of g.statements) ends
@@ -63,7 +63,7 @@ file_found v ts row deep f rest r l e =
     let is : rest ≡ t.0 ∷ [] = sym l.left ∙ t.1.0 in
     let text : ts ≡ leaves f ++ t.0 ∷ [] = r.text ∙ ap (λ (us : List Token). leaves f ++ us) is in
     let reads : ReadsFile v ts (file_of f t.0) = record {
-      walks = subst (λ (us : List Token). Walks (php v) (Turns Statements ∷ []) f us) is r.walks;
+      walks = subst (λ (us : List Token). Walks (php v) (Repeats Statements ∷ []) f us) is r.walks;
       text = text;
       ends = t.1.1;
       low = r.low;

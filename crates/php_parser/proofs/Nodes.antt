@@ -7,8 +7,8 @@ use Rattle.php_terminals.specs.Ahead.{first_of}
 use Rattle.php_forms.specs.declared.item.Group.TheVariants.{Statements}
 use Rattle.php_forms.specs.declared.item.Sort.TheVariants.{Statement}
 use Rattle.php_forms.specs.declared.item.Item.{Item}
-use Rattle.php_forms.specs.declared.item.Item.TheVariants.{Node, Turns}
-use Rattle.php_forms.specs.Grammar.{Walks, ends, word, child, part, stop, turn, span}
+use Rattle.php_forms.specs.declared.item.Item.TheVariants.{Node, Repeats}
+use Rattle.php_forms.specs.Grammar.{Walks, ends, word, child, part, stop, repeat, span}
 use Rattle.php_forms.specs.Statements.{statements}
 use Rattle.php_grammar.specs.Tables.{php}
 use Rattle.php_rows.specs.Nodes.{are_nodes}
@@ -28,9 +28,9 @@ one_nodes v (child g p w) = none_nodes v w
 some_item : (i : Item) (is : List Item) → 0 < length (i ∷ is)
 some_item i is = omega arith
 
-pub nodes_of_walk : (v : Version) {f : Forest} {rest : List Token} → Walks (php v) (Turns Statements ∷ []) f rest → are_nodes f ≡ true
+pub nodes_of_walk : (v : Version) {f : Forest} {rest : List Token} → Walks (php v) (Repeats Statements ∷ []) f rest → are_nodes f ≡ true
 nodes_of_walk v (stop p w) = none_nodes v w
-nodes_of_walk v (turn {g} {i} {js} {is} {h} {f} {rest} p w has u) =
+nodes_of_walk v (repeat {g} {i} {js} {is} {h} {f} {rest} p w has u) =
     let here : i ∷ js ≡ Node Statement ∷ [] = sym p ∙ statement_items (first_of (leaves h ++ (leaves f ++ rest)))
     (subst (λ (is : List Item). 0 < length is) (sym p) (some_item i js)) in
     both_nodes h f (one_nodes v (subst (λ (is : List Item). Walks (php v) is h (leaves f ++ rest)) here w)) (nodes_of_walk v u)

@@ -11,7 +11,7 @@ use Rattle.php_tree.specs.declared.version.Version.TheVariants.{V74, V83}
 use Rattle.php_tree.specs.Tree.{File, depth, file_leaves}
 use Rattle.php_tree.specs.Whole.{file}
 use Rattle.php_forms.specs.declared.item.Group.TheVariants.{Statements}
-use Rattle.php_forms.specs.declared.item.Item.TheVariants.{Turns}
+use Rattle.php_forms.specs.declared.item.Item.TheVariants.{Repeats}
 use Rattle.php_forms.specs.Grammar.{Walks}
 use Rattle.php_grammar.specs.Tables.{php}
 use Rattle.php_exprs.specs.declared.fault.ParseFault.{ParseFault}
@@ -31,7 +31,7 @@ ends_file (t ∷ u ∷ ts) = false
 
 -- The tree is one of the grammar, its tokens are these, and it is within the bound.
 pub record ReadsFile (v : Version) (tokens : List Token) (f : File) : Type 0 where
-  pub walks : Walks (php v) (Turns Statements ∷ []) f.statements (f.end ∷ [])
+  pub walks : Walks (php v) (Repeats Statements ∷ []) f.statements (f.end ∷ [])
   pub text : tokens ≡ file_leaves f
   pub ends : is_end f.end.kind ≡ true
   pub low : depth f.statements ≤ bound v

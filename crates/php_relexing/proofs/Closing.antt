@@ -7,7 +7,7 @@ use Rattle.php_spellings.specs.declared.table.Until.{Until}
 use Rattle.php_spellings.specs.declared.table.Until.TheVariants.{Simple, Closed, Block, CastWord}
 use Rattle.php_spellings.specs.Bytes.{lower, starts_word}
 use Rattle.php_lexer.specs.Heredocs.{no_label}
-use Rattle.php_lexer.specs.Tails.{begins_part, bars, closes, turned, word_alone, begins_word, begins_type, cast_words}
+use Rattle.php_lexer.specs.Tails.{begins_part, bars, closes, stepped, word_alone, begins_word, begins_type, cast_words}
 use Rattle.php_lexer.specs.Scan.{until_len, add_to}
 use Rattle.php_lexer.proofs.Counts.{some_eq}
 use Rattle.php_relexing.proofs.Bools.{not_it}
@@ -25,7 +25,7 @@ onward false false (Some k) n e = let size = some_eq (1 + k) n e in (refl, λ p.
 
 not_empty : (u : Until) (s : State) (bs : List ℕ) (n : ℕ) → until_len u s bs ≡ Some n → n ≡ 0 → ⊥
 not_empty u s [] n e z = cc
-not_empty u s (b ∷ bs) n e z = by_byte (bars u s b bs) (closes u s b) (until_len u (turned u s b) bs) e
+not_empty u s (b ∷ bs) n e z = by_byte (bars u s b bs) (closes u s b) (until_len u (stepped u s b) bs) e
   where
     by_byte : (bar close : Bool) (x : Option ℕ) → cond bar None (cond close (Some 1) (add_to 1 x)) ≡ Some n → ⊥
     by_byte true close x f = cc
@@ -35,22 +35,22 @@ not_empty u s (b ∷ bs) n e z = by_byte (bars u s b bs) (closes u s b) (until_l
 
 -- Neither what follows a byte within the text nor what follows the closing byte is asked.
 pub record Blind (u : Until) : Type 0 where
-  pub within : (s : State) (b : ℕ) (a v w : List ℕ) (k : ℕ) → until_len u (turned u s b) (a ++ v) ≡ Some k → k ≤ length a → bars u s b (a ++ v) ≡ bars u s b (a ++ w)
+  pub within : (s : State) (b : ℕ) (a v w : List ℕ) (k : ℕ) → until_len u (stepped u s b) (a ++ v) ≡ Some k → k ≤ length a → bars u s b (a ++ v) ≡ bars u s b (a ++ w)
   pub last : (s : State) (b : ℕ) (v w : List ℕ) → closes u s b ≡ true → bars u s b v ≡ bars u s b w
 
 module _ (u : Until) (blind : Blind u) where
   step_by : (s : State) (b : ℕ) (a v w : List ℕ) (n : ℕ) (close : Bool) → closes u s b ≡ close
-      → ((k : ℕ) → until_len u (turned u s b) (a ++ v) ≡ Some k → k ≤ length a
-      → until_len u (turned u s b) (a ++ w) ≡ Some k) → cond (bars u s b (a ++ v)) None
-      (cond close (Some 1) (add_to 1 (until_len u (turned u s b) (a ++ v)))) ≡ Some n → n ≤ suc (length a)
-      → cond (bars u s b (a ++ w)) None (cond close (Some 1) (add_to 1 (until_len u (turned u s b) (a ++ w)))) ≡ Some
+      → ((k : ℕ) → until_len u (stepped u s b) (a ++ v) ≡ Some k → k ≤ length a
+      → until_len u (stepped u s b) (a ++ w) ≡ Some k) → cond (bars u s b (a ++ v)) None
+      (cond close (Some 1) (add_to 1 (until_len u (stepped u s b) (a ++ v)))) ≡ Some n → n ≤ suc (length a)
+      → cond (bars u s b (a ++ w)) None (cond close (Some 1) (add_to 1 (until_len u (stepped u s b) (a ++ w)))) ≡ Some
       n
   step_by s b a v w n true p ih e le =
-      let o = onward (bars u s b (a ++ v)) true (until_len u (turned u s b) (a ++ v)) n e in
+      let o = onward (bars u s b (a ++ v)) true (until_len u (stepped u s b) (a ++ v)) n e in
       let bar : bars u s b (a ++ w) ≡ false = sym (blind.last s b (a ++ v) (a ++ w) p) ∙ o.0 in
       rw bar (rw o.0 at e)
   step_by s b a v w n false p ih e le =
-      let o = onward (bars u s b (a ++ v)) false (until_len u (turned u s b) (a ++ v)) n e in
+      let o = onward (bars u s b (a ++ v)) false (until_len u (stepped u s b) (a ++ v)) n e in
       let (k, is, size) = o.1 refl in
       let bar : bars u s b (a ++ w) ≡ false = sym (blind.within s b a v w k is (omega arith)) ∙ o.0 in
       let more = ih k is (omega arith) in
@@ -59,7 +59,7 @@ module _ (u : Until) (blind : Blind u) where
 
   pub until_stays : (s : State) (a v w : List ℕ) (n : ℕ) → until_len u s (a ++ v) ≡ Some n → n ≤ length a → until_len u s (a ++ w) ≡ Some n
   until_stays s [] v w n e le = absurd (not_empty u s v n e (omega arith))
-  until_stays s (b ∷ a) v w n e le = step_by s b a v w n (closes u s b) refl (until_stays (turned u s b) a v w) e le
+  until_stays s (b ∷ a) v w n e le = step_by s b a v w n (closes u s b) refl (until_stays (stepped u s b) a v w) e le
 
 -- ---- texts in quotes, and comments
 
@@ -69,9 +69,9 @@ simple_blind = record { within = λ s b a v w k e le. refl; last = λ s b v w h.
 pub block_blind : Blind Block
 block_blind = record { within = λ s b a v w k e le. refl; last = λ s b v w h. refl }
 
-closed_within : (s : State) (b : ℕ) (a v w : List ℕ) (k : ℕ) → until_len Closed (turned Closed s b) (a ++ v) ≡ Some k
+closed_within : (s : State) (b : ℕ) (a v w : List ℕ) (k : ℕ) → until_len Closed (stepped Closed s b) (a ++ v) ≡ Some k
     → k ≤ length a → bars Closed s b (a ++ v) ≡ bars Closed s b (a ++ w)
-closed_within s b [] v w k e le = absurd (not_empty Closed (turned Closed s b) v k e (omega arith))
+closed_within s b [] v w k e le = absurd (not_empty Closed (stepped Closed s b) v k e (omega arith))
 closed_within First b (c ∷ a) v w k e le = refl
 closed_within Plain b (c ∷ a) v w k e le = refl
 closed_within Escaped b (c ∷ a) v w k e le = refl
@@ -114,7 +114,7 @@ cast_closes : (s : State) (a v : List ℕ) (k : ℕ) → until_len CastWord s (a
 cast_closes s [] v k e le = absurd (not_empty CastWord s v k e (omega arith))
 cast_closes s (b ∷ a) v k e le =
     close_by b a v k (bars CastWord s b (a ++ v)) (closes CastWord s b) (bracket_closes s b)
-    (until_len CastWord (turned CastWord s b) (a ++ v)) (cast_closes (turned CastWord s b) a v) e le
+    (until_len CastWord (stepped CastWord s b) (a ++ v)) (cast_closes (stepped CastWord s b) a v) e le
 
 abbrev no_bracket : List ℕ → Bool
 no_bracket [] = true
@@ -151,9 +151,9 @@ words_same (x ∷ ws) h a v w e =
 type_same : (b : ℕ) (a v w : List ℕ) → has 41 a ≡ true → begins_type (b ∷ a ++ v) ≡ begins_type (b ∷ a ++ w)
 type_same b a v w e = words_same cast_words refl (b ∷ a) v w (rw e (or_true (nat_eq b 41)))
 
-cast_within : (s : State) (b : ℕ) (a v w : List ℕ) (k : ℕ) → until_len CastWord (turned CastWord s b) (a ++ v) ≡ Some
+cast_within : (s : State) (b : ℕ) (a v w : List ℕ) (k : ℕ) → until_len CastWord (stepped CastWord s b) (a ++ v) ≡ Some
     k → k ≤ length a → bars CastWord s b (a ++ v) ≡ bars CastWord s b (a ++ w)
-cast_within First b a v w k e le = rw (type_same b a v w (cast_closes (turned CastWord First b) a v k e le)) refl
+cast_within First b a v w k e le = rw (type_same b a v w (cast_closes (stepped CastWord First b) a v k e le)) refl
 cast_within Plain b a v w k e le = refl
 cast_within Escaped b a v w k e le = refl
 

@@ -8,8 +8,8 @@ use Rattle.php_spellings.specs.declared.table.Kind.{Kind}
 use Rattle.php_spellings.specs.declared.table.Kind.TheVariants.{Space}
 use Rattle.php_spellings.specs.Bytes.{is_space, begins}
 use Rattle.php_spellings.specs.Words.{token_of}
-use Rattle.php_lexer.specs.Modes.{code, stay, code_turn, IsLongest}
-use Rattle.php_lexer.specs.Lexed.{Lexeme, Stack, Lexed, trivia, token, turned_by, after}
+use Rattle.php_lexer.specs.Modes.{code, stay, code_mode_step, IsLongest}
+use Rattle.php_lexer.specs.Lexed.{Lexeme, Stack, Lexed, trivia, token, stepped_by, after}
 use Rattle.php_relexing.proofs.Spaces.{all_space, space_is}
 
 -- code outside of any text and brace
@@ -17,13 +17,13 @@ abbrev pub plain : Stack
 plain = record { top = code; below = []; depth = 0 }
 
 module _ (v : Version) (kind : Kind) (b : ℕ) (a s : List ℕ)
-    (longest : IsLongest v code (b ∷ a ++ s) kind (suc (length a))) (stays : code_turn kind (b ∷ a) ≡ stay code)
+    (longest : IsLongest v code (b ∷ a ++ s) kind (suc (length a))) (stays : code_mode_step kind (b ∷ a) ≡ stay code)
     (ts : List Lexeme) where
   text : b ∷ take (length a) (a ++ s) ≡ b ∷ a
   text = ap (λ (u : List ℕ). b ∷ u) (take-append_seam a s)
 
   same : after v plain kind (suc (length a)) (b ∷ a ++ s) ≡ plain
-  same = ap (λ (u : List ℕ). turned_by (code_turn kind u) plain) text ∙ ap (λ t. turned_by t plain) stays
+  same = ap (λ (u : List ℕ). stepped_by (code_mode_step kind u) plain) text ∙ ap (λ t. stepped_by t plain) stays
 
   behind : (lead : List ℕ) → Lexed v plain lead s ts → Lexed v (after v plain kind (suc (length a)) (b ∷ a ++ s)) lead (drop (length a) (a ++ s)) ts
   behind lead rest =

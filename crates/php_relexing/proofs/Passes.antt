@@ -37,11 +37,11 @@ use Rattle.php_spellings.specs.declared.table.Kind.TheVariants.{
   QuotedEnd,
 }
 use Rattle.php_spellings.specs.declared.table.Mark.{Mark}
-use Rattle.php_lexer.specs.Modes.{Mode, html, code, named, quoted, offset, property, IsLongest, turn_of, part_turn, begins_arrow}
-use Rattle.php_lexer.specs.Lexed.{Stack, after, turned_by}
+use Rattle.php_lexer.specs.Modes.{Mode, html, code, named, quoted, offset, property, IsLongest, mode_step_of, part_mode_step, begins_arrow}
+use Rattle.php_lexer.specs.Lexed.{Stack, after, stepped_by}
 use Rattle.php_relexing.specs.Tiles.{Tile, tile, joined}
 use Rattle.php_relexing.specs.Spelled.{Steps, done, step}
-use Rattle.php_relexing.specs.Passes.{Pass, nothing, then, PassesJoin, begins_nullsafe, TurnsAgree}
+use Rattle.php_relexing.specs.Passes.{Pass, nothing, then, PassesJoin, begins_nullsafe, ModeStepsAgree}
 
 joined_append : (ts us : List Tile) (rest : List ℕ) → joined (ts ++ us) ++ rest ≡ joined ts ++ (joined us ++ rest)
 joined_append [] us rest = refl
@@ -56,12 +56,12 @@ join {v = v} {n = n} {us = us} {between = between} rest e (then {stack = stack} 
     let same : joined ts ++ between ≡ joined (ts ++ us) ++ rest = ap (λ (u : List ℕ). joined ts ++ u) e ∙ sym (joined_append ts us rest) in
     then kind b a (ts ++ us)
     (subst (λ (u : List ℕ). IsLongest v stack.top (b ∷ a ++ u) kind (suc (length a))) same h)
-    (subst (λ (u : List ℕ). Pass v rest (turned_by (turn_of v stack.top kind (b ∷ a) u) stack) (ts ++ us) n) same (join rest e p q))
+    (subst (λ (u : List ℕ). Pass v rest (stepped_by (mode_step_of v stack.top kind (b ∷ a) u) stack) (ts ++ us) n) same (join rest e p q))
 
-turns : (v : Version) (k : Stack) (kind : Kind) (b : ℕ) (a rest : List ℕ) → after v k kind (suc (length a)) (b ∷ a ++ rest) ≡ turned_by (turn_of v k.top kind (b ∷ a) rest) k
-turns v k kind b a rest =
-    ap (λ (u : List ℕ). turned_by (turn_of v k.top kind (b ∷ u) (drop (length a) (a ++ rest))) k) (take-append_seam a rest)
-    ∙ ap (λ (u : List ℕ). turned_by (turn_of v k.top kind (b ∷ a) u) k) (drop-append_seam a rest)
+mode_steps : (v : Version) (k : Stack) (kind : Kind) (b : ℕ) (a rest : List ℕ) → after v k kind (suc (length a)) (b ∷ a ++ rest) ≡ stepped_by (mode_step_of v k.top kind (b ∷ a) rest) k
+mode_steps v k kind b a rest =
+    ap (λ (u : List ℕ). stepped_by (mode_step_of v k.top kind (b ∷ u) (drop (length a) (a ++ rest))) k) (take-append_seam a rest)
+    ∙ ap (λ (u : List ℕ). stepped_by (mode_step_of v k.top kind (b ∷ a) u) k) (drop-append_seam a rest)
 
 steps : {v : Version} {rest : List ℕ} {k n : Stack} {ts : List Tile} → rest ≡ [] → n.depth ≡ 0 → Pass v rest k ts n → Steps v k ts
 steps e d nothing = done d
@@ -69,14 +69,14 @@ steps e d (then {v = v} {rest = rest} {stack = stack} kind b a ts h p) =
     let same : joined ts ++ rest ≡ joined ts = ap (λ (u : List ℕ). joined ts ++ u) e ∙ append-nil (joined ts) in
     step kind b a ts
     (subst (λ (u : List ℕ). IsLongest v stack.top (b ∷ a ++ u) kind (suc (length a))) same h)
-    (subst (λ (k : Stack). Steps v k ts) (sym (turns v stack kind b a (joined ts)))
-    (subst (λ (u : List ℕ). Steps v (turned_by (turn_of v stack.top kind (b ∷ a) u) stack) ts) same (steps e d p)))
+    (subst (λ (k : Stack). Steps v k ts) (sym (mode_steps v stack kind b a (joined ts)))
+    (subst (λ (u : List ℕ). Steps v (stepped_by (mode_step_of v stack.top kind (b ∷ a) u) stack) ts) same (steps e d p)))
 
 pub passes_join : PassesJoin
 passes_join = record {
   join = λ v rest k m n ts us p q. join rest refl p q;
   steps = λ v k n ts d p. steps refl d p;
-  turns = turns;
+  mode_steps = mode_steps;
 }
 
 -- ---- turns in both versions
@@ -85,11 +85,11 @@ or_false : (x y : Bool) → y ≡ false → x ≡ (x || y)
 or_false true y h = refl
 or_false false y h = sym h
 
-part_agrees : (mode : Mode) (rest : List ℕ) → begins_nullsafe rest ≡ false → part_turn V74 mode rest ≡ part_turn V83 mode rest
+part_agrees : (mode : Mode) (rest : List ℕ) → begins_nullsafe rest ≡ false → part_mode_step V74 mode rest ≡ part_mode_step V83 mode rest
 part_agrees m rest h = rw (h, sym (or_false (begins_arrow rest) false refl)) refl
 
 quoted_agrees : (mark : Mark) (label : List ℕ) (fresh : Bool) (kind : Kind) (text rest : List ℕ)
-    → begins_nullsafe rest ≡ false → turn_of V74 (quoted mark label fresh) kind text rest ≡ turn_of V83
+    → begins_nullsafe rest ≡ false → mode_step_of V74 (quoted mark label fresh) kind text rest ≡ mode_step_of V83
     (quoted mark label fresh) kind text rest
 quoted_agrees mark label fresh Space text rest h = refl
 quoted_agrees mark label fresh Comment text rest h = refl
@@ -122,10 +122,10 @@ quoted_agrees mark label fresh DollarBrace text rest h = refl
 quoted_agrees mark label fresh VarName text rest h = refl
 quoted_agrees mark label fresh QuotedEnd text rest h = refl
 
-pub turns_agree : TurnsAgree
-turns_agree html kind text rest h = refl
-turns_agree code kind text rest h = refl
-turns_agree named kind text rest h = refl
-turns_agree (quoted mark label fresh) kind text rest h = quoted_agrees mark label fresh kind text rest h
-turns_agree offset kind text rest h = refl
-turns_agree property kind text rest h = refl
+pub mode_steps_agree : ModeStepsAgree
+mode_steps_agree html kind text rest h = refl
+mode_steps_agree code kind text rest h = refl
+mode_steps_agree named kind text rest h = refl
+mode_steps_agree (quoted mark label fresh) kind text rest h = quoted_agrees mark label fresh kind text rest h
+mode_steps_agree offset kind text rest h = refl
+mode_steps_agree property kind text rest h = refl

@@ -83,8 +83,8 @@ no_yield b a s h e f = yield_by b a s (starts_word (codes "ield") (a ++ s)) refl
 
 -- ---- the scan
 
-pub turn_round : (a k : ℕ) → nat_eq a k ≡ false → nat_eq k a ≡ false
-turn_round a k e = grind (arith, nat_tests)
+pub other_way_round : (a k : ℕ) → nat_eq a k ≡ false → nat_eq k a ≡ false
+other_way_round a k e = grind (arith, nat_tests)
 
 pub letter_hash : (b : ℕ) → is_letter b ≡ true → nat_eq b 35 ≡ false
 letter_hash b h = grind (arith, nat_tests)
@@ -110,7 +110,7 @@ word_scan : (b : ℕ) (a s : List ℕ) → is_letter b ≡ true → nat_eq (lowe
 word_scan b a s h p k e f =
     older_scan b (a ++ s) (letter_hash b h)
     ∙ letter_scan b (a ++ s) h
-    ∙ rows_are b (a ++ s) (turn_round (lower b) 98 p)
+    ∙ rows_are b (a ++ s) (other_way_round (lower b) 98 p)
     ∙ ap (λ o. longer Keyword o (longer Word (add_to 0 (word_len (b ∷ a ++ s))) None)) (no_yield b a s k e f)
     ∙ word_row b a s h p k e
 

@@ -8,7 +8,7 @@ use Rattle.php_spellings.specs.declared.table.State.TheVariants.{First}
 use Rattle.php_spellings.specs.declared.table.Until.{Until}
 use Rattle.php_spellings.specs.declared.table.Until.TheVariants.{Simple, CastWord}
 use Rattle.php_spellings.specs.Bytes.{is_blank_byte}
-use Rattle.php_lexer.specs.Tails.{bars, closes, turned, begins_type}
+use Rattle.php_lexer.specs.Tails.{bars, closes, stepped, begins_type}
 use Rattle.php_lexer.specs.Modes.{code, IsLongest}
 use Rattle.php_lexer.specs.Scan.{scan, until_len, add_to, longer}
 use Rattle.php_lexer.proofs.Longest.{scanned_longest, scanned_none}
@@ -63,13 +63,13 @@ none_at_0 false false (Some k) n e le = let size = some_eq (1 + k) n e in omega 
 
 not_0 : (u : Until) (s : State) (v : List ℕ) (n : ℕ) → until_len u s v ≡ Some n → n ≤ 0 → ⊥
 not_0 u s [] n e le = cc
-not_0 u s (b ∷ bs) n e le = none_at_0 (bars u s b bs) (closes u s b) (until_len u (turned u s b) bs) n e le
+not_0 u s (b ∷ bs) n e le = none_at_0 (bars u s b bs) (closes u s b) (until_len u (stepped u s b) bs) n e le
 
 simple_stays : (s : State) (a v w : List ℕ) (n : ℕ) → until_len Simple s (a ++ v) ≡ Some n → n ≤ length a → until_len Simple s (a ++ w) ≡ Some n
 simple_stays s [] v w n e le = absurd (not_0 Simple s v n e le)
 simple_stays s (b ∷ a) v w n e le = stay_step false (closes Simple s b)
-    (until_len Simple (turned Simple s b) (a ++ v)) (until_len Simple (turned Simple s b) (a ++ w)) n (length a)
-    (λ k p q. simple_stays (turned Simple s b) a v w k p q) e le
+    (until_len Simple (stepped Simple s b) (a ++ v)) (until_len Simple (stepped Simple s b) (a ++ w)) n (length a)
+    (λ k p q. simple_stays (stepped Simple s b) a v w k p q) e le
 
 text_scan : (v : Version) (s : List ℕ) (o : Option ℕ) → until_len Simple First s ≡ o → scan v code (39 ∷ s) ≡ longer Text (add_to 1 o) None
 text_scan V74 s o e = rw e refl

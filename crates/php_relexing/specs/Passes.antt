@@ -4,8 +4,8 @@ use Rattle.php_tree.specs.declared.version.Version.{Version}
 use Rattle.php_tree.specs.declared.version.Version.TheVariants.{V74, V83}
 use Rattle.php_spellings.specs.declared.table.Kind.{Kind}
 use Rattle.php_spellings.specs.Bytes.{begins_by}
-use Rattle.php_lexer.specs.Modes.{Mode, IsLongest, turn_of, begins_arrow}
-use Rattle.php_lexer.specs.Lexed.{Stack, after, turned_by}
+use Rattle.php_lexer.specs.Modes.{Mode, IsLongest, mode_step_of, begins_arrow}
+use Rattle.php_lexer.specs.Lexed.{Stack, after, stepped_by}
 use Rattle.php_relexing.specs.Tiles.{Tile, tile, joined}
 use Rattle.php_relexing.specs.Spelled.{Steps}
 
@@ -15,7 +15,7 @@ pub data Pass : Version → List ℕ → Stack → List Tile → Stack → Type 
   then :
       {v : Version} {rest : List ℕ} {stack end : Stack} (kind : Kind) (b : ℕ) (a : List ℕ) (ts : List Tile) →
       IsLongest v stack.top (b ∷ a ++ (joined ts ++ rest)) kind (suc (length a)) →
-      Pass v rest (turned_by (turn_of v stack.top kind (b ∷ a) (joined ts ++ rest)) stack) ts end →
+      Pass v rest (stepped_by (mode_step_of v stack.top kind (b ∷ a) (joined ts ++ rest)) stack) ts end →
       Pass v rest stack (tile kind b a ∷ ts) end
 
 -- Passes join; one to the end of the bytes, outside any quoted text, is the steps of its tiles; what a tile does to the
@@ -23,15 +23,15 @@ pub data Pass : Version → List ℕ → Stack → List Tile → Stack → Type 
 pub record PassesJoin : Type 0 where
   pub join : (v : Version) (rest : List ℕ) (k m n : Stack) (ts us : List Tile) → Pass v (joined us ++ rest) k ts m → Pass v rest m us n → Pass v rest k (ts ++ us) n
   pub steps : (v : Version) (k n : Stack) (ts : List Tile) → n.depth ≡ 0 → Pass v [] k ts n → Steps v k ts
-  pub turns : (v : Version) (k : Stack) (kind : Kind) (b : ℕ) (a rest : List ℕ) → after v k kind (suc (length a)) (b ∷ a ++ rest) ≡ turned_by (turn_of v k.top kind (b ∷ a) rest) k
+  pub mode_steps : (v : Version) (k : Stack) (kind : Kind) (b : ℕ) (a rest : List ℕ) → after v k kind (suc (length a)) (b ∷ a ++ rest) ≡ stepped_by (mode_step_of v k.top kind (b ∷ a) rest) k
 
 -- whether `?->` and a label begin here, a simple property in 8.3 alone
 abbrev pub begins_nullsafe : List ℕ → Bool
 begins_nullsafe bs = begins_by 63 bs && begins_arrow (drop 1 bs)
 
 -- A token does the same to the stack in 8.3 where no `?->` and a label follow.
-abbrev pub TurnsAgree : Type 0
-TurnsAgree =
+abbrev pub ModeStepsAgree : Type 0
+ModeStepsAgree =
     (mode : Mode) (kind : Kind) (text rest : List ℕ) →
     begins_nullsafe rest ≡ false →
-    turn_of V74 mode kind text rest ≡ turn_of V83 mode kind text rest
+    mode_step_of V74 mode kind text rest ≡ mode_step_of V83 mode kind text rest

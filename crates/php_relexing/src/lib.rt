@@ -12,7 +12,7 @@ ghost use Rattle.php_relexing.specs.Angles.{SlashesStay, AnglesStay, ClosingTags
 ghost use Rattle.php_relexing.specs.Pieces.{PiecesStayBeforeParts, EscapedPiecesStay, PiecesStayBeforeEnds};
 ghost use Rattle.php_relexing.specs.Parts.{TextVariablesStay, BracesOpen, SimplePartsStay, QuotesOpen, BinaryQuotesOpen};
 ghost use Rattle.php_relexing.specs.Words.{WordsStay, YieldFromStays, OpeningsAreUncast};
-ghost use Rattle.php_relexing.specs.Passes.{PassesJoin, TurnsAgree};
+ghost use Rattle.php_relexing.specs.Passes.{PassesJoin, ModeStepsAgree};
 ghost use Rattle.php_relexing.specs.Written.{MarksAreTokens, NullIsWritten, VariablesAreTokens, NamedIsCode};
 ghost use Rattle.php_relexing.specs.Inline.{TagsStay, HtmlStays};
 ghost use Rattle.php_relexing.specs.HeredocEnds.{HeredocEndsStay, PiecesStayBeforeLabels, HeredocStartsStay};
@@ -169,8 +169,8 @@ pub fn passes_join()
 {}
 
 /// A token does the same to the stack in 8.3 where no `?->` and a label follow.
-pub fn turns_agree()
-    ensures { TurnsAgree }
+pub fn mode_steps_agree()
+    ensures { ModeStepsAgree }
 {}
 
 /// A word that doesn't begin with `b` stays where neither its label nor `yield` goes on.

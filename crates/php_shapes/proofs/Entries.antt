@@ -13,7 +13,7 @@ use Rattle.php_forms.specs.declared.item.Sort.TheVariants as s
 use Rattle.php_forms.specs.declared.item.Group.{Group}
 use Rattle.php_forms.specs.declared.item.Group.TheVariants as g
 use Rattle.php_forms.specs.declared.item.Item.{Item}
-use Rattle.php_forms.specs.declared.item.Item.TheVariants.{Word, Node, Part, Turns, Span}
+use Rattle.php_forms.specs.declared.item.Item.TheVariants.{Word, Node, Part, Repeats, Span}
 use Rattle.php_forms.specs.Grammar.{IsFlat}
 use Rattle.php_shapes.specs.Atoms as at
 use Rattle.php_shapes.specs.Declarations as de
@@ -243,36 +243,36 @@ abbrev pub more_last : Rule → Rule
 more_last r = many (word t.Comma ~ r) ~ maybe (word t.Comma)
 
 -- a group that stands any number of times
-abbrev pub turns : Version → Group → Entry
-turns v g.NameMore = plain na.more_of_name
-turns v g.MoreNames = plain (many (word t.Comma ~ na.name v))
-turns v g.Statements = plain st.statements
-turns v g.ElseIfs = else_ifs
-turns v g.AltElseIfs = plain (many (word t.ElseIf ~ st.condition ~ word t.Colon ~ st.statements))
-turns v g.Cases = plain (many (kind k.Case))
-turns v g.MoreExprs = plain (many (word t.Comma ~ expr))
-turns v g.MoreGlobals = plain (many (word t.Comma ~ kind k.Variable))
-turns v g.Catches = plain (many (st.catch_part v))
-turns v g.CaughtNames = plain (many (word t.Bar ~ na.name v))
-turns v g.MoreDirectives = plain (many (word t.Comma ~ word t.FreeLabel ~ word t.Assign ~ expr))
-turns v g.MoreUnset = plain (more_last expr)
-turns v g.MoreVariables = plain (many (word t.Comma ~ st.declared_variable))
-turns v g.MoreParams = plain (many (word t.Comma ~ kind k.Param))
-turns v g.ClassModifiers = plain (many (word t.ClassModifier))
-turns v g.Members = plain (many (place Member))
-turns v g.Modifiers = plain (many (word t.Modifier))
-turns v g.MoreClassConsts = plain (many (word t.Comma ~ de.constant_of t.ConstantWord))
-turns v g.MoreConsts = plain (many (word t.Comma ~ de.constant_of t.FreeLabel))
-turns v g.MoreUses = plain (many (word t.Comma ~ ns.imported v))
-turns v g.MoreGrouped = plain (more_last (ns.grouped_of_kind v))
-turns v g.MoreClassUses = more_class_uses
-turns v g.MoreClassGrouped = plain (more_last (ns.grouped_as_class v))
-turns v g.MoreArgs = plain (more_last (maybe (word t.Ellipsis) ~ expr))
-turns v g.MoreItems = plain (more_last (kind k.Item))
-turns v g.ListMore = plain (many (word t.Comma ~ maybe at.list_item))
-turns v g.QuotedParts = plain (many qu.quoted_part)
-turns v g.MoreUsed = plain (many (word t.Comma ~ at.by_ref ~ word t.Variable))
-turns v _ = anything
+abbrev pub repeats : Version → Group → Entry
+repeats v g.NameMore = plain na.more_of_name
+repeats v g.MoreNames = plain (many (word t.Comma ~ na.name v))
+repeats v g.Statements = plain st.statements
+repeats v g.ElseIfs = else_ifs
+repeats v g.AltElseIfs = plain (many (word t.ElseIf ~ st.condition ~ word t.Colon ~ st.statements))
+repeats v g.Cases = plain (many (kind k.Case))
+repeats v g.MoreExprs = plain (many (word t.Comma ~ expr))
+repeats v g.MoreGlobals = plain (many (word t.Comma ~ kind k.Variable))
+repeats v g.Catches = plain (many (st.catch_part v))
+repeats v g.CaughtNames = plain (many (word t.Bar ~ na.name v))
+repeats v g.MoreDirectives = plain (many (word t.Comma ~ word t.FreeLabel ~ word t.Assign ~ expr))
+repeats v g.MoreUnset = plain (more_last expr)
+repeats v g.MoreVariables = plain (many (word t.Comma ~ st.declared_variable))
+repeats v g.MoreParams = plain (many (word t.Comma ~ kind k.Param))
+repeats v g.ClassModifiers = plain (many (word t.ClassModifier))
+repeats v g.Members = plain (many (place Member))
+repeats v g.Modifiers = plain (many (word t.Modifier))
+repeats v g.MoreClassConsts = plain (many (word t.Comma ~ de.constant_of t.ConstantWord))
+repeats v g.MoreConsts = plain (many (word t.Comma ~ de.constant_of t.FreeLabel))
+repeats v g.MoreUses = plain (many (word t.Comma ~ ns.imported v))
+repeats v g.MoreGrouped = plain (more_last (ns.grouped_of_kind v))
+repeats v g.MoreClassUses = more_class_uses
+repeats v g.MoreClassGrouped = plain (more_last (ns.grouped_as_class v))
+repeats v g.MoreArgs = plain (more_last (maybe (word t.Ellipsis) ~ expr))
+repeats v g.MoreItems = plain (more_last (kind k.Item))
+repeats v g.ListMore = plain (many (word t.Comma ~ maybe at.list_item))
+repeats v g.QuotedParts = plain (many qu.quoted_part)
+repeats v g.MoreUsed = plain (many (word t.Comma ~ at.by_ref ~ word t.Variable))
+repeats v _ = anything
 
 -- a node of a sort
 abbrev pub sorted : Sort → Entry
@@ -299,7 +299,7 @@ abbrev pub entry_of : Version → Item → Entry
 entry_of v (Word c) = plain (word c)
 entry_of v (Node s) = sorted s
 entry_of v (Part g) = once v g
-entry_of v (Turns g) = turns v g
+entry_of v (Repeats g) = repeats v g
 entry_of v Span = span
 
 -- the entries of items

@@ -59,6 +59,6 @@ pub mod Sequences
 pub mod Standing
 pub mod StatementOpenings
 pub mod Told
-pub mod Turns
+pub mod Repeats
 pub mod Uses
 pub mod Walked

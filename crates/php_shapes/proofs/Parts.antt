@@ -21,7 +21,7 @@ use Rattle.php_shapes.specs.Statements as st
 use Rattle.php_shapes.specs.Notation.{word, kind, place, ◌~◌, maybe, expr}
 use Rattle.php_shapes.specs.Places.{Member}
 use Rattle.php_shapes.specs.Shapes.{is_nothing, is_both, is_first, no_more}
-use Rattle.php_shapes.proofs.Entries.{Meet, Meets, else_if_rule, entries, is_else_if, once, turns}
+use Rattle.php_shapes.proofs.Entries.{Meet, Meets, else_if_rule, entries, is_else_if, once, repeats}
 use Rattle.php_shapes.proofs.Groups.{
   alias_once,
   alt_else_once,
@@ -78,36 +78,36 @@ use Rattle.php_shapes.proofs.Groups.{
   variadic_once,
   while_body_once,
 }
-use Rattle.php_shapes.proofs.Turns.{
-  alt_else_ifs_turn,
-  cases_turn,
-  catches_turn,
-  caught_names_turn,
-  class_modifiers_turn,
+use Rattle.php_shapes.proofs.Repeats.{
+  alt_else_ifs_repeat,
+  cases_repeat,
+  catches_repeat,
+  caught_names_repeat,
+  class_modifiers_repeat,
   comma_again,
-  else_ifs_turn,
-  list_more_turn,
-  members_turn,
-  modifiers_turn,
-  more_args_turn,
-  more_class_consts_turn,
-  more_class_grouped_turn,
-  more_consts_turn,
-  more_directives_turn,
-  more_exprs_turn,
-  more_globals_turn,
-  more_grouped_turn,
-  more_items_turn,
-  more_names_turn,
-  more_params_turn,
-  more_unset_turn,
-  more_used_turn,
-  more_uses_turn,
-  more_variables_turn,
-  name_more_turn,
+  else_ifs_repeat,
+  list_more_repeat,
+  members_repeat,
+  modifiers_repeat,
+  more_args_repeat,
+  more_class_consts_repeat,
+  more_class_grouped_repeat,
+  more_consts_repeat,
+  more_directives_repeat,
+  more_exprs_repeat,
+  more_globals_repeat,
+  more_grouped_repeat,
+  more_items_repeat,
+  more_names_repeat,
+  more_params_repeat,
+  more_unset_repeat,
+  more_used_repeat,
+  more_uses_repeat,
+  more_variables_repeat,
+  name_more_repeat,
   once_again,
-  quoted_parts_turn,
-  statements_turn,
+  quoted_parts_repeat,
+  statements_repeat,
 }
 use Rattle.php_shapes.proofs.Told.{attribute_once, created_once, else_part_once, instance_ref_once, static_member_once, trait_rules_once, yield_to_once, yield_value_once}
 use Rattle.php_shapes.proofs.Uses.{
@@ -115,7 +115,7 @@ use Rattle.php_shapes.proofs.Uses.{
   class_grouped_once,
   class_use_rest_once,
   entry_value_once,
-  more_class_uses_turn,
+  more_class_uses_repeat,
   use_body_once,
   used_class_once,
   used_grouped_once,
@@ -198,8 +198,8 @@ once_meets v g.Created h ts m = created_once v (leaves h ++ ts) h ts m
 once_meets v g.InstanceRef h ts m = instance_ref_once v (leaves h ++ ts) h ts m
 once_meets v _ h ts m = tt
 
--- no turn of a group that stands any number of times
-pub stop_meets : (v : Version) (g : Group) (rest : List Token) → parts v g rest ≡ [] → Meets v (turns v g) none rest
+-- no repeat of a group that stands any number of times
+pub stop_meets : (v : Version) (g : Group) (rest : List Token) → parts v g rest ≡ [] → Meets v (repeats v g) none rest
 stop_meets v g.NameMore rest e = no_more
 stop_meets v g.MoreNames rest e = no_more
 stop_meets v g.Statements rest e = no_more
@@ -230,63 +230,63 @@ stop_meets v g.QuotedParts rest e = no_more
 stop_meets v g.MoreUsed rest e = no_more
 stop_meets v _ rest e = tt
 
--- one turn more of such a group
-pub turn_meets : (v : Version) (g : Group) (h f : Forest) (rest : List Token)
+-- one repeat more of such a group
+pub repeat_meets : (v : Version) (g : Group) (h f : Forest) (rest : List Token)
     → Meet v (entries v (parts v g (leaves h ++ (leaves f ++ rest)))) h (leaves f ++ rest) → 0 < length (leaves h)
-    → Meets v (turns v g) f rest → Meets v (turns v g) (h +++ f) rest
-turn_meets v g.NameMore h f rest m has p = once_again v (word t.Backslash ~ word t.AnyLabel) h f
-    (name_more_turn v (first_of (leaves h ++ (leaves f ++ rest))) (second_of (leaves h ++ (leaves f ++ rest))) h
+    → Meets v (repeats v g) f rest → Meets v (repeats v g) (h +++ f) rest
+repeat_meets v g.NameMore h f rest m has p = once_again v (word t.Backslash ~ word t.AnyLabel) h f
+    (name_more_repeat v (first_of (leaves h ++ (leaves f ++ rest))) (second_of (leaves h ++ (leaves f ++ rest))) h
     (leaves f ++ rest) m has) p
-turn_meets v g.MoreNames h f rest m has p = once_again v (word t.Comma ~ na.name v) h f (more_names_turn v (first_of (leaves h ++ (leaves f ++ rest))) h (leaves f ++ rest) m has) p
-turn_meets v g.Statements h f rest m has p = once_again v (st.statement) h f (statements_turn v (first_of (leaves h ++ (leaves f ++ rest))) h (leaves f ++ rest) m has) p
-turn_meets v g.ElseIfs h f rest m has p = (once_again v else_if_rule h f (else_ifs_turn v (first_of (leaves h ++ (leaves f ++ rest))) h (leaves f ++ rest) m has) p.0, p.1)
-turn_meets v g.AltElseIfs h f rest m has p =
+repeat_meets v g.MoreNames h f rest m has p = once_again v (word t.Comma ~ na.name v) h f (more_names_repeat v (first_of (leaves h ++ (leaves f ++ rest))) h (leaves f ++ rest) m has) p
+repeat_meets v g.Statements h f rest m has p = once_again v (st.statement) h f (statements_repeat v (first_of (leaves h ++ (leaves f ++ rest))) h (leaves f ++ rest) m has) p
+repeat_meets v g.ElseIfs h f rest m has p = (once_again v else_if_rule h f (else_ifs_repeat v (first_of (leaves h ++ (leaves f ++ rest))) h (leaves f ++ rest) m has) p.0, p.1)
+repeat_meets v g.AltElseIfs h f rest m has p =
     once_again v (word t.ElseIf ~ st.condition ~ word t.Colon ~ st.statements) h f
-    (alt_else_ifs_turn v (first_of (leaves h ++ (leaves f ++ rest))) h (leaves f ++ rest) m has) p
-turn_meets v g.Cases h f rest m has p = once_again v (kind k.Case) h f (cases_turn v (first_of (leaves h ++ (leaves f ++ rest))) h (leaves f ++ rest) m has) p
-turn_meets v g.MoreExprs h f rest m has p = once_again v (word t.Comma ~ expr) h f (more_exprs_turn v (first_of (leaves h ++ (leaves f ++ rest))) h (leaves f ++ rest) m has) p
-turn_meets v g.MoreGlobals h f rest m has p = once_again v (word t.Comma ~ kind k.Variable) h f
-    (more_globals_turn v (first_of (leaves h ++ (leaves f ++ rest))) h (leaves f ++ rest) m has) p
-turn_meets v g.Catches h f rest m has p = once_again v (st.catch_part v) h f (catches_turn v (first_of (leaves h ++ (leaves f ++ rest))) h (leaves f ++ rest) m has) p
-turn_meets v g.CaughtNames h f rest m has p = once_again v (word t.Bar ~ na.name v) h f
-    (caught_names_turn v (first_of (leaves h ++ (leaves f ++ rest))) h (leaves f ++ rest) m has) p
-turn_meets v g.MoreDirectives h f rest m has p = once_again v (word t.Comma ~ word t.FreeLabel ~ word t.Assign ~ expr)
-    h f (more_directives_turn v (first_of (leaves h ++ (leaves f ++ rest))) h (leaves f ++ rest) m has) p
-turn_meets v g.MoreUnset h f rest m has p = comma_again v (expr) h f rest
-    (more_unset_turn v (first_of (leaves h ++ (leaves f ++ rest))) (second_of (leaves h ++ (leaves f ++ rest))) h
+    (alt_else_ifs_repeat v (first_of (leaves h ++ (leaves f ++ rest))) h (leaves f ++ rest) m has) p
+repeat_meets v g.Cases h f rest m has p = once_again v (kind k.Case) h f (cases_repeat v (first_of (leaves h ++ (leaves f ++ rest))) h (leaves f ++ rest) m has) p
+repeat_meets v g.MoreExprs h f rest m has p = once_again v (word t.Comma ~ expr) h f (more_exprs_repeat v (first_of (leaves h ++ (leaves f ++ rest))) h (leaves f ++ rest) m has) p
+repeat_meets v g.MoreGlobals h f rest m has p = once_again v (word t.Comma ~ kind k.Variable) h f
+    (more_globals_repeat v (first_of (leaves h ++ (leaves f ++ rest))) h (leaves f ++ rest) m has) p
+repeat_meets v g.Catches h f rest m has p = once_again v (st.catch_part v) h f (catches_repeat v (first_of (leaves h ++ (leaves f ++ rest))) h (leaves f ++ rest) m has) p
+repeat_meets v g.CaughtNames h f rest m has p = once_again v (word t.Bar ~ na.name v) h f
+    (caught_names_repeat v (first_of (leaves h ++ (leaves f ++ rest))) h (leaves f ++ rest) m has) p
+repeat_meets v g.MoreDirectives h f rest m has p = once_again v (word t.Comma ~ word t.FreeLabel ~ word t.Assign ~ expr)
+    h f (more_directives_repeat v (first_of (leaves h ++ (leaves f ++ rest))) h (leaves f ++ rest) m has) p
+repeat_meets v g.MoreUnset h f rest m has p = comma_again v (expr) h f rest
+    (more_unset_repeat v (first_of (leaves h ++ (leaves f ++ rest))) (second_of (leaves h ++ (leaves f ++ rest))) h
     (leaves f ++ rest) refl m has) p
-turn_meets v g.MoreVariables h f rest m has p = once_again v (word t.Comma ~ st.declared_variable) h f
-    (more_variables_turn v (first_of (leaves h ++ (leaves f ++ rest))) h (leaves f ++ rest) m has) p
-turn_meets v g.MoreParams h f rest m has p = once_again v (word t.Comma ~ kind k.Param) h f
-    (more_params_turn v (first_of (leaves h ++ (leaves f ++ rest))) h (leaves f ++ rest) m has) p
-turn_meets v g.ClassModifiers h f rest m has p = once_again v (word t.ClassModifier) h f
-    (class_modifiers_turn v (first_of (leaves h ++ (leaves f ++ rest))) h (leaves f ++ rest) m has) p
-turn_meets v g.Members h f rest m has p = once_again v (place Member) h f (members_turn v (first_of (leaves h ++ (leaves f ++ rest))) h (leaves f ++ rest) m has) p
-turn_meets v g.Modifiers h f rest m has p = once_again v (word t.Modifier) h f (modifiers_turn v (first_of (leaves h ++ (leaves f ++ rest))) h (leaves f ++ rest) m has) p
-turn_meets v g.MoreClassConsts h f rest m has p = once_again v (word t.Comma ~ de.constant_of t.ConstantWord) h f
-    (more_class_consts_turn v (first_of (leaves h ++ (leaves f ++ rest))) h (leaves f ++ rest) m has) p
-turn_meets v g.MoreConsts h f rest m has p = once_again v (word t.Comma ~ de.constant_of t.FreeLabel) h f
-    (more_consts_turn v (first_of (leaves h ++ (leaves f ++ rest))) h (leaves f ++ rest) m has) p
-turn_meets v g.MoreUses h f rest m has p = once_again v (word t.Comma ~ ns.imported v) h f
-    (more_uses_turn v (first_of (leaves h ++ (leaves f ++ rest))) h (leaves f ++ rest) m has) p
-turn_meets v g.MoreGrouped h f rest m has p = comma_again v (ns.grouped_of_kind v) h f rest
-    (more_grouped_turn v (first_of (leaves h ++ (leaves f ++ rest))) (second_of (leaves h ++ (leaves f ++ rest))) h
+repeat_meets v g.MoreVariables h f rest m has p = once_again v (word t.Comma ~ st.declared_variable) h f
+    (more_variables_repeat v (first_of (leaves h ++ (leaves f ++ rest))) h (leaves f ++ rest) m has) p
+repeat_meets v g.MoreParams h f rest m has p = once_again v (word t.Comma ~ kind k.Param) h f
+    (more_params_repeat v (first_of (leaves h ++ (leaves f ++ rest))) h (leaves f ++ rest) m has) p
+repeat_meets v g.ClassModifiers h f rest m has p = once_again v (word t.ClassModifier) h f
+    (class_modifiers_repeat v (first_of (leaves h ++ (leaves f ++ rest))) h (leaves f ++ rest) m has) p
+repeat_meets v g.Members h f rest m has p = once_again v (place Member) h f (members_repeat v (first_of (leaves h ++ (leaves f ++ rest))) h (leaves f ++ rest) m has) p
+repeat_meets v g.Modifiers h f rest m has p = once_again v (word t.Modifier) h f (modifiers_repeat v (first_of (leaves h ++ (leaves f ++ rest))) h (leaves f ++ rest) m has) p
+repeat_meets v g.MoreClassConsts h f rest m has p = once_again v (word t.Comma ~ de.constant_of t.ConstantWord) h f
+    (more_class_consts_repeat v (first_of (leaves h ++ (leaves f ++ rest))) h (leaves f ++ rest) m has) p
+repeat_meets v g.MoreConsts h f rest m has p = once_again v (word t.Comma ~ de.constant_of t.FreeLabel) h f
+    (more_consts_repeat v (first_of (leaves h ++ (leaves f ++ rest))) h (leaves f ++ rest) m has) p
+repeat_meets v g.MoreUses h f rest m has p = once_again v (word t.Comma ~ ns.imported v) h f
+    (more_uses_repeat v (first_of (leaves h ++ (leaves f ++ rest))) h (leaves f ++ rest) m has) p
+repeat_meets v g.MoreGrouped h f rest m has p = comma_again v (ns.grouped_of_kind v) h f rest
+    (more_grouped_repeat v (first_of (leaves h ++ (leaves f ++ rest))) (second_of (leaves h ++ (leaves f ++ rest))) h
     (leaves f ++ rest) refl m has) p
-turn_meets v g.MoreClassUses h f rest m has p = more_class_uses_turn v (first_of (leaves h ++ (leaves f ++ rest))) h f rest m has p
-turn_meets v g.MoreClassGrouped h f rest m has p = comma_again v (ns.grouped_as_class v) h f rest
-    (more_class_grouped_turn v (first_of (leaves h ++ (leaves f ++ rest)))
+repeat_meets v g.MoreClassUses h f rest m has p = more_class_uses_repeat v (first_of (leaves h ++ (leaves f ++ rest))) h f rest m has p
+repeat_meets v g.MoreClassGrouped h f rest m has p = comma_again v (ns.grouped_as_class v) h f rest
+    (more_class_grouped_repeat v (first_of (leaves h ++ (leaves f ++ rest)))
     (second_of (leaves h ++ (leaves f ++ rest))) h (leaves f ++ rest) refl m has) p
-turn_meets v g.MoreArgs h f rest m has p = comma_again v (maybe (word t.Ellipsis) ~ expr) h f rest
-    (more_args_turn v (first_of (leaves h ++ (leaves f ++ rest))) (second_of (leaves h ++ (leaves f ++ rest))) h
+repeat_meets v g.MoreArgs h f rest m has p = comma_again v (maybe (word t.Ellipsis) ~ expr) h f rest
+    (more_args_repeat v (first_of (leaves h ++ (leaves f ++ rest))) (second_of (leaves h ++ (leaves f ++ rest))) h
     (leaves f ++ rest) refl m has) p
-turn_meets v g.MoreItems h f rest m has p = comma_again v (kind k.Item) h f rest
-    (more_items_turn v (first_of (leaves h ++ (leaves f ++ rest))) (second_of (leaves h ++ (leaves f ++ rest))) h
+repeat_meets v g.MoreItems h f rest m has p = comma_again v (kind k.Item) h f rest
+    (more_items_repeat v (first_of (leaves h ++ (leaves f ++ rest))) (second_of (leaves h ++ (leaves f ++ rest))) h
     (leaves f ++ rest) refl m has) p
-turn_meets v g.ListMore h f rest m has p = once_again v (word t.Comma ~ maybe at.list_item) h f
-    (list_more_turn v (first_of (leaves h ++ (leaves f ++ rest))) h (leaves f ++ rest) m has) p
-turn_meets v g.QuotedParts h f rest m has p = once_again v (qu.quoted_part) h f
-    (quoted_parts_turn v (first_of (leaves h ++ (leaves f ++ rest))) (second_of (leaves h ++ (leaves f ++ rest))) h
+repeat_meets v g.ListMore h f rest m has p = once_again v (word t.Comma ~ maybe at.list_item) h f
+    (list_more_repeat v (first_of (leaves h ++ (leaves f ++ rest))) h (leaves f ++ rest) m has) p
+repeat_meets v g.QuotedParts h f rest m has p = once_again v (qu.quoted_part) h f
+    (quoted_parts_repeat v (first_of (leaves h ++ (leaves f ++ rest))) (second_of (leaves h ++ (leaves f ++ rest))) h
     (leaves f ++ rest) m has) p
-turn_meets v g.MoreUsed h f rest m has p = once_again v (word t.Comma ~ at.by_ref ~ word t.Variable) h f
-    (more_used_turn v (first_of (leaves h ++ (leaves f ++ rest))) h (leaves f ++ rest) m has) p
-turn_meets v _ h f rest m has p = tt
+repeat_meets v g.MoreUsed h f rest m has p = once_again v (word t.Comma ~ at.by_ref ~ word t.Variable) h f
+    (more_used_repeat v (first_of (leaves h ++ (leaves f ++ rest))) h (leaves f ++ rest) m has) p
+repeat_meets v _ h f rest m has p = tt

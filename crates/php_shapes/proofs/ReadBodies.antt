@@ -11,9 +11,9 @@ use Rattle.php_forms.specs.declared.item.Sort.TheVariants as s
 use Rattle.php_forms.specs.declared.item.Group.{Group}
 use Rattle.php_forms.specs.declared.item.Group.TheVariants as g
 use Rattle.php_forms.specs.declared.item.Item.{Item}
-use Rattle.php_forms.specs.declared.item.Item.TheVariants.{Word, Node, Part, Turns, Span}
-use Rattle.php_forms.specs.Grammar.{Tables, Walks, Grows, Spells, ends, word as a_word, child, part, stop, turn, span}
-use Rattle.php_forms.specs.Statements.{statements as turn_of}
+use Rattle.php_forms.specs.declared.item.Item.TheVariants.{Word, Node, Part, Repeats, Span}
+use Rattle.php_forms.specs.Grammar.{Tables, Walks, Grows, Spells, ends, word as a_word, child, part, stop, repeat, span}
+use Rattle.php_forms.specs.Statements.{statements as repeat_of}
 use Rattle.php_grammar.specs.Tables.{php}
 use Rattle.php_exprs.proofs.Forests.{forest_assoc}
 use Rattle.php_shapes.specs.Notation.{Rule}
@@ -42,13 +42,13 @@ go_on T js g rest w (Node sort ∷ is) f us (child {k = k} {c = c} {f = h} y n x
 go_on T js g rest w (Part gr ∷ is) f us (part {h = h} {f = k} y x) e =
     subst (λ (m : Forest). Walks T (Part gr ∷ (is ++ js)) m rest) (sym (forest_assoc h k g))
     (part (subst (λ (m : List Token). Walks T (T.parts gr (leaves h ++ m)) h m) (longer k g us rest e) y) (go_on T js g rest w is k us x e))
-go_on T js g rest w (Turns gr ∷ is) f us (stop y x) e =
+go_on T js g rest w (Repeats gr ∷ is) f us (stop y x) e =
     stop (subst (λ (m : List Token). T.parts gr m ≡ []) (longer f g us rest e) y) (go_on T js g rest w is f us x e)
-go_on T js g rest w (Turns gr ∷ is) f us (turn {i = i} {js = ks} {h = h} {f = k} y x lt z) e =
-    subst (λ (m : Forest). Walks T (Turns gr ∷ (is ++ js)) m rest) (sym (forest_assoc h k g))
-    (turn (subst (λ (m : List Token). T.parts gr (leaves h ++ m) ≡ i ∷ ks) (longer k g us rest e) y)
+go_on T js g rest w (Repeats gr ∷ is) f us (repeat {i = i} {js = ks} {h = h} {f = k} y x lt z) e =
+    subst (λ (m : Forest). Walks T (Repeats gr ∷ (is ++ js)) m rest) (sym (forest_assoc h k g))
+    (repeat (subst (λ (m : List Token). T.parts gr (leaves h ++ m) ≡ i ∷ ks) (longer k g us rest e) y)
     (subst (λ (m : List Token). Walks T (i ∷ ks) h m) (longer k g us rest e) x) lt
-    (go_on T js g rest w (Turns gr ∷ is) k us z e))
+    (go_on T js g rest w (Repeats gr ∷ is) k us z e))
 go_on T js g rest w (Span ∷ is) f us (span {f = k} h a y x) e =
     subst (λ (m : Forest). Walks T (Span ∷ (is ++ js)) m rest) (sym (forest_assoc h k g))
     (span h a (subst (λ (m : List Token). T.span (leaves h ++ m) ≡ length (leaves h)) (longer k g us rest e) y) (go_on T js g rest w is k us x e))
@@ -63,21 +63,21 @@ group_alone v gr h rest w = subst (λ (m : Forest). Walks (php v) (Part gr ∷ [
 
 -- ---- statements
 
--- what begins a statement is a turn of statements
-begins_turn : (c : Terminal) → begins_statement c ≡ true → turn_of c ≡ Node s.Statement ∷ []
-begins_turn t.CloseBrace h = absurd (false_true h)
-begins_turn t.End h = absurd (false_true h)
-begins_turn t.Case h = absurd (false_true h)
-begins_turn t.Default h = absurd (false_true h)
-begins_turn t.Else h = absurd (false_true h)
-begins_turn t.ElseIf h = absurd (false_true h)
-begins_turn t.EndDeclare h = absurd (false_true h)
-begins_turn t.EndFor h = absurd (false_true h)
-begins_turn t.EndForeach h = absurd (false_true h)
-begins_turn t.EndIf h = absurd (false_true h)
-begins_turn t.EndSwitch h = absurd (false_true h)
-begins_turn t.EndWhile h = absurd (false_true h)
-begins_turn c h = refl
+-- what begins a statement is a repeat of statements
+begins_repeat : (c : Terminal) → begins_statement c ≡ true → repeat_of c ≡ Node s.Statement ∷ []
+begins_repeat t.CloseBrace h = absurd (false_true h)
+begins_repeat t.End h = absurd (false_true h)
+begins_repeat t.Case h = absurd (false_true h)
+begins_repeat t.Default h = absurd (false_true h)
+begins_repeat t.Else h = absurd (false_true h)
+begins_repeat t.ElseIf h = absurd (false_true h)
+begins_repeat t.EndDeclare h = absurd (false_true h)
+begins_repeat t.EndFor h = absurd (false_true h)
+begins_repeat t.EndForeach h = absurd (false_true h)
+begins_repeat t.EndIf h = absurd (false_true h)
+begins_repeat t.EndSwitch h = absurd (false_true h)
+begins_repeat t.EndWhile h = absurd (false_true h)
+begins_repeat c h = refl
 
 -- a statement ends before another
 begins_closes : (c : Terminal) → begins_statement c ≡ true → closes_statement c ≡ true
@@ -124,7 +124,7 @@ node_counts j c h n le = (omega arith, omega arith)
 
 -- Statements up to what ends them.
 pub statements_read : (v : Version) (n : ℕ) → Below v n → (f : Forest) (us : List Token) → Fits v statements f
-    → count f ≤ n → turn_of (first_of us) ≡ [] → Last f us → Walks (php v) (Turns g.Statements ∷ []) f us
+    → count f ≤ n → repeat_of (first_of us) ≡ [] → Last f us → Walks (php v) (Repeats g.Statements ∷ []) f us
 statements_read v n below f us no_more le e l = stop e ends
 statements_read v n below f us (once_more {g = a} {h = h} x y at) le e l =
     let q : (j : NodeKind) × (b : Forest) × (a ≡ node j b none) × (may_stand v Statement (j, b) ≡ true) × IsNode v j b = place_is v Statement a x in
@@ -134,14 +134,14 @@ statements_read v n below f us (once_more {g = a} {h = h} x y at) le e l =
     let z : Spells (php v) s.Statement (q.0, q.1) (leaves h ++ us) =
     below.placed Statement s.Statement q.0 q.1 (leaves h ++ us) refl two.0 q.3 q.4
     (ends_before v q.0 q.1 h us y l2) in
-    subst (λ (m : Forest). Walks (php v) (Turns g.Statements ∷ []) m us) (sym at)
-    (turn (begins_turn (first_of (leaves a ++ (leaves h ++ us))) (statement_begins v a (leaves h ++ us) x))
+    subst (λ (m : Forest). Walks (php v) (Repeats g.Statements ∷ []) m us) (sym at)
+    (repeat (begins_repeat (first_of (leaves a ++ (leaves h ++ us))) (statement_begins v a (leaves h ++ us) x))
     (subst (λ (m : Forest). Walks (php v) (Node s.Statement ∷ []) m (leaves h ++ us)) (sym q.2) (child {f = none} z.0 z.1 ends))
     (has_token v statement a x refl)
     (statements_read v n below h us y two.1 e (last_rest q.0 q.1 h us l2)))
 
 -- The statements of a file are read up to its end.
 pub file_walks : (v : Version) (n : ℕ) → Below v n → (f : Forest) (rest : List Token) → Fits v statements f
-    → count f ≤ n → first_of rest ≡ t.End → Walks (php v) (Turns g.Statements ∷ []) f rest
+    → count f ≤ n → first_of rest ≡ t.End → Walks (php v) (Repeats g.Statements ∷ []) f rest
 file_walks v n below f rest x le e =
-    statements_read v n below f rest x le (ap turn_of e) (last_closed f rest (ap closes_statement e))
+    statements_read v n below f rest x le (ap repeat_of e) (last_closed f rest (ap closes_statement e))

@@ -15,7 +15,7 @@ use Rattle.php_forms.specs.declared.item.Sort.{Sort}
 use Rattle.php_forms.specs.declared.item.Sort.TheVariants as s
 use Rattle.php_forms.specs.declared.item.Group.TheVariants as g
 use Rattle.php_forms.specs.declared.item.Item.{Item}
-use Rattle.php_forms.specs.declared.item.Item.TheVariants.{Word, Part, Turns}
+use Rattle.php_forms.specs.declared.item.Item.TheVariants.{Word, Part, Repeats}
 use Rattle.php_forms.specs.Forms.{any, or_else}
 use Rattle.php_forms.specs.Grammar.{Form, Grows, head}
 use Rattle.php_forms.specs.Heads.{is_some_modifier, behind_modifiers, case_form, member_form, modified_form, trait_use_form}
@@ -210,7 +210,7 @@ property_grows v n below = modified v n below k.Property property_rest ((modifie
 abbrev pub KindGrows : Version → ℕ → NodeKind → Sort → Type 0
 KindGrows v n j sort = (c : Forest) (rest : List Token) → count c ≤ n → IsNode v j c → stops sort (first_of rest) ≡ true → Grows (php v) sort j c rest
 
-block_matches : (v : Version) → matches v 60 false (form v k.Block ∷ []) (Word t.OpenBrace ∷ Turns g.Statements ∷ Word t.CloseBrace ∷ []) any_class ≡ true
+block_matches : (v : Version) → matches v 60 false (form v k.Block ∷ []) (Word t.OpenBrace ∷ Repeats g.Statements ∷ Word t.CloseBrace ∷ []) any_class ≡ true
 unfolding for_all
 block_matches V74 = refl
 block_matches V83 = refl
@@ -228,7 +228,7 @@ type_matches V83 = refl
 
 pub body_grows : (v : Version) (n : ℕ) → Below v n → KindGrows v n k.Block s.Block
 body_grows v n below c rest le x e = grows_by v n below s.Block false k.Block
-    (Word t.OpenBrace ∷ Turns g.Statements ∷ Word t.CloseBrace ∷ []) any_class (block_matches v) c rest le x refl
+    (Word t.OpenBrace ∷ Repeats g.Statements ∷ Word t.CloseBrace ∷ []) any_class (block_matches v) c rest le x refl
     (λ f. absurd (false_true f)) refl
 
 pub param_grows : (v : Version) (n : ℕ) → Below v n → KindGrows v n k.Param s.Param
@@ -243,8 +243,8 @@ type_grows v n below c rest le x e = grows_by v n below s.TypeName false k.TypeN
 
 -- `case` or `default`
 abbrev case_items : Terminal → List Item
-case_items t.Case = Word t.Case ∷ any ∷ Part g.CaseMark ∷ Turns g.Statements ∷ []
-case_items _ = Word t.Default ∷ Part g.CaseMark ∷ Turns g.Statements ∷ []
+case_items t.Case = Word t.Case ∷ any ∷ Part g.CaseMark ∷ Repeats g.Statements ∷ []
+case_items _ = Word t.Default ∷ Part g.CaseMark ∷ Repeats g.Statements ∷ []
 
 abbrev case_rest : Rule
 case_rest = (word t.Colon ||| word t.Semi) ~ statements

@@ -9,9 +9,9 @@ use Rattle.php_terminals.specs.declared.terminal.Terminal.TheVariants as t
 use Rattle.php_terminals.specs.Ahead.{first_of}
 use Rattle.php_forms.specs.declared.item.Group.TheVariants as g
 use Rattle.php_forms.specs.declared.item.Item.{Item}
-use Rattle.php_forms.specs.declared.item.Item.TheVariants.{Word, Part, Turns}
+use Rattle.php_forms.specs.declared.item.Item.TheVariants.{Word, Part, Repeats}
 use Rattle.php_forms.specs.Declarations.{class_alias, class_use_rest, more_class_uses}
-use Rattle.php_forms.specs.Grammar.{Walks, ends, word as a_word, stop, turn}
+use Rattle.php_forms.specs.Grammar.{Walks, ends, word as a_word, stop, repeat}
 use Rattle.php_grammar.specs.Accepts.{accepts}
 use Rattle.php_grammar.specs.Tables.{php}
 use Rattle.php_exprs.proofs.Forests.{forest_assoc}
@@ -133,18 +133,18 @@ next_walks v a us x h =
 
 more_by : (v : Version) (r : Rule) (us : List Token) → ((a : Forest) → Fits v r a → Fits v (more_imported v) a)
     → ((m : Forest) → Fits v (many r) m → ends_one (first_of (leaves m ++ us)) ≡ true) → is_semi (first_of us) ≡ true
-    → (f : Forest) → Fits v (many r) f → Walks (php v) (Turns g.MoreClassUses ∷ []) f us
+    → (f : Forest) → Fits v (many r) f → Walks (php v) (Repeats g.MoreClassUses ∷ []) f us
 more_by v r us same closed h f no_more = stop (semi_ends (first_of us) h) ends
 more_by v r us same closed h f (once_more {g = a} {h = m} x y at) =
-    subst (λ (i : Forest). Walks (php v) (Turns g.MoreClassUses ∷ []) i us) (sym at)
-    (turn {h = a} {f = m} (ap more_class_uses (begun v (more_imported v) t.Comma a (leaves m ++ us) (same a x) refl ((more_begins v).0)))
+    subst (λ (i : Forest). Walks (php v) (Repeats g.MoreClassUses ∷ []) i us) (sym at)
+    (repeat {h = a} {f = m} (ap more_class_uses (begun v (more_imported v) t.Comma a (leaves m ++ us) (same a x) refl ((more_begins v).0)))
     (next_walks v a (leaves m ++ us) (same a x) (closed m y))
     (has_token v (more_imported v) a (same a x) refl) (more_by v r us same closed h m y))
 
-more_walks : (v : Version) (f : Forest) (us : List Token) → Fits v (many (more_imported v)) f → is_semi (first_of us) ≡ true → Walks (php v) (Turns g.MoreClassUses ∷ []) f us
+more_walks : (v : Version) (f : Forest) (us : List Token) → Fits v (many (more_imported v)) f → is_semi (first_of us) ≡ true → Walks (php v) (Repeats g.MoreClassUses ∷ []) f us
 more_walks v f us x h = more_by v (more_imported v) us (λ a y. y) (λ m y. more_end v m us y h) h f x
 
-rest_of : (c : Terminal) → is_backslash c ≡ false → class_use_rest c ≡ Part g.ClassAlias ∷ Turns g.MoreClassUses ∷ []
+rest_of : (c : Terminal) → is_backslash c ≡ false → class_use_rest c ≡ Part g.ClassAlias ∷ Repeats g.MoreClassUses ∷ []
 rest_of t.Backslash h = absurd (false_true (sym h))
 rest_of c h = refl
 
@@ -165,4 +165,4 @@ classes_walk v f us x h =
     (walks_on (php v) (Part g.UsedClass ∷ []) (Part g.ClassUseRest ∷ []) i.name r us
     (subst (λ (ts : List Token). Walks (php v) (Part g.UsedClass ∷ []) i.name ts) (sym same) (i.used next e))
     (group_alone v g.ClassUseRest r us (subst (λ (is : List Item). Walks (php v) is r us) (sym (rest_of (first_of (leaves r ++ us)) no))
-    (walks_on (php v) (Part g.ClassAlias ∷ []) (Turns g.MoreClassUses ∷ []) i.alias p.1 us (i.aliased next e) (more_walks v p.1 us p.3 h)))))
+    (walks_on (php v) (Part g.ClassAlias ∷ []) (Repeats g.MoreClassUses ∷ []) i.alias p.1 us (i.aliased next e) (more_walks v p.1 us p.3 h)))))

@@ -12,7 +12,7 @@ use Rattle.php_terminals.specs.Ahead.{first_of, second_of}
 use Rattle.php_forms.specs.declared.item.Sort.TheVariants as s
 use Rattle.php_forms.specs.declared.item.Group.TheVariants as g
 use Rattle.php_forms.specs.declared.item.Item.{Item}
-use Rattle.php_forms.specs.declared.item.Item.TheVariants.{Word, Node, Part, Turns}
+use Rattle.php_forms.specs.declared.item.Item.TheVariants.{Word, Node, Part, Repeats}
 use Rattle.php_forms.specs.Forms.{any}
 use Rattle.php_forms.specs.Grammar.{Walks, Grows, ends, head, word as a_word}
 use Rattle.php_grammar.specs.Accepts.{accepts}
@@ -194,7 +194,7 @@ closes_bracket t.CloseParen = true
 closes_bracket t.CloseBracket = true
 closes_bracket _ = false
 
-items_test : (v : Version) → matches v 60 false (some_items ∷ []) (Node s.Item ∷ Turns g.MoreItems ∷ []) closes_bracket ≡ true
+items_test : (v : Version) → matches v 60 false (some_items ∷ []) (Node s.Item ∷ Repeats g.MoreItems ∷ []) closes_bracket ≡ true
 unfolding for_all
 items_test V74 = refl
 items_test V83 = refl
@@ -204,7 +204,7 @@ unfolding for_all
 items_begin V74 = refl
 items_begin V83 = refl
 
-array_at : (c : Terminal) → not (closes_bracket c) ≡ true → array_items c ≡ Node s.Item ∷ Turns g.MoreItems ∷ []
+array_at : (c : Terminal) → not (closes_bracket c) ≡ true → array_items c ≡ Node s.Item ∷ Repeats g.MoreItems ∷ []
 array_at t.CloseParen e = absurd (false_true e)
 array_at t.CloseBracket e = absurd (false_true e)
 array_at c e = refl
@@ -219,10 +219,10 @@ items_walk : (v : Version) (n : ℕ) → Below v n → (c : Forest) (rest : List
 items_walk v n below c rest (is_first x) le h = group_alone v g.ArrayItems [] c rest
     (ap (λ (z : Forest). array_items (first_of (leaves z ++ rest))) (nothing_is v c x) ∙ no_array (first_of rest) h)
     (subst (λ (z : Forest). Walks (php v) [] z rest) (sym (nothing_is v c x)) ends)
-items_walk v n below c rest (is_second x) le h = group_alone v g.ArrayItems (Node s.Item ∷ Turns g.MoreItems ∷ []) c
+items_walk v n below c rest (is_second x) le h = group_alone v g.ArrayItems (Node s.Item ∷ Repeats g.MoreItems ∷ []) c
     rest (array_at (first_of (leaves c ++ rest))
     (starts_with v some_items (λ c. not (closes_bracket c)) c rest (items_begin v) refl x))
-    (matched v n below 60 false (some_items ∷ []) (Node s.Item ∷ Turns g.MoreItems ∷ []) closes_bracket c rest
+    (matched v n below 60 false (some_items ∷ []) (Node s.Item ∷ Repeats g.MoreItems ∷ []) closes_bracket c rest
     (items_test v) (fits_alone v some_items c x) le h (λ z. absurd (false_true z)))
 
 -- a group between two words

@@ -13,7 +13,7 @@ use Rattle.php_terminals.specs.Ahead.{first_of, second_of}
 use Rattle.php_forms.specs.declared.item.Sort.TheVariants as s
 use Rattle.php_forms.specs.declared.item.Group.TheVariants as g
 use Rattle.php_forms.specs.declared.item.Item.{Item}
-use Rattle.php_forms.specs.declared.item.Item.TheVariants.{Word, Node, Part, Turns}
+use Rattle.php_forms.specs.declared.item.Item.TheVariants.{Word, Node, Part, Repeats}
 use Rattle.php_forms.specs.Forms.{or_else}
 use Rattle.php_forms.specs.Grammar.{Form, Walks, head, ends, part}
 use Rattle.php_forms.specs.Heads.{chosen_by, function_form, label_form, name_of_function, static_form, statement_form}
@@ -76,7 +76,7 @@ abbrev class_rest : Version → Rule
 class_rest v = many (word t.ClassModifier) ~ word t.Class ~ word t.ClassLabel ~ inheritance v ~ members
 
 abbrev class_items : List Item
-class_items = Turns g.ClassModifiers ∷ Word t.Class ∷ Word t.ClassLabel ∷ Part g.Extends ∷ Part g.Implements ∷ Word t.OpenBrace ∷ Turns g.Members ∷ Word t.CloseBrace ∷ []
+class_items = Repeats g.ClassModifiers ∷ Word t.Class ∷ Word t.ClassLabel ∷ Part g.Extends ∷ Part g.Implements ∷ Word t.OpenBrace ∷ Repeats g.Members ∷ Word t.CloseBrace ∷ []
 
 class_matches_74 : matches V74 60 true (class_rest V74 ∷ []) class_items follows_statement ≡ true
 unfolding for_all

@@ -15,7 +15,7 @@ use Rattle.php_terminals.specs.Marks.{is_name_part}
 use Rattle.php_forms.specs.declared.item.Sort.TheVariants as s
 use Rattle.php_forms.specs.declared.item.Group.TheVariants as g
 use Rattle.php_forms.specs.declared.item.Item.{Item}
-use Rattle.php_forms.specs.declared.item.Item.TheVariants.{Word, Part, Turns}
+use Rattle.php_forms.specs.declared.item.Item.TheVariants.{Word, Part, Repeats}
 use Rattle.php_forms.specs.Forms.{or_else}
 use Rattle.php_forms.specs.Grammar.{Form, Grows, Walks, head, onward, Spells}
 use Rattle.php_forms.specs.Heads.{chosen_by, expression_form, label_form, statement_form}
@@ -36,7 +36,7 @@ use Rattle.php_shapes.proofs.ReadStops.{ends_here}
 use Rattle.php_shapes.proofs.ReadNearest.{follows, follows_statement, last_of, shaped}
 use Rattle.php_shapes.proofs.ReadBodies.{node_counts}
 use Rattle.php_shapes.proofs.ReadStatements.{first_in, grows_by, StatementGrows}
-use Rattle.php_shapes.proofs.ReadWalks.{no_items, no_turns, part_first, word_first}
+use Rattle.php_shapes.proofs.ReadWalks.{no_items, no_repeats, part_first, word_first}
 use Rattle.php_shapes.proofs.ReadFirstTokens.{at_class, FirstForm, first_form, function_fine, namespace_fine, none_some, operand_at, some_form, static_fine}
 
 -- ---- labels: a colon behind one stands behind the whole expression
@@ -73,18 +73,18 @@ alone_by : (v : Version) (f : Forest) (us : List Token) → is_any_label (first_
 alone_by V74 f us h e w =
     let p : (a : Forest) × (m : Forest) × (f ≡ a +++ m) × Walks (php V74)
     (name_lead (first_of (leaves a ++ (leaves m ++ us)))) a (leaves m ++ us)
-    × Walks (php V74) (Word t.AnyLabel ∷ Turns g.NameMore ∷ []) m us =
-    part_first (php V74) g.NameLead (Word t.AnyLabel ∷ Turns g.NameMore ∷ []) f us w in
+    × Walks (php V74) (Word t.AnyLabel ∷ Repeats g.NameMore ∷ []) m us =
+    part_first (php V74) g.NameLead (Word t.AnyLabel ∷ Repeats g.NameMore ∷ []) f us w in
     let same : leaves f ++ us ≡ leaves p.0 ++ (leaves p.1 ++ us) = ap (λ (i : Forest). leaves i ++ us) p.2 ∙ leaves_before p.0 p.1 us in
     let no : p.0 ≡ none = no_items (php V74) p.0 (leaves p.1 ++ us)
     (subst (λ (is : List Item). Walks (php V74) is p.0 (leaves p.1 ++ us))
     (ap name_lead (sym (ap first_of same)) ∙ label_leads (first_of (leaves f ++ us)) h) p.3) in
     let q : (x : Token) × (m : Forest) × (p.1 ≡ leaf x m) × (accepts V74 t.AnyLabel x ≡ true)
-    × Walks (php V74) (Turns g.NameMore ∷ []) m us = word_first (php V74) t.AnyLabel (Turns g.NameMore ∷ []) p.1
+    × Walks (php V74) (Repeats g.NameMore ∷ []) m us = word_first (php V74) t.AnyLabel (Repeats g.NameMore ∷ []) p.1
     us p.4 in
     let one : f ≡ leaf q.0 q.1 = p.2 ∙ ap (λ (i : Forest). i +++ p.1) no ∙ q.2 in
     let colon : first_of (leaves q.1 ++ us) ≡ t.Colon = ap (λ (i : Forest). second_of (leaves i ++ us)) (sym one) ∙ e in
-    let stopped : q.1 ≡ none = no_items (php V74) q.1 us (no_turns (php V74) g.NameMore [] q.1 us (ap (λ (c : Terminal). name_more c (second_of (leaves q.1 ++ us))) colon) q.4) in
+    let stopped : q.1 ≡ none = no_items (php V74) q.1 us (no_repeats (php V74) g.NameMore [] q.1 us (ap (λ (c : Terminal). name_more c (second_of (leaves q.1 ++ us))) colon) q.4) in
     ap (λ (i : Forest). first_of (leaves i ++ us)) (sym stopped) ∙ colon
 alone_by V83 f us h e w =
     let q : (x : Token) × (m : Forest) × (f ≡ leaf x m) × (accepts V83 t.NameToken x ≡ true) × Walks (php V83) [] m us = word_first (php V83) t.NameToken [] f us w in

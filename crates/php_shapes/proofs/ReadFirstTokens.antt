@@ -15,7 +15,7 @@ use Rattle.php_forms.specs.declared.item.Sort.TheVariants as s
 use Rattle.php_forms.specs.declared.item.Group.{Group}
 use Rattle.php_forms.specs.declared.item.Group.TheVariants as g
 use Rattle.php_forms.specs.declared.item.Item.{Item}
-use Rattle.php_forms.specs.declared.item.Item.TheVariants.{Word, Node, Part, Turns}
+use Rattle.php_forms.specs.declared.item.Item.TheVariants.{Word, Node, Part, Repeats}
 use Rattle.php_forms.specs.Atoms.{atom_form}
 use Rattle.php_forms.specs.Declarations.{by_ref}
 use Rattle.php_forms.specs.Forms.{or_else}
@@ -177,8 +177,8 @@ by_version : (v : Version) (gr : Group) (h : Forest) (ws : List Token) → (gr �
     → first_of (leaves h ++ ws) ≡ t.Namespace → Walks (php v) (parts v gr (leaves h ++ ws)) h ws
     → second_of (leaves h ++ ws) ≡ t.Backslash
 by_version V74 gr h ws o e w = elim o [
-  | inl a ↦ lead_second (Word t.AnyLabel ∷ Turns g.NameMore ∷ []) h ws e (subst (λ (x : Group). Walks (php V74) (parts V74 x (leaves h ++ ws)) h ws) a w)
-  | inr a ↦ lead_second (Word t.AnyLabel ∷ Turns g.NameMore ∷ []) h ws e (subst (λ (x : Group). Walks (php V74) (parts V74 x (leaves h ++ ws)) h ws) a w)
+  | inl a ↦ lead_second (Word t.AnyLabel ∷ Repeats g.NameMore ∷ []) h ws e (subst (λ (x : Group). Walks (php V74) (parts V74 x (leaves h ++ ws)) h ws) a w)
+  | inr a ↦ lead_second (Word t.AnyLabel ∷ Repeats g.NameMore ∷ []) h ws e (subst (λ (x : Group). Walks (php V74) (parts V74 x (leaves h ++ ws)) h ws) a w)
 ]
 by_version V83 gr h ws o e w = elim o [
   | inl a ↦ not_whole t.NameToken [] h ws refl e (subst (λ (x : Group). Walks (php V83) (parts V83 x (leaves h ++ ws)) h ws) a w)

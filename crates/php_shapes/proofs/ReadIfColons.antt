@@ -12,11 +12,11 @@ use Rattle.php_terminals.specs.Ahead.{first_of}
 use Rattle.php_forms.specs.declared.item.Sort.TheVariants as s
 use Rattle.php_forms.specs.declared.item.Group.TheVariants as g
 use Rattle.php_forms.specs.declared.item.Item.{Item}
-use Rattle.php_forms.specs.declared.item.Item.TheVariants.{Word, Part, Turns}
+use Rattle.php_forms.specs.declared.item.Item.TheVariants.{Word, Part, Repeats}
 use Rattle.php_forms.specs.Forms.{any}
-use Rattle.php_forms.specs.Grammar.{Grows, Walks, head, ends, part, stop, turn}
+use Rattle.php_forms.specs.Grammar.{Grows, Walks, head, ends, part, stop, repeat}
 use Rattle.php_forms.specs.Heads.{if_form, statement_form}
-use Rattle.php_forms.specs.Statements.{alt_else, alt_else_ifs, statements as turn_of}
+use Rattle.php_forms.specs.Statements.{alt_else, alt_else_ifs, statements as repeat_of}
 use Rattle.php_grammar.specs.Accepts.{accepts, same_class}
 use Rattle.php_grammar.specs.Tables.{php}
 use Rattle.php_exprs.proofs.Forests.{forest_assoc}
@@ -59,22 +59,22 @@ ending = Word t.EndIf ∷ Word t.Semi ∷ []
 -- parts that begin with a token before which statements end
 abbrev Halts : Forest → Type 0
 Halts none = ⊥
-Halts (leaf x f) = (follows_statement (terminal x) ≡ true) × (turn_of (terminal x) ≡ [])
+Halts (leaf x f) = (follows_statement (terminal x) ≡ true) × (repeat_of (terminal x) ≡ [])
 Halts (node j b f) = ⊥
 
 halted : (before : Bool) (a m : Forest) (rest : List Token) → Halts m → elses_are_nearest before (a +++ m) ≡ true
-    → Last a (leaves m ++ rest) × (turn_of (first_of (leaves m ++ rest)) ≡ [])
+    → Last a (leaves m ++ rest) × (repeat_of (first_of (leaves m ++ rest)) ≡ [])
 halted before a none rest h e = absurd h
 halted before a (leaf x m) rest h e = (last_near before a x m (leaves m ++ rest) e h.0, h.1)
 halted before a (node j b m) rest h e = absurd h
 
 halts_with : (v : Version) (w : Terminal) (r : Rule) (f m : Forest)
-    → for_all (λ c. whenever (could v w c) (same_class w c)) ≡ true → follows_statement w ≡ true → turn_of w ≡ []
+    → for_all (λ c. whenever (could v w c) (same_class w c)) ≡ true → follows_statement w ≡ true → repeat_of w ≡ []
     → Fits v (word w ~ r) f → Halts (f +++ m)
 halts_with v w r f m p d n (is_both {g = g} {h = h} x y e) =
     let q : (z : Token) × (g ≡ leaf z none) × (accepts v w z ≡ true) = word_is v w g x in
     subst (λ (i : Forest). Halts (i +++ m)) (sym (e ∙ ap (λ (i : Forest). i +++ h) q.1))
-    (subst (λ (c : Terminal). (follows_statement c ≡ true) × (turn_of c ≡ [])) (sym (pinned v w q.0 p q.2)) (d, n))
+    (subst (λ (c : Terminal). (follows_statement c ≡ true) × (repeat_of c ≡ [])) (sym (pinned v w q.0 p q.2)) (d, n))
 
 pinned_words : (v : Version) → (for_all (λ c. whenever (could v t.Else c) (same_class t.Else c)) ≡ true)
     × (for_all (λ c. whenever (could v t.ElseIf c) (same_class t.ElseIf c)) ≡ true)
@@ -131,13 +131,13 @@ module _ (v : Version) (n : ℕ) (below : Below v n) where
   opened : (rs : List Rule) (is : List Item) (before : Bool) (b q m : Forest) (rest : List Token)
       → matches v 60 false rs is any_class ≡ true → FitsAll v rs b → Fits v statements q → Halts m
       → elses_are_nearest before ((b +++ q) +++ m) ≡ true → count (b +++ q) ≤ n
-      → Walks (php v) (is ++ (Turns g.Statements ∷ [])) (b +++ q) (leaves m ++ rest)
+      → Walks (php v) (is ++ (Repeats g.Statements ∷ [])) (b +++ q) (leaves m ++ rest)
   opened rs is before b q m rest e x y h near le =
       let after : (o : Bool) × (elses_are_nearest o (q +++ m) ≡ true) =
       nearest_right before b (q +++ m) (subst (λ (i : Forest). elses_are_nearest before i ≡ true)
       (forest_assoc b q m) near) in
-      let z : Last q (leaves m ++ rest) × (turn_of (first_of (leaves m ++ rest)) ≡ []) = halted after.0 q m rest h after.1 in
-      walks_on (php v) is (Turns g.Statements ∷ []) b q (leaves m ++ rest)
+      let z : Last q (leaves m ++ rest) × (repeat_of (first_of (leaves m ++ rest)) ≡ []) = halted after.0 q m rest h after.1 in
+      walks_on (php v) is (Repeats g.Statements ∷ []) b q (leaves m ++ rest)
       (matched v n below 60 false rs is any_class b (leaves q ++ (leaves m ++ rest)) e x (left_le b q n le) refl (λ f. absurd (false_true f)))
       (statements_read v n below q (leaves m ++ rest) y (right_le b q n le) z.1 z.0)
 
@@ -147,11 +147,11 @@ module _ (v : Version) (n : ℕ) (below : Below v n) where
   -- the `else`, or none, and the end
   else_walks : (before : Bool) (h z : Forest) (rest : List Token) → Fits v (maybe alt_else_rule) h → Fits v alt_end z
       → elses_are_nearest before (h +++ z) ≡ true → count (h +++ z) ≤ n
-      → Walks (php v) (Turns g.AltElseIfs ∷ Part g.AltElse ∷ ending) (h +++ z) rest
+      → Walks (php v) (Repeats g.AltElseIfs ∷ Part g.AltElse ∷ ending) (h +++ z) rest
   else_walks before h z rest (is_first x) y near le =
       let no : h ≡ none = nothing_is v h x in
       let b : first_of (leaves z ++ rest) ≡ t.EndIf = begun v alt_end t.EndIf z rest y refl ((first_words v).2) in
-      subst (λ (m : Forest). Walks (php v) (Turns g.AltElseIfs ∷ Part g.AltElse ∷ ending) (m +++ z) rest) (sym no)
+      subst (λ (m : Forest). Walks (php v) (Repeats g.AltElseIfs ∷ Part g.AltElse ∷ ending) (m +++ z) rest) (sym no)
       (stop (ap alt_else_ifs b) (part {h = none} {f = z} (subst
       (λ (is : List Item). Walks (php v) is none (leaves z ++ rest)) (sym (ap alt_else b)) ends)
       (end_walks z rest y (right_le h z n le))))
@@ -162,8 +162,8 @@ module _ (v : Version) (n : ℕ) (below : Below v n) where
       let at : h ≡ (p.0 +++ q.0) +++ q.1 = p.4 ∙ ap (λ (i : Forest). p.0 +++ i) q.4 ∙ sym (forest_assoc p.0 q.0 q.1) in
       let b : first_of (leaves h ++ (leaves z ++ rest)) ≡ t.Else = begun v alt_else_rule t.Else h (leaves z ++ rest) x refl ((first_words v).0) in
       let hs : Halts z = subst Halts (before_none z) (end_halts v z none y) in
-      let w : Walks (php v) (else_opening ++ (Turns g.Statements ∷ [])) h (leaves z ++ rest) =
-      subst (λ (m : Forest). Walks (php v) (else_opening ++ (Turns g.Statements ∷ [])) m (leaves z ++ rest))
+      let w : Walks (php v) (else_opening ++ (Repeats g.Statements ∷ [])) h (leaves z ++ rest) =
+      subst (λ (m : Forest). Walks (php v) (else_opening ++ (Repeats g.Statements ∷ [])) m (leaves z ++ rest))
       (sym at) (opened (word t.Else ∷ word t.Colon ∷ []) else_opening before (p.0 +++ q.0) q.1 z rest
       (else_opens v) (p.0, q.0, p.2, fits_alone v (word t.Colon) q.0 q.2, refl) q.3 hs
       (subst (λ (m : Forest). elses_are_nearest before (m +++ z) ≡ true) at near)
@@ -174,7 +174,7 @@ module _ (v : Version) (n : ℕ) (below : Below v n) where
   -- each `elseif`, and then the others
   else_ifs_walk : (before : Bool) (p h z : Forest) (rest : List Token) → Fits v (many alt_else_if) p
       → Fits v (maybe alt_else_rule) h → Fits v alt_end z → elses_are_nearest before (p +++ (h +++ z)) ≡ true
-      → count (p +++ (h +++ z)) ≤ n → Walks (php v) (Turns g.AltElseIfs ∷ Part g.AltElse ∷ ending) (p +++ (h +++ z))
+      → count (p +++ (h +++ z)) ≤ n → Walks (php v) (Repeats g.AltElseIfs ∷ Part g.AltElse ∷ ending) (p +++ (h +++ z))
       rest
   else_ifs_walk before p h z rest no_more y w near le = else_walks before h z rest y w near le
   else_ifs_walk before p h z rest (once_more {g = a} {h = m} x xs e) y w near le =
@@ -191,8 +191,8 @@ module _ (v : Version) (n : ℕ) (below : Below v n) where
       let b : Forest = o1.0 +++ (o2.0 +++ o3.0) in
       let at : a ≡ b +++ o3.1 = o1.4 ∙ ap (λ (i : Forest). o1.0 +++ i) (o2.4 ∙ ap (λ (i : Forest). o2.0 +++ i) o3.4) ∙ regroup o1.0 o2.0 o3.0 o3.1 in
       let after : (o : Bool) × (elses_are_nearest o f ≡ true) = nearest_right before a f near2 in
-      let wa : Walks (php v) (opening t.ElseIf ++ (Turns g.Statements ∷ [])) a (leaves f ++ rest) =
-      subst (λ (i : Forest). Walks (php v) (opening t.ElseIf ++ (Turns g.Statements ∷ [])) i (leaves f ++ rest))
+      let wa : Walks (php v) (opening t.ElseIf ++ (Repeats g.Statements ∷ [])) a (leaves f ++ rest) =
+      subst (λ (i : Forest). Walks (php v) (opening t.ElseIf ++ (Repeats g.Statements ∷ [])) i (leaves f ++ rest))
       (sym at) (opened (word t.ElseIf ∷ condition ∷ word t.Colon ∷ []) (opening t.ElseIf) before b o3.1 f rest
       (else_if_opens v) (
         o1.0,
@@ -203,8 +203,8 @@ module _ (v : Version) (n : ℕ) (below : Below v n) where
       ) o3.3 (ifs_halt v m h z xs y w)
       (subst (λ (i : Forest). elses_are_nearest before (i +++ f) ≡ true) at near2)
       (subst (λ (i : Forest). count i ≤ n) at (left_le a f n le2))) in
-      subst (λ (i : Forest). Walks (php v) (Turns g.AltElseIfs ∷ Part g.AltElse ∷ ending) i rest) (sym whole)
-      (turn {h = a} {f = f} (ap alt_else_ifs (begun v alt_else_if t.ElseIf a (leaves f ++ rest) x refl ((first_words v).1))) wa (has_token v alt_else_if a x refl)
+      subst (λ (i : Forest). Walks (php v) (Repeats g.AltElseIfs ∷ Part g.AltElse ∷ ending) i rest) (sym whole)
+      (repeat {h = a} {f = f} (ap alt_else_ifs (begun v alt_else_if t.ElseIf a (leaves f ++ rest) x refl ((first_words v).1))) wa (has_token v alt_else_if a x refl)
       (else_ifs_walk after.0 m h z rest xs y w after.1 (right_le a f n le2)))
 
 -- ---- the whole
@@ -231,8 +231,8 @@ whole_grows v n below c i d o b p h z rest xi xd xo xb xp xh xz e le x =
     (o +++ (b +++ f)) rest (is_both xo (is_both xb (is_both xp (is_both xh xz refl) refl) refl) refl) refl
     (colon_first v) in
     head (ap (λ (y : Forest). statement_form (leaves y ++ rest)) e ∙ if_chosen v i d (o +++ (b +++ f)) rest xi xd ∙ ap (λ (u : Terminal). Some (if_form u)) colon)
-    (subst (λ (y : Forest). Walks (php v) ((opening t.If ++ (Turns g.Statements ∷ [])) ++ (Turns g.AltElseIfs ∷ Part g.AltElse ∷ ending)) y rest) (sym at)
-    (walks_on (php v) (opening t.If ++ (Turns g.Statements ∷ [])) (Turns g.AltElseIfs ∷ Part g.AltElse ∷ ending) (a +++ b) f rest
+    (subst (λ (y : Forest). Walks (php v) ((opening t.If ++ (Repeats g.Statements ∷ [])) ++ (Repeats g.AltElseIfs ∷ Part g.AltElse ∷ ending)) y rest) (sym at)
+    (walks_on (php v) (opening t.If ++ (Repeats g.Statements ∷ [])) (Repeats g.AltElseIfs ∷ Part g.AltElse ∷ ending) (a +++ b) f rest
     (opened v n below (word t.If ∷ condition ∷ word t.Colon ∷ []) (opening t.If) false a b f rest (if_opens v)
     (i, d +++ o, xi, (d, o, xd, fits_alone v (word t.Colon) o xo, refl), refl) xb (ifs_halt v p h z xp xh xz) near
     (left_le (a +++ b) f n le2))

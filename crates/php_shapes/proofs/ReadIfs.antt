@@ -12,9 +12,9 @@ use Rattle.php_terminals.specs.Ahead.{first_of, past_group}
 use Rattle.php_forms.specs.declared.item.Sort.TheVariants as s
 use Rattle.php_forms.specs.declared.item.Group.TheVariants as g
 use Rattle.php_forms.specs.declared.item.Item.{Item}
-use Rattle.php_forms.specs.declared.item.Item.TheVariants.{Word, Node, Part, Turns}
+use Rattle.php_forms.specs.declared.item.Item.TheVariants.{Word, Node, Part, Repeats}
 use Rattle.php_forms.specs.Forms.{any, or_else}
-use Rattle.php_forms.specs.Grammar.{Grows, Walks, head, ends, part, stop, turn}
+use Rattle.php_forms.specs.Grammar.{Grows, Walks, head, ends, part, stop, repeat}
 use Rattle.php_forms.specs.Heads.{chosen_by, if_form, statement_form}
 use Rattle.php_forms.specs.Statements.{else_ifs, else_part, simple_form}
 use Rattle.php_grammar.specs.Accepts.{accepts, same_class}
@@ -128,11 +128,11 @@ module _ (v : Version) (n : ℕ) (below : Below v n) where
   -- the `else`, or none
   else_walks : (h : Forest) (rest : List Token) → Fits v (maybe else_rule) h → count h ≤ n
       → follows_statement (first_of rest) ≡ true → (h ≡ none → closes_statement (first_of rest) ≡ true) → Last h rest
-      → Walks (php v) (Turns g.ElseIfs ∷ Part g.ElsePart ∷ []) h rest
+      → Walks (php v) (Repeats g.ElseIfs ∷ Part g.ElsePart ∷ []) h rest
   else_walks h rest (is_first x) le f c l =
       let no : h ≡ none = nothing_is v h x in
       let z : (else_ifs (first_of rest) ≡ []) × (else_part (first_of rest) ≡ []) = closed_else (first_of rest) (c no) in
-      subst (λ (m : Forest). Walks (php v) (Turns g.ElseIfs ∷ Part g.ElsePart ∷ []) m rest) (sym no)
+      subst (λ (m : Forest). Walks (php v) (Repeats g.ElseIfs ∷ Part g.ElsePart ∷ []) m rest) (sym no)
       (stop z.0 (part {h = none} {f = none} (subst (λ (is : List Item). Walks (php v) is none rest) (sym z.1) ends) ends))
   else_walks h rest (is_second x) le f c l =
       let b : first_of (leaves h ++ rest) ≡ t.Else = else_begins v h rest x in
@@ -145,7 +145,7 @@ module _ (v : Version) (n : ℕ) (below : Below v n) where
   else_ifs_walk : (before : Bool) (p h : Forest) (rest : List Token) → Fits v (many else_if) p
       → Fits v (maybe else_rule) h → elses_are_nearest before (p +++ h) ≡ true → count (p +++ h) ≤ n
       → follows_statement (first_of rest) ≡ true → (h ≡ none → closes_statement (first_of rest) ≡ true)
-      → Last (p +++ h) rest → Walks (php v) (Turns g.ElseIfs ∷ Part g.ElsePart ∷ []) (p +++ h) rest
+      → Last (p +++ h) rest → Walks (php v) (Repeats g.ElseIfs ∷ Part g.ElsePart ∷ []) (p +++ h) rest
   else_ifs_walk before p h rest no_more y e le f c l = else_walks h rest y le f c l
   else_ifs_walk before p h rest (once_more {g = a} {h = m} x xs at) y e le f c l =
       let whole : p +++ h ≡ a +++ (m +++ h) = ap (λ (i : Forest). i +++ h) at ∙ forest_assoc a m h in
@@ -155,8 +155,8 @@ module _ (v : Version) (n : ℕ) (below : Below v n) where
       let near : Last a (leaves (m +++ h) ++ rest) × (follows_statement (first_of (leaves (m +++ h) ++ rest)) ≡ true)
       = near_end before a (m +++ h) rest (leads_ifs v m h xs y) e2 f l2 in
       let after : (b : Bool) × (elses_are_nearest b (m +++ h) ≡ true) = nearest_right before a (m +++ h) e2 in
-      subst (λ (i : Forest). Walks (php v) (Turns g.ElseIfs ∷ Part g.ElsePart ∷ []) i rest) (sym whole)
-      (turn {h = a} {f = m +++ h} (ap else_ifs (else_if_begins v a (leaves (m +++ h) ++ rest) x))
+      subst (λ (i : Forest). Walks (php v) (Repeats g.ElseIfs ∷ Part g.ElsePart ∷ []) i rest) (sym whole)
+      (repeat {h = a} {f = m +++ h} (ap else_ifs (else_if_begins v a (leaves (m +++ h) ++ rest) x))
       (matched v n below 60 true (else_if ∷ []) else_if_items follows_statement a (leaves (m +++ h) ++ rest)
       (else_if_matches v) (fits_alone v else_if a x) (left_le a (m +++ h) n le2) near.1 (λ _. near.0))
       (has_token v else_if a x refl)
@@ -231,7 +231,7 @@ if_chosen v i d m rest x y =
 
 begins_if : (c : Terminal) → begins_statement c ≡ true → if_form c ≡ (
   k.If,
-  Word t.If ∷ Word t.OpenParen ∷ any ∷ Word t.CloseParen ∷ Node s.Statement ∷ Turns g.ElseIfs
+  Word t.If ∷ Word t.OpenParen ∷ any ∷ Word t.CloseParen ∷ Node s.Statement ∷ Repeats g.ElseIfs
       ∷ Part g.ElsePart ∷ [],
 )
 begins_if t.Colon h = absurd (false_true h)
@@ -275,8 +275,8 @@ if_parts v n below c i d b q h rest xi xd xb xq xh e le x st =
     (is_both xi (is_both xd (is_both xb (subst (λ (y : Forest). Fits v (many else_if) y)
     (sym (ap (λ (y : Forest). q +++ y) o ∙ before_none q)) xq) refl) refl) e)) st in
     head (chosen ∙ ap Some (begins_if (first_of (leaves (b +++ m) ++ rest)) begins))
-    (subst (λ (y : Forest). Walks (php v) (if_items ++ (Turns g.ElseIfs ∷ Part g.ElsePart ∷ [])) y rest) (sym at)
-    (walks_on (php v) if_items (Turns g.ElseIfs ∷ Part g.ElsePart ∷ []) a m rest
+    (subst (λ (y : Forest). Walks (php v) (if_items ++ (Repeats g.ElseIfs ∷ Part g.ElsePart ∷ [])) y rest) (sym at)
+    (walks_on (php v) if_items (Repeats g.ElseIfs ∷ Part g.ElsePart ∷ []) a m rest
     (matched v n below 60 true (word t.If ∷ condition ∷ statement ∷ []) if_items follows_statement a
     (leaves m ++ rest) (if_matches v) (i, d +++ b, xi, (d, b, xd, fits_alone v statement b xb, refl), refl)
     (left_le a m n le2) z.1 (λ _. z.0))

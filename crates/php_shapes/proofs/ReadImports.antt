@@ -11,9 +11,9 @@ use Rattle.php_terminals.specs.Ahead.{first_of, second_of}
 use Rattle.php_forms.specs.declared.item.Group.{Group}
 use Rattle.php_forms.specs.declared.item.Group.TheVariants as g
 use Rattle.php_forms.specs.declared.item.Item.{Item}
-use Rattle.php_forms.specs.declared.item.Item.TheVariants.{Word, Part, Turns}
+use Rattle.php_forms.specs.declared.item.Item.TheVariants.{Word, Part, Repeats}
 use Rattle.php_forms.specs.Declarations.{used_class, used_grouped}
-use Rattle.php_forms.specs.Grammar.{Walks, ends, word as a_word, part, stop, turn}
+use Rattle.php_forms.specs.Grammar.{Walks, ends, word as a_word, part, stop, repeat}
 use Rattle.php_forms.specs.Names.{name_more, name_more_label, root_lead}
 use Rattle.php_grammar.specs.Accepts.{accepts, same_class}
 use Rattle.php_grammar.specs.Tables.{php}
@@ -29,12 +29,12 @@ use Rattle.php_shapes.proofs.ReadBodies.{group_alone, has_token}
 abbrev pub NameEnds : List Token → Type 0
 NameEnds us = name_more (first_of us) (second_of us) ≡ []
 
-label_turn : (c : Terminal) → is_any_label c ≡ true → name_more_label c ≡ Word t.Backslash ∷ Word t.AnyLabel ∷ []
-label_turn t.Label h = refl
-label_turn t.Match h = refl
-label_turn t.Readonly h = refl
-label_turn t.MixedOrNever h = refl
-label_turn c h = absurd (false_true h)
+label_repeat : (c : Terminal) → is_any_label c ≡ true → name_more_label c ≡ Word t.Backslash ∷ Word t.AnyLabel ∷ []
+label_repeat t.Label h = refl
+label_repeat t.Match h = refl
+label_repeat t.Readonly h = refl
+label_repeat t.MixedOrNever h = refl
+label_repeat c h = absurd (false_true h)
 
 no_root : (c : Terminal) → is_any_label c ≡ true → root_lead c ≡ []
 no_root t.Backslash h = absurd (false_true h)
@@ -54,27 +54,27 @@ a_label : (v : Version) (x : Token) → accepts v t.AnyLabel x ≡ true → is_a
 a_label v x a = there (could v t.AnyLabel) is_any_label (labels_are v) (terminal x) (accepted v t.AnyLabel x a)
 
 -- further parts of a name
-more_walks : (v : Version) (f : Forest) (us : List Token) → Fits v more_of_name f → NameEnds us → Walks (php v) (Turns g.NameMore ∷ []) f us
+more_walks : (v : Version) (f : Forest) (us : List Token) → Fits v more_of_name f → NameEnds us → Walks (php v) (Repeats g.NameMore ∷ []) f us
 more_walks v f us no_more e = stop e ends
 more_walks v f us (once_more {g = a} {h = m} x y at) e =
     let p : (b : Forest) × (l : Forest) × Fits v (word t.Backslash) b × Fits v (word t.AnyLabel) l × (a ≡ b +++ l) = both_is v (word t.Backslash) (word t.AnyLabel) a x in
     let b : (z : Token) × (p.0 ≡ leaf z none) × (accepts v t.Backslash z ≡ true) = word_is v t.Backslash p.0 p.2 in
     let l : (z : Token) × (p.1 ≡ leaf z none) × (accepts v t.AnyLabel z ≡ true) = word_is v t.AnyLabel p.1 p.3 in
     let one : a ≡ leaf b.0 (leaf l.0 none) = p.4 ∙ ap (λ (i : Forest). i +++ p.1) b.1 ∙ ap (λ (i : Forest). leaf b.0 i) l.1 in
-    let turns : name_more (terminal b.0) (terminal l.0) ≡ Word t.Backslash ∷ Word t.AnyLabel
+    let repeats : name_more (terminal b.0) (terminal l.0) ≡ Word t.Backslash ∷ Word t.AnyLabel
     ∷ [] = ap (λ (c : Terminal). name_more c (terminal l.0)) (pinned v t.Backslash b.0 (backslash_pinned v) b.2)
-    ∙ label_turn (terminal l.0) (a_label v l.0 l.2) in
-    subst (λ (i : Forest). Walks (php v) (Turns g.NameMore ∷ []) i us) (sym (at ∙ ap (λ (i : Forest). i +++ m) one))
-    (turn {h = leaf b.0 (leaf l.0 none)} {f = m} turns (a_word b.2 (a_word l.2 ends))
+    ∙ label_repeat (terminal l.0) (a_label v l.0 l.2) in
+    subst (λ (i : Forest). Walks (php v) (Repeats g.NameMore ∷ []) i us) (sym (at ∙ ap (λ (i : Forest). i +++ m) one))
+    (repeat {h = leaf b.0 (leaf l.0 none)} {f = m} repeats (a_word b.2 (a_word l.2 ends))
     (subst (λ (i : Forest). 0 < length (leaves i)) one
     (has_token v (word t.Backslash ~ word t.AnyLabel) a x refl)) (more_walks v m us y e))
 
 -- a label and further parts
-label_walks : (v : Version) (f : Forest) (us : List Token) → Fits v (word t.AnyLabel ~ more_of_name) f → NameEnds us → Walks (php v) (Word t.AnyLabel ∷ Turns g.NameMore ∷ []) f us
+label_walks : (v : Version) (f : Forest) (us : List Token) → Fits v (word t.AnyLabel ~ more_of_name) f → NameEnds us → Walks (php v) (Word t.AnyLabel ∷ Repeats g.NameMore ∷ []) f us
 label_walks v f us x e =
     let p : (l : Forest) × (m : Forest) × Fits v (word t.AnyLabel) l × Fits v more_of_name m × (f ≡ l +++ m) = both_is v (word t.AnyLabel) more_of_name f x in
     let l : (z : Token) × (p.0 ≡ leaf z none) × (accepts v t.AnyLabel z ≡ true) = word_is v t.AnyLabel p.0 p.2 in
-    subst (λ (i : Forest). Walks (php v) (Word t.AnyLabel ∷ Turns g.NameMore ∷ []) i us) (sym (p.4 ∙ ap (λ (i : Forest). i +++ p.1) l.1)) (a_word l.2 (more_walks v p.1 us p.3 e))
+    subst (λ (i : Forest). Walks (php v) (Word t.AnyLabel ∷ Repeats g.NameMore ∷ []) i us) (sym (p.4 ∙ ap (λ (i : Forest). i +++ p.1) l.1)) (a_word l.2 (more_walks v p.1 us p.3 e))
 
 label_starts : (v : Version) (f : Forest) (us : List Token) → Fits v (word t.AnyLabel ~ more_of_name) f → is_any_label (first_of (leaves f ++ us)) ≡ true
 label_starts v f us x =
@@ -83,7 +83,7 @@ label_starts v f us x =
     subst (λ (i : Forest). is_any_label (first_of (leaves i ++ us)) ≡ true) (sym (p.4 ∙ ap (λ (i : Forest). i +++ p.1) l.1)) (a_label v l.0 l.2)
 
 abbrev root_items : List Item
-root_items = Part g.RootLead ∷ Word t.AnyLabel ∷ Turns g.NameMore ∷ []
+root_items = Part g.RootLead ∷ Word t.AnyLabel ∷ Repeats g.NameMore ∷ []
 
 root_by : (v : Version) (b m : Forest) (us : List Token) → Fits v (maybe (word t.Backslash)) b
     → Fits v (word t.AnyLabel ~ more_of_name) m → NameEnds us → Walks (php v) root_items (b +++ m) us

@@ -13,8 +13,8 @@ use Rattle.php_terminals.specs.Ahead.{first_of}
 use Rattle.php_forms.specs.declared.item.Sort.TheVariants as s
 use Rattle.php_forms.specs.declared.item.Group.TheVariants as g
 use Rattle.php_forms.specs.declared.item.Item.{Item}
-use Rattle.php_forms.specs.declared.item.Item.TheVariants.{Word, Node, Part, Turns}
-use Rattle.php_forms.specs.Grammar.{Form, Walks, Grows, Spells, ends, child, stop, turn, head, word as a_word}
+use Rattle.php_forms.specs.declared.item.Item.TheVariants.{Word, Node, Part, Repeats}
+use Rattle.php_forms.specs.Grammar.{Form, Walks, Grows, Spells, ends, child, stop, repeat, head, word as a_word}
 use Rattle.php_grammar.specs.Accepts.{accepts}
 use Rattle.php_grammar.specs.Operands.{operand_form}
 use Rattle.php_grammar.specs.Tables.{php, parts}
@@ -218,7 +218,7 @@ token_there : (x : Token) (f : Forest) → 0 < length (leaves (leaf x f))
 token_there x f = omega arith
 
 more_walks : (v : Version) (n : ℕ) → Below v n → (us : List Token) → closes_bracket (first_of us) ≡ true
-    → (w0 : Forest) → Fits v more_rule w0 → count w0 ≤ n → Walks (php v) (Turns g.ListMore ∷ []) w0 us
+    → (w0 : Forest) → Fits v more_rule w0 → count w0 ≤ n → Walks (php v) (Repeats g.ListMore ∷ []) w0 us
 more_walks v n below us h w0 no_more le = stop (no_more_here v us (first_of us) refl h) ends
 more_walks v n below us h w0 (once_more {g = a} {h = b} x y e) le =
     let le' : count (a +++ b) ≤ n = subst (λ (z : Forest). count z ≤ n) e le in
@@ -232,15 +232,15 @@ more_walks v n below us h w0 (once_more {g = a} {h = b} x y e) le =
     let first : first_of (leaves (leaf u.0 o.1) ++ ts) ≡ t.Comma =
     subst (λ (z : Forest). first_of (leaves z ++ ts) ≡ t.Comma) at
     (first_is v (word t.Comma ~ maybe list_item) t.Comma a ts ((comma_first v).0) refl x) in
-    subst (λ (z : Forest). Walks (php v) (Turns g.ListMore ∷ []) z us) (sym (e ∙ ap (λ (z : Forest). z +++ b) at))
-    (turn {h = leaf u.0 o.1} (more_here v (leaves (leaf u.0 o.1) ++ ts) first) one (token_there u.0 o.1) (more_walks v n below us h b y (right_le a b n le')))
+    subst (λ (z : Forest). Walks (php v) (Repeats g.ListMore ∷ []) z us) (sym (e ∙ ap (λ (z : Forest). z +++ b) at))
+    (repeat {h = leaf u.0 o.1} (more_here v (leaves (leaf u.0 o.1) ++ ts) first) one (token_there u.0 o.1) (more_walks v n below us h b y (right_le a b n le')))
 
 parts_walk : (v : Version) (n : ℕ) → Below v n → (f : Forest) (us : List Token) → Fits v list_parts f → count f ≤ n
-    → closes_bracket (first_of us) ≡ true → Walks (php v) (Part g.ListHead ∷ Turns g.ListMore ∷ []) f us
+    → closes_bracket (first_of us) ≡ true → Walks (php v) (Part g.ListHead ∷ Repeats g.ListMore ∷ []) f us
 parts_walk v n below f us (is_both {g = a} {h = b} x y e) le h =
     let le' : count (a +++ b) ≤ n = subst (λ (z : Forest). count z ≤ n) e le in
-    subst (λ (z : Forest). Walks (php v) (Part g.ListHead ∷ Turns g.ListMore ∷ []) z us) (sym e)
-    (walk_join (php v) (Turns g.ListMore ∷ []) b us (more_walks v n below us h b y (right_le a b n le')) refl
+    subst (λ (z : Forest). Walks (php v) (Part g.ListHead ∷ Repeats g.ListMore ∷ []) z us) (sym e)
+    (walk_join (php v) (Repeats g.ListMore ∷ []) b us (more_walks v n below us h b y (right_le a b n le')) refl
     (head_walks v n below a (leaves b ++ us) x (left_le a b n le') (ends_more v b us y h)))
 
 -- ---- list forms
@@ -254,14 +254,14 @@ list_facts V74 = (refl, refl, refl, refl)
 list_facts V83 = (refl, refl, refl, refl)
 
 abbrev bracket_items : List Item
-bracket_items = Word t.OpenBracket ∷ Part g.ListHead ∷ Turns g.ListMore ∷ Word t.CloseBracket ∷ []
+bracket_items = Word t.OpenBracket ∷ Part g.ListHead ∷ Repeats g.ListMore ∷ Word t.CloseBracket ∷ []
 
 abbrev word_items : List Item
-word_items = Word t.List ∷ Word t.OpenParen ∷ Part g.ListHead ∷ Turns g.ListMore ∷ Word t.CloseParen ∷ []
+word_items = Word t.List ∷ Word t.OpenParen ∷ Part g.ListHead ∷ Repeats g.ListMore ∷ Word t.CloseParen ∷ []
 
 bracket_walk : (v : Version) (n : ℕ) → Below v n → (c : Forest) (rest : List Token) → Fits v (brackets list_parts) c → count c ≤ n → Walks (php v) bracket_items c rest
 bracket_walk v n below c rest x le = between_words v t.OpenBracket t.CloseBracket list_parts
-    (Part g.ListHead ∷ Turns g.ListMore ∷ []) n c rest x le
+    (Part g.ListHead ∷ Repeats g.ListMore ∷ []) n c rest x le
     (λ f us y le' st. parts_walk v n below f us y le'
     (where_is (starts v (word t.CloseBracket)) closes_bracket (first_of us) ((list_facts v).2) st))
 
@@ -271,7 +271,7 @@ word_walk v n below c rest x le =
     let u : (y : Token) × (p.0 ≡ leaf y none) × (accepts v t.List y ≡ true) = word_is v t.List p.0 p.2 in
     let at : c ≡ leaf u.0 p.1 = p.4 ∙ ap (λ (z : Forest). z +++ p.1) u.1 in
     subst (λ (z : Forest). Walks (php v) word_items z rest) (sym at)
-    (a_word u.2 (between_words v t.OpenParen t.CloseParen list_parts (Part g.ListHead ∷ Turns g.ListMore ∷ []) n p.1
+    (a_word u.2 (between_words v t.OpenParen t.CloseParen list_parts (Part g.ListHead ∷ Repeats g.ListMore ∷ []) n p.1
     rest p.3 (subst (λ (z : Forest). count z ≤ n) at le)
     (λ f us y le' st. parts_walk v n below f us y le'
     (where_is (starts v (word t.CloseParen)) closes_bracket (first_of us) ((list_facts v).3) st))))

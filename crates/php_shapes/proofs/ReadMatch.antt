@@ -41,8 +41,8 @@ use Rattle.php_forms.specs.declared.item.Sort.{Sort}
 use Rattle.php_forms.specs.declared.item.Sort.TheVariants as s
 use Rattle.php_forms.specs.declared.item.Group.{Group}
 use Rattle.php_forms.specs.declared.item.Item.{Item}
-use Rattle.php_forms.specs.declared.item.Item.TheVariants.{Word, Node, Part, Turns, Span}
-use Rattle.php_forms.specs.Grammar.{Walks, ends, word as a_word, child, part, stop, turn, Spells}
+use Rattle.php_forms.specs.declared.item.Item.TheVariants.{Word, Node, Part, Repeats, Span}
+use Rattle.php_forms.specs.Grammar.{Walks, ends, word as a_word, child, part, stop, repeat, Spells}
 use Rattle.php_grammar.specs.Tables.{php, parts}
 use Rattle.php_exprs.proofs.Forests.{leaves_append, forest_assoc}
 use Rattle.php_shapes.specs.Notation.{Rule, nothing, word, kind, place, inside, ◌~◌, ◌|||◌, many, tokens}
@@ -157,9 +157,9 @@ abbrev pub aligned : Version → Check → Bool → Rule → List Rule → Group
 aligned v go fin r rs group is F =
     looks_once group && (alternatives v (λ a c. go (fin && is_last rs) (a ∷ []) (parts_by v group c) (first v rs F)) (first v rs F) r && go fin rs is F)
 
--- the rule is what turns of a group are
-abbrev pub turning : Version → Check → Bool → Rule → List Rule → Group → List Item → (Terminal → Bool) → Bool
-turning v go fin a rs group is F =
+-- the rule is what repeats of a group are
+abbrev pub repeating : Version → Check → Bool → Rule → List Rule → Group → List Item → (Terminal → Bool) → Bool
+repeating v go fin a rs group is F =
     looks_once group
     && (not (nullable a)
     && (for_all (λ c. where_it (first v rs F c) (is_empty (parts_by v group c)))
@@ -175,8 +175,8 @@ abbrev pub none_by_two : Version → Group → (Terminal → Bool) → Bool
 none_by_two v group F = for_all (λ c. where_it (F c) (for_all (λ d. is_empty (parts_by_two v group c d))))
 
 -- the items that two tokens choose are those of a rule that begins with a word
-abbrev pub turn_by_two : Version → Check → Terminal → (Terminal → Bool) → Rule → Group → (Terminal → Bool) → Bool
-turn_by_two v go w second a group F =
+abbrev pub repeat_by_two : Version → Check → Terminal → (Terminal → Bool) → Rule → Group → (Terminal → Bool) → Bool
+repeat_by_two v go w second a group F =
     for_all (λ c. elim (could v w c) as (λ x. Bool) [
       | true ↦ for_all (λ d. elim (second d) as (λ x. Bool) [
         | true ↦ not (is_empty (parts_by_two v group c d)) && go false (a ∷ []) (parts_by_two v group c d) F
@@ -186,34 +186,34 @@ turn_by_two v go w second a group F =
       | false ↦ true
     ])
 
--- the same where the next two tokens choose a turn
-abbrev pub turning_two : Version → Check → Bool → Rule → List Rule → Group → List Item → (Terminal → Bool) → Bool
-turning_two v go fin (word w ~ b) rs group is F =
+-- the same where the next two tokens choose a repeat
+abbrev pub repeating_two : Version → Check → Bool → Rule → List Rule → Group → List Item → (Terminal → Bool) → Bool
+repeating_two v go fin (word w ~ b) rs group is F =
     looks_twice group
     && (not (nullable b)
     && (none_by_two v group (first v rs F)
-    && (turn_by_two v go w (starts v b) (word w ~ b) group (first v (many (word w ~ b) ∷ rs) F)
+    && (repeat_by_two v go w (starts v b) (word w ~ b) group (first v (many (word w ~ b) ∷ rs) F)
     && go fin rs is F)))
-turning_two v go fin _ rs group is F = false
+repeating_two v go fin _ rs group is F = false
 
--- the same where a last turn may be a word alone
-abbrev pub turning_last : Version → Check → Bool → Rule → List Rule → Group → List Item → (Terminal → Bool) → Bool
-turning_last v go fin (word w ~ b) ((nothing ||| word u) ∷ rs) group is F =
+-- the same where a last repeat may be a word alone
+abbrev pub repeating_last : Version → Check → Bool → Rule → List Rule → Group → List Item → (Terminal → Bool) → Bool
+repeating_last v go fin (word w ~ b) ((nothing ||| word u) ∷ rs) group is F =
     looks_twice group
     && (not (nullable b)
     && (none_by_two v group (first v rs F)
-    && (turn_by_two v go w (starts v b) (word w ~ b) group (first v (many (word w ~ b) ∷ (nothing ||| word u) ∷ rs) F)
-    && (turn_by_two v go u (first v rs F) (word u) group (first v rs F)
+    && (repeat_by_two v go w (starts v b) (word w ~ b) group (first v (many (word w ~ b) ∷ (nothing ||| word u) ∷ rs) F)
+    && (repeat_by_two v go u (first v rs F) (word u) group (first v rs F)
     && go fin rs is F))))
-turning_last v go fin _ rs group is F = false
+repeating_last v go fin _ rs group is F = false
 
-abbrev pub on_turns : Version → Check → Bool → Rule → List Rule → Group → List Item → (Terminal → Bool) → Bool
-on_turns v go fin (many a) rs group is F = elim (looks_once group) as (λ x. Bool) [
-  | true ↦ turning v go fin a rs group is F
-  | false ↦ elim (turning_two v go fin a rs group is F) as (λ x. Bool)
-      [ true ↦ true | false ↦ turning_last v go fin a rs group is F ]
+abbrev pub on_repeats : Version → Check → Bool → Rule → List Rule → Group → List Item → (Terminal → Bool) → Bool
+on_repeats v go fin (many a) rs group is F = elim (looks_once group) as (λ x. Bool) [
+  | true ↦ repeating v go fin a rs group is F
+  | false ↦ elim (repeating_two v go fin a rs group is F) as (λ x. Bool)
+      [ true ↦ true | false ↦ repeating_last v go fin a rs group is F ]
 ]
-on_turns v go fin _ rs group is F = false
+on_repeats v go fin _ rs group is F = false
 
 -- a group stands where no rule does
 abbrev pub skipping : Version → Check → Bool → List Rule → Group → List Item → (Terminal → Bool) → Bool
@@ -229,7 +229,7 @@ on_item v go fin r rs [] F = false
 on_item v go fin r rs (Word w ∷ is) F = takes_word r w && go fin rs is F
 on_item v go fin r rs (Node sort ∷ is) F = takes_node r sort && (node_ends v fin rs F sort && go fin rs is F)
 on_item v go fin r rs (Part group ∷ is) F = aligned v go fin r rs group is F
-on_item v go fin r rs (Turns group ∷ is) F = on_turns v go fin r rs group is F
+on_item v go fin r rs (Repeats group ∷ is) F = on_repeats v go fin r rs group is F
 on_item v go fin r rs (Span ∷ is) F = false
 
 -- a name is a group of its own
@@ -251,7 +251,7 @@ on_rule v go fin tokens rs is F = on_item v go fin tokens rs is F
 abbrev pub on_nothing : Version → Check → Bool → List Item → (Terminal → Bool) → Bool
 on_nothing v go fin [] F = true
 on_nothing v go fin (Part group ∷ is) F = skipping v go fin [] group is F
-on_nothing v go fin (Turns group ∷ is) F = skipping v go fin [] group is F
+on_nothing v go fin (Repeats group ∷ is) F = skipping v go fin [] group is F
 on_nothing v go fin (Word w ∷ is) F = false
 on_nothing v go fin (Node sort ∷ is) F = false
 on_nothing v go fin (Span ∷ is) F = false
@@ -464,11 +464,11 @@ module _ (v : Version) where
   empty_here group F ts o a h = parts_are v group ts o ∙ empty_is (parts_by v group (first_of ts)) (where_is F (λ c. is_empty (parts_by v group c)) (first_of ts) a h)
 
 module _ (v : Version) (n : ℕ) (below : Below v n) (go : Check) (holds : Holds v n go) where
-  skip_holds : (turns : Bool) (fin : Bool) (rs : List Rule) (group : Group) (is : List Item) (F : Terminal → Bool)
+  skip_holds : (repeats : Bool) (fin : Bool) (rs : List Rule) (group : Group) (is : List Item) (F : Terminal → Bool)
       (f : Forest) (rest : List Token) → skipping v go fin rs group is F ≡ true → FitsAll v rs f → count f ≤ n
       → F (first_of rest) ≡ true → (fin ≡ true → Last f rest) → (parts v group (leaves f ++ rest) ≡ [])
       × Walks (php v) is f rest
-  skip_holds turns fin rs group is F f rest c x le h l =
+  skip_holds repeats fin rs group is F f rest c x le h l =
       let one : (looks_once group ≡ true) × ((for_all (λ d. where_it (first v rs F d) (is_empty (parts_by v group d)))
       && go fin rs is F) ≡ true) = both (looks_once group)
       (for_all (λ d. where_it (first v rs F d) (is_empty (parts_by v group d))) && go fin rs is F) c in
@@ -482,7 +482,7 @@ module _ (v : Version) (n : ℕ) (below : Below v n) (go : Check) (holds : Holds
   nothing_holds fin (Part group ∷ is) F rest c h = let r : (parts v group rest ≡ [])
       × Walks (php v) is none rest = skip_holds true fin [] group is F none rest c refl (zero_le n) h (λ e. tt)
       in no_group v group is none rest r.0 r.1
-  nothing_holds fin (Turns group ∷ is) F rest c h = let r : (parts v group rest ≡ [])
+  nothing_holds fin (Repeats group ∷ is) F rest c h = let r : (parts v group rest ≡ [])
       × Walks (php v) is none rest = skip_holds true fin [] group is F none rest c refl (zero_le n) h (λ e. tt)
       in stop r.0 r.1
   nothing_holds fin (Word w ∷ is) F rest c h = absurd (false_true c)
@@ -584,17 +584,17 @@ module _ (v : Version) (n : ℕ) (below : Below v n) (go : Check) (holds : Holds
       (inner_last v fin rs g h rest y l)))
       (holds fin rs is F h rest two.1 y (right_le g h n le) f (λ e. last_right g h rest (l e)))
 
-  -- turns of a group
-  turns_hold : (a : Rule) (rs : List Rule) (group : Group) (is : List Item) (F : Terminal → Bool) (h : Forest)
+  -- repeats of a group
+  repeats_hold : (a : Rule) (rs : List Rule) (group : Group) (is : List Item) (F : Terminal → Bool) (h : Forest)
       (rest : List Token) → looks_once group ≡ true → nullable a ≡ false
       → for_all (λ d. where_it (first v rs F d) (is_empty (parts_by v group d))) ≡ true
       → for_all (λ d. elim (starts v a d) as (λ x. Bool) [
         | true ↦ not (is_empty (parts_by v group d)) && go false (a ∷ []) (parts_by v group d) (first v (many a ∷ rs) F)
         | false ↦ true
       ]) ≡ true → FitsAll v rs h → F (first_of rest) ≡ true → Walks (php v) is h rest → (g : Forest)
-      → Fits v (many a) g → count g ≤ n → Walks (php v) (Turns group ∷ is) (g +++ h) rest
-  turns_hold a rs group is F h rest o nn st tu y f w g no_more le = stop (empty_here v group (first v rs F) (leaves h ++ rest) o st (first_class v rs F h rest y f)) w
-  turns_hold a rs group is F h rest o nn st tu y f w g (once_more {g = g1} {h = g2} x more e) le =
+      → Fits v (many a) g → count g ≤ n → Walks (php v) (Repeats group ∷ is) (g +++ h) rest
+  repeats_hold a rs group is F h rest o nn st tu y f w g no_more le = stop (empty_here v group (first v rs F) (leaves h ++ rest) o st (first_class v rs F h rest y f)) w
+  repeats_hold a rs group is F h rest o nn st tu y f w g (once_more {g = g1} {h = g2} x more e) le =
       let le' : count (g1 +++ g2) ≤ n = subst (λ (z : Forest). count z ≤ n) e le in
       let us : List Token = leaves (g2 +++ h) ++ rest in
       let begins : Begins (starts v a) false (leaves g1) = subst (λ (b : Bool). Begins (starts v a) b (leaves g1)) nn (rule_begins v x) in
@@ -613,17 +613,17 @@ module _ (v : Version) (n : ℕ) (below : Below v n) (go : Check) (holds : Holds
       let some : (i : Item) × (js : List Item) × (parts v group (leaves g1 ++ us) ≡ i ∷ js) =
       some_items (parts v group (leaves g1 ++ us))
       (ap (λ (js : List Item). not (is_empty js)) (parts_are v group (leaves g1 ++ us) o) ∙ q.0) in
-      let all : Walks (php v) (Turns group ∷ is) (g1 +++ (g2 +++ h)) rest =
-      turn some.2 (subst (λ (js : List Item). Walks (php v) js g1 us) some.2 inner)
+      let all : Walks (php v) (Repeats group ∷ is) (g1 +++ (g2 +++ h)) rest =
+      repeat some.2 (subst (λ (js : List Item). Walks (php v) js g1 us) some.2 inner)
       (some_token (starts v a) (leaves g1) begins)
-      (turns_hold a rs group is F h rest o nn st tu y f w g2 more (right_le g1 g2 n le')) in
-      subst (λ (z : Forest). Walks (php v) (Turns group ∷ is) z rest) (sym (ap (λ (z : Forest). z +++ h) e ∙ forest_assoc g1 g2 h)) all
+      (repeats_hold a rs group is F h rest o nn st tu y f w g2 more (right_le g1 g2 n le')) in
+      subst (λ (z : Forest). Walks (php v) (Repeats group ∷ is) z rest) (sym (ap (λ (z : Forest). z +++ h) e ∙ forest_assoc g1 g2 h)) all
 
-  turning_holds : (fin : Bool) (a : Rule) (rs : List Rule) (group : Group) (is : List Item) (F : Terminal → Bool)
-      (g h : Forest) (rest : List Token) → turning v go fin a rs group is F ≡ true → Fits v (many a) g
+  repeating_holds : (fin : Bool) (a : Rule) (rs : List Rule) (group : Group) (is : List Item) (F : Terminal → Bool)
+      (g h : Forest) (rest : List Token) → repeating v go fin a rs group is F ≡ true → Fits v (many a) g
       → FitsAll v rs h → count (g +++ h) ≤ n → F (first_of rest) ≡ true → (fin ≡ true → Last (g +++ h) rest)
-      → Walks (php v) (Turns group ∷ is) (g +++ h) rest
-  turning_holds fin a rs group is F g h rest c x y le f l =
+      → Walks (php v) (Repeats group ∷ is) (g +++ h) rest
+  repeating_holds fin a rs group is F g h rest c x y le f l =
       let S : Bool = for_all (λ d. where_it (first v rs F d) (is_empty (parts_by v group d))) in
       let U : Bool = for_all (λ d. elim (starts v a d) as (λ x. Bool) [
         | true ↦ not (is_empty (parts_by v group d)) && go false (a ∷ []) (parts_by v group d)
@@ -632,17 +632,17 @@ module _ (v : Version) (n : ℕ) (below : Below v n) (go : Check) (holds : Holds
       ]) in
       let q : (looks_once group ≡ true) × (not (nullable a) ≡ true) × (S ≡ true) × (U ≡ true)
       × (go fin rs is F ≡ true) = five (looks_once group) (not (nullable a)) S U (go fin rs is F) c in
-      turns_hold a rs group is F h rest q.0 (not_true (nullable a) q.1) q.2 q.3 y f
+      repeats_hold a rs group is F h rest q.0 (not_true (nullable a) q.1) q.2 q.3 y f
       (holds fin rs is F h rest q.4 y (right_le g h n le) f (λ e. last_right g h rest (l e))) g x
       (left_le g h n le)
 
-  -- a turn that two tokens choose
-  turn_two : (w : Terminal) (second : Terminal → Bool) (a : Rule) (group : Group) (is : List Item)
+  -- a repeat that two tokens choose
+  repeat_two : (w : Terminal) (second : Terminal → Bool) (a : Rule) (group : Group) (is : List Item)
       (F : Terminal → Bool) (x : Token) (g1 h : Forest) (rest : List Token) → looks_twice group ≡ true
-      → turn_by_two v go w second a group F ≡ true → accepts v w x ≡ true → Fits v a (leaf x g1) → count g1 ≤ n
+      → repeat_by_two v go w second a group F ≡ true → accepts v w x ≡ true → Fits v a (leaf x g1) → count g1 ≤ n
       → second (first_of (leaves g1 ++ (leaves h ++ rest))) ≡ true → F (first_of (leaves h ++ rest)) ≡ true
-      → Walks (php v) (Turns group ∷ is) h rest → Walks (php v) (Turns group ∷ is) (leaf x g1 +++ h) rest
-  turn_two w second a group is F x g1 h rest tw t acc fit le sec f more =
+      → Walks (php v) (Repeats group ∷ is) h rest → Walks (php v) (Repeats group ∷ is) (leaf x g1 +++ h) rest
+  repeat_two w second a group is F x g1 h rest tw t acc fit le sec f more =
       let us : List Token = leaves h ++ rest in
       let c : Terminal = terminal x in
       let d : Terminal = first_of (leaves g1 ++ us) in
@@ -670,7 +670,7 @@ module _ (v : Version) (n : ℕ) (below : Below v n) (go : Check) (holds : Holds
       let some : (i : Item) × (js : List Item) × (parts v group (leaves (leaf x g1) ++ us) ≡ i ∷ js) =
       some_items (parts v group (leaves (leaf x g1) ++ us)) (ap (λ (js : List Item). not (is_empty js)) are ∙ q.0)
       in
-      turn some.2 (subst (λ (js : List Item). Walks (php v) js (leaf x g1) us) some.2 inner) (one_token x (leaves g1)) more
+      repeat some.2 (subst (λ (js : List Item). Walks (php v) js (leaf x g1) us) some.2 inner) (one_token x (leaves g1)) more
 
   none_two : (group : Group) (F : Terminal → Bool) (ts : List Token) → looks_twice group ≡ true → none_by_two v group F ≡ true → F (first_of ts) ≡ true → parts v group ts ≡ []
   none_two group F ts tw a f =
@@ -678,83 +678,83 @@ module _ (v : Version) (n : ℕ) (below : Below v n) (go : Check) (holds : Holds
       (everywhere (λ d. is_empty (parts_by_two v group (first_of ts) d))
       (where_is F (λ c. for_all (λ d. is_empty (parts_by_two v group c d))) (first_of ts) a f) (second_of ts))
 
-  turns_two : (w : Terminal) (b : Rule) (rs : List Rule) (group : Group) (is : List Item) (F : Terminal → Bool)
+  repeats_two : (w : Terminal) (b : Rule) (rs : List Rule) (group : Group) (is : List Item) (F : Terminal → Bool)
       (h : Forest) (rest : List Token) → looks_twice group ≡ true → nullable b ≡ false
-      → turn_by_two v go w (starts v b) (word w ~ b) group (first v (many (word w ~ b) ∷ rs) F) ≡ true
-      → FitsAll v rs h → F (first_of rest) ≡ true → Walks (php v) (Turns group ∷ is) h rest → (g : Forest)
-      → Fits v (many (word w ~ b)) g → count g ≤ n → Walks (php v) (Turns group ∷ is) (g +++ h) rest
-  turns_two w b rs group is F h rest tw nn tu y f walk g no_more le = walk
-  turns_two w b rs group is F h rest tw nn tu y f walk g (once_more {g = g1} {h = g2} x more e) le =
+      → repeat_by_two v go w (starts v b) (word w ~ b) group (first v (many (word w ~ b) ∷ rs) F) ≡ true
+      → FitsAll v rs h → F (first_of rest) ≡ true → Walks (php v) (Repeats group ∷ is) h rest → (g : Forest)
+      → Fits v (many (word w ~ b)) g → count g ≤ n → Walks (php v) (Repeats group ∷ is) (g +++ h) rest
+  repeats_two w b rs group is F h rest tw nn tu y f walk g no_more le = walk
+  repeats_two w b rs group is F h rest tw nn tu y f walk g (once_more {g = g1} {h = g2} x more e) le =
       let le' : count (g1 +++ g2) ≤ n = subst (λ (z : Forest). count z ≤ n) e le in
       let p : (k1 : Forest) × (k2 : Forest) × Fits v (word w) k1 × Fits v b k2 × (g1 ≡ k1 +++ k2) = both_is v (word w) b g1 x in
       let q : (u : Token) × (p.0 ≡ leaf u none) × (accepts v w u ≡ true) = word_is v w p.0 p.2 in
       let at : g1 ≡ leaf q.0 p.1 = p.4 ∙ ap (λ (z : Forest). z +++ p.1) q.1 in
       let begins : Begins (starts v b) false (leaves p.1) = subst (λ (b' : Bool). Begins (starts v b) b' (leaves p.1)) nn (rule_begins v p.3) in
       let le1 : count p.1 ≤ n = subst (λ (z : Forest). count z ≤ n) at (left_le g1 g2 n le') in
-      let all : Walks (php v) (Turns group ∷ is) (leaf q.0 p.1 +++ (g2 +++ h)) rest =
-      turn_two w (starts v b) (word w ~ b) group is (first v (many (word w ~ b) ∷ rs) F) q.0 p.1 (g2 +++ h) rest
+      let all : Walks (php v) (Repeats group ∷ is) (leaf q.0 p.1 +++ (g2 +++ h)) rest =
+      repeat_two w (starts v b) (word w ~ b) group is (first v (many (word w ~ b) ∷ rs) F) q.0 p.1 (g2 +++ h) rest
       tw tu q.2 (subst (λ (z : Forest). Fits v (word w ~ b) z) at x) le1
       (begins_there (starts v b) (leaves p.1) (leaves (g2 +++ h) ++ rest) begins)
       (first_class v (many (word w ~ b) ∷ rs) F (g2 +++ h) rest (g2, h, more, y, refl) f)
-      (turns_two w b rs group is F h rest tw nn tu y f walk g2 more (right_le g1 g2 n le')) in
-      subst (λ (z : Forest). Walks (php v) (Turns group ∷ is) z rest)
+      (repeats_two w b rs group is F h rest tw nn tu y f walk g2 more (right_le g1 g2 n le')) in
+      subst (λ (z : Forest). Walks (php v) (Repeats group ∷ is) z rest)
       (sym (ap (λ (z : Forest). z +++ h) (e ∙ ap (λ (z : Forest). z +++ g2) at)
       ∙ forest_assoc (leaf q.0 p.1) g2 h)) all
 
-  turning_two_holds : (fin : Bool) (a : Rule) (rs : List Rule) (group : Group) (is : List Item) (F : Terminal → Bool)
-      (g h : Forest) (rest : List Token) → turning_two v go fin a rs group is F ≡ true → Fits v (many a) g
+  repeating_two_holds : (fin : Bool) (a : Rule) (rs : List Rule) (group : Group) (is : List Item) (F : Terminal → Bool)
+      (g h : Forest) (rest : List Token) → repeating_two v go fin a rs group is F ≡ true → Fits v (many a) g
       → FitsAll v rs h → count (g +++ h) ≤ n → F (first_of rest) ≡ true → (fin ≡ true → Last (g +++ h) rest)
-      → Walks (php v) (Turns group ∷ is) (g +++ h) rest
-  turning_two_holds fin (word w ~ b) rs group is F g h rest c x y le f l =
+      → Walks (php v) (Repeats group ∷ is) (g +++ h) rest
+  repeating_two_holds fin (word w ~ b) rs group is F g h rest c x y le f l =
       let S : Bool = none_by_two v group (first v rs F) in
-      let U : Bool = turn_by_two v go w (starts v b) (word w ~ b) group (first v (many (word w ~ b) ∷ rs) F) in
+      let U : Bool = repeat_by_two v go w (starts v b) (word w ~ b) group (first v (many (word w ~ b) ∷ rs) F) in
       let q : (looks_twice group ≡ true) × (not (nullable b) ≡ true) × (S ≡ true) × (U ≡ true)
       × (go fin rs is F ≡ true) = five (looks_twice group) (not (nullable b)) S U (go fin rs is F) c in
-      turns_two w b rs group is F h rest q.0 (not_true (nullable b) q.1) q.3 y f
+      repeats_two w b rs group is F h rest q.0 (not_true (nullable b) q.1) q.3 y f
       (stop (none_two group (first v rs F) (leaves h ++ rest) q.0 q.2 (first_class v rs F h rest y f))
       (holds fin rs is F h rest q.4 y (right_le g h n le) f (λ e. last_right g h rest (l e))))
       g x (left_le g h n le)
-  turning_two_holds fin nothing rs group is F g h rest c x y le f l = absurd (false_true c)
-  turning_two_holds fin (word e) rs group is F g h rest c x y le f l = absurd (false_true c)
-  turning_two_holds fin (kind j) rs group is F g h rest c x y le f l = absurd (false_true c)
-  turning_two_holds fin (place p) rs group is F g h rest c x y le f l = absurd (false_true c)
-  turning_two_holds fin (inside j r) rs group is F g h rest c x y le f l = absurd (false_true c)
-  turning_two_holds fin (r ||| q) rs group is F g h rest c x y le f l = absurd (false_true c)
-  turning_two_holds fin (many r) rs group is F g h rest c x y le f l = absurd (false_true c)
-  turning_two_holds fin tokens rs group is F g h rest c x y le f l = absurd (false_true c)
-  turning_two_holds fin (nothing ~ b) rs group is F g h rest c x y le f l = absurd (false_true c)
-  turning_two_holds fin ((kind j) ~ b) rs group is F g h rest c x y le f l = absurd (false_true c)
-  turning_two_holds fin ((place p) ~ b) rs group is F g h rest c x y le f l = absurd (false_true c)
-  turning_two_holds fin ((inside j r) ~ b) rs group is F g h rest c x y le f l = absurd (false_true c)
-  turning_two_holds fin ((r ||| q) ~ b) rs group is F g h rest c x y le f l = absurd (false_true c)
-  turning_two_holds fin ((many r) ~ b) rs group is F g h rest c x y le f l = absurd (false_true c)
-  turning_two_holds fin (tokens ~ b) rs group is F g h rest c x y le f l = absurd (false_true c)
-  turning_two_holds fin ((r ~ q) ~ b) rs group is F g h rest c x y le f l = absurd (false_true c)
+  repeating_two_holds fin nothing rs group is F g h rest c x y le f l = absurd (false_true c)
+  repeating_two_holds fin (word e) rs group is F g h rest c x y le f l = absurd (false_true c)
+  repeating_two_holds fin (kind j) rs group is F g h rest c x y le f l = absurd (false_true c)
+  repeating_two_holds fin (place p) rs group is F g h rest c x y le f l = absurd (false_true c)
+  repeating_two_holds fin (inside j r) rs group is F g h rest c x y le f l = absurd (false_true c)
+  repeating_two_holds fin (r ||| q) rs group is F g h rest c x y le f l = absurd (false_true c)
+  repeating_two_holds fin (many r) rs group is F g h rest c x y le f l = absurd (false_true c)
+  repeating_two_holds fin tokens rs group is F g h rest c x y le f l = absurd (false_true c)
+  repeating_two_holds fin (nothing ~ b) rs group is F g h rest c x y le f l = absurd (false_true c)
+  repeating_two_holds fin ((kind j) ~ b) rs group is F g h rest c x y le f l = absurd (false_true c)
+  repeating_two_holds fin ((place p) ~ b) rs group is F g h rest c x y le f l = absurd (false_true c)
+  repeating_two_holds fin ((inside j r) ~ b) rs group is F g h rest c x y le f l = absurd (false_true c)
+  repeating_two_holds fin ((r ||| q) ~ b) rs group is F g h rest c x y le f l = absurd (false_true c)
+  repeating_two_holds fin ((many r) ~ b) rs group is F g h rest c x y le f l = absurd (false_true c)
+  repeating_two_holds fin (tokens ~ b) rs group is F g h rest c x y le f l = absurd (false_true c)
+  repeating_two_holds fin ((r ~ q) ~ b) rs group is F g h rest c x y le f l = absurd (false_true c)
 
-  -- behind the turns, a word alone or nothing
-  last_turn : (fin : Bool) (u : Terminal) (rs : List Rule) (group : Group) (is : List Item) (F : Terminal → Bool)
+  -- behind the repeats, a word alone or nothing
+  last_repeat : (fin : Bool) (u : Terminal) (rs : List Rule) (group : Group) (is : List Item) (F : Terminal → Bool)
       (g h : Forest) (rest : List Token) → looks_twice group ≡ true → none_by_two v group (first v rs F) ≡ true
-      → turn_by_two v go u (first v rs F) (word u) group (first v rs F) ≡ true → Fits v (nothing ||| word u) g
+      → repeat_by_two v go u (first v rs F) (word u) group (first v rs F) ≡ true → Fits v (nothing ||| word u) g
       → FitsAll v rs h → F (first_of rest) ≡ true → Walks (php v) is h rest
-      → Walks (php v) (Turns group ∷ is) (g +++ h) rest
-  last_turn fin u rs group is F g h rest tw nn la (is_first x) y f walk =
-      subst (λ (z : Forest). Walks (php v) (Turns group ∷ is) (z +++ h) rest) (sym (nothing_is v g x))
+      → Walks (php v) (Repeats group ∷ is) (g +++ h) rest
+  last_repeat fin u rs group is F g h rest tw nn la (is_first x) y f walk =
+      subst (λ (z : Forest). Walks (php v) (Repeats group ∷ is) (z +++ h) rest) (sym (nothing_is v g x))
       (stop (none_two group (first v rs F) (leaves h ++ rest) tw nn (first_class v rs F h rest y f)) walk)
-  last_turn fin u rs group is F g h rest tw nn la (is_second x) y f walk =
+  last_repeat fin u rs group is F g h rest tw nn la (is_second x) y f walk =
       let q : (z : Token) × (g ≡ leaf z none) × (accepts v u z ≡ true) = word_is v u g x in
       let at : first v rs F (first_of (leaves h ++ rest)) ≡ true = first_class v rs F h rest y f in
-      subst (λ (z : Forest). Walks (php v) (Turns group ∷ is) (z +++ h) rest) (sym q.1)
-      (turn_two u (first v rs F) (word u) group is (first v rs F) q.0 none h rest tw la q.2 (subst (λ (z : Forest). Fits v (word u) z) q.1 x) (zero_le n) at at
+      subst (λ (z : Forest). Walks (php v) (Repeats group ∷ is) (z +++ h) rest) (sym q.1)
+      (repeat_two u (first v rs F) (word u) group is (first v rs F) q.0 none h rest tw la q.2 (subst (λ (z : Forest). Fits v (word u) z) q.1 x) (zero_le n) at at
       (stop (none_two group (first v rs F) (leaves h ++ rest) tw nn at) walk))
 
-  turning_last_holds : (fin : Bool) (a : Rule) (rs : List Rule) (group : Group) (is : List Item) (F : Terminal → Bool)
-      (g h : Forest) (rest : List Token) → turning_last v go fin a rs group is F ≡ true → Fits v (many a) g
+  repeating_last_holds : (fin : Bool) (a : Rule) (rs : List Rule) (group : Group) (is : List Item) (F : Terminal → Bool)
+      (g h : Forest) (rest : List Token) → repeating_last v go fin a rs group is F ≡ true → Fits v (many a) g
       → FitsAll v rs h → count (g +++ h) ≤ n → F (first_of rest) ≡ true → (fin ≡ true → Last (g +++ h) rest)
-      → Walks (php v) (Turns group ∷ is) (g +++ h) rest
-  turning_last_holds fin (word w ~ b) ((nothing ||| word u) ∷ rs) group is F g h rest c x y le f l =
+      → Walks (php v) (Repeats group ∷ is) (g +++ h) rest
+  repeating_last_holds fin (word w ~ b) ((nothing ||| word u) ∷ rs) group is F g h rest c x y le f l =
       let S : Bool = none_by_two v group (first v rs F) in
-      let U : Bool = turn_by_two v go w (starts v b) (word w ~ b) group (first v (many (word w ~ b) ∷ (nothing ||| word u) ∷ rs) F) in
-      let Z : Bool = turn_by_two v go u (first v rs F) (word u) group (first v rs F) in
+      let U : Bool = repeat_by_two v go w (starts v b) (word w ~ b) group (first v (many (word w ~ b) ∷ (nothing ||| word u) ∷ rs) F) in
+      let Z : Bool = repeat_by_two v go u (first v rs F) (word u) group (first v rs F) in
       let q : (looks_twice group ≡ true) × (not (nullable b) ≡ true) × (S ≡ true) × (U ≡ true)
       × ((Z && go fin rs is F) ≡ true) = five (looks_twice group) (not (nullable b)) S U (Z && go fin rs is F) c
       in
@@ -762,68 +762,68 @@ module _ (v : Version) (n : ℕ) (below : Below v n) (go : Check) (holds : Holds
       let le2 : count y.1 ≤ n = right_le y.0 y.1 n (subst (λ (m : Forest). count m ≤ n) y.4 (right_le g h n le)) in
       let last : Walks (php v) is y.1 rest = holds fin rs is F y.1 rest z.1 y.3 le2 f
       (λ e. last_right y.0 y.1 rest (subst (λ (m : Forest). Last m rest) y.4 (last_right g h rest (l e)))) in
-      turns_two w b ((nothing ||| word u) ∷ rs) group is F h rest q.0 (not_true (nullable b) q.1) q.3 y f
-      (subst (λ (m : Forest). Walks (php v) (Turns group ∷ is) m rest) (sym y.4) (last_turn fin u rs group is F y.0 y.1 rest q.0 q.2 z.0 y.2 y.3 f last))
+      repeats_two w b ((nothing ||| word u) ∷ rs) group is F h rest q.0 (not_true (nullable b) q.1) q.3 y f
+      (subst (λ (m : Forest). Walks (php v) (Repeats group ∷ is) m rest) (sym y.4) (last_repeat fin u rs group is F y.0 y.1 rest q.0 q.2 z.0 y.2 y.3 f last))
       g x (left_le g h n le)
-  turning_last_holds fin nothing rs group is F g h rest c x y le f l = absurd (false_true c)
-  turning_last_holds fin (word e) rs group is F g h rest c x y le f l = absurd (false_true c)
-  turning_last_holds fin (kind j) rs group is F g h rest c x y le f l = absurd (false_true c)
-  turning_last_holds fin (place p) rs group is F g h rest c x y le f l = absurd (false_true c)
-  turning_last_holds fin (inside j r) rs group is F g h rest c x y le f l = absurd (false_true c)
-  turning_last_holds fin (r ||| q) rs group is F g h rest c x y le f l = absurd (false_true c)
-  turning_last_holds fin (many r) rs group is F g h rest c x y le f l = absurd (false_true c)
-  turning_last_holds fin tokens rs group is F g h rest c x y le f l = absurd (false_true c)
-  turning_last_holds fin (nothing ~ b) rs group is F g h rest c x y le f l = absurd (false_true c)
-  turning_last_holds fin ((kind j) ~ b) rs group is F g h rest c x y le f l = absurd (false_true c)
-  turning_last_holds fin ((place p) ~ b) rs group is F g h rest c x y le f l = absurd (false_true c)
-  turning_last_holds fin ((inside j r) ~ b) rs group is F g h rest c x y le f l = absurd (false_true c)
-  turning_last_holds fin ((r ||| q) ~ b) rs group is F g h rest c x y le f l = absurd (false_true c)
-  turning_last_holds fin ((many r) ~ b) rs group is F g h rest c x y le f l = absurd (false_true c)
-  turning_last_holds fin (tokens ~ b) rs group is F g h rest c x y le f l = absurd (false_true c)
-  turning_last_holds fin ((r ~ q) ~ b) rs group is F g h rest c x y le f l = absurd (false_true c)
-  turning_last_holds fin (word w ~ b) [] group is F g h rest c x y le f l = absurd (false_true c)
-  turning_last_holds fin (word w ~ b) (nothing ∷ rs) group is F g h rest c x y le f l = absurd (false_true c)
-  turning_last_holds fin (word w ~ b) ((word e) ∷ rs) group is F g h rest c x y le f l = absurd (false_true c)
-  turning_last_holds fin (word w ~ b) ((kind j) ∷ rs) group is F g h rest c x y le f l = absurd (false_true c)
-  turning_last_holds fin (word w ~ b) ((place p) ∷ rs) group is F g h rest c x y le f l = absurd (false_true c)
-  turning_last_holds fin (word w ~ b) ((inside j r) ∷ rs) group is F g h rest c x y le f l = absurd (false_true c)
-  turning_last_holds fin (word w ~ b) ((many r) ∷ rs) group is F g h rest c x y le f l = absurd (false_true c)
-  turning_last_holds fin (word w ~ b) (tokens ∷ rs) group is F g h rest c x y le f l = absurd (false_true c)
-  turning_last_holds fin (word w ~ b) ((r ~ q) ∷ rs) group is F g h rest c x y le f l = absurd (false_true c)
-  turning_last_holds fin (word w ~ b) (((word e) ||| z) ∷ rs) group is F g h rest c x y le f l = absurd (false_true c)
-  turning_last_holds fin (word w ~ b) (((kind j) ||| z) ∷ rs) group is F g h rest c x y le f l = absurd (false_true c)
-  turning_last_holds fin (word w ~ b) (((place p) ||| z) ∷ rs) group is F g h rest c x y le f l = absurd (false_true c)
-  turning_last_holds fin (word w ~ b) (((inside j r) ||| z) ∷ rs) group is F g h rest c x y le f l = absurd (false_true c)
-  turning_last_holds fin (word w ~ b) (((r ||| o) ||| z) ∷ rs) group is F g h rest c x y le f l = absurd (false_true c)
-  turning_last_holds fin (word w ~ b) (((many r) ||| z) ∷ rs) group is F g h rest c x y le f l = absurd (false_true c)
-  turning_last_holds fin (word w ~ b) ((tokens ||| z) ∷ rs) group is F g h rest c x y le f l = absurd (false_true c)
-  turning_last_holds fin (word w ~ b) (((r ~ q) ||| z) ∷ rs) group is F g h rest c x y le f l = absurd (false_true c)
-  turning_last_holds fin (word w ~ b) ((nothing ||| nothing) ∷ rs) group is F g h rest c x y le f l = absurd (false_true c)
-  turning_last_holds fin (word w ~ b) ((nothing ||| (kind j)) ∷ rs) group is F g h rest c x y le f l = absurd (false_true c)
-  turning_last_holds fin (word w ~ b) ((nothing ||| (place p)) ∷ rs) group is F g h rest c x y le f l = absurd (false_true c)
-  turning_last_holds fin (word w ~ b) ((nothing ||| (inside j r)) ∷ rs) group is F g h rest c x y le f l = absurd (false_true c)
-  turning_last_holds fin (word w ~ b) ((nothing ||| (r ||| q)) ∷ rs) group is F g h rest c x y le f l = absurd (false_true c)
-  turning_last_holds fin (word w ~ b) ((nothing ||| (many r)) ∷ rs) group is F g h rest c x y le f l = absurd (false_true c)
-  turning_last_holds fin (word w ~ b) ((nothing ||| tokens) ∷ rs) group is F g h rest c x y le f l = absurd (false_true c)
-  turning_last_holds fin (word w ~ b) ((nothing ||| (r ~ q)) ∷ rs) group is F g h rest c x y le f l = absurd (false_true c)
+  repeating_last_holds fin nothing rs group is F g h rest c x y le f l = absurd (false_true c)
+  repeating_last_holds fin (word e) rs group is F g h rest c x y le f l = absurd (false_true c)
+  repeating_last_holds fin (kind j) rs group is F g h rest c x y le f l = absurd (false_true c)
+  repeating_last_holds fin (place p) rs group is F g h rest c x y le f l = absurd (false_true c)
+  repeating_last_holds fin (inside j r) rs group is F g h rest c x y le f l = absurd (false_true c)
+  repeating_last_holds fin (r ||| q) rs group is F g h rest c x y le f l = absurd (false_true c)
+  repeating_last_holds fin (many r) rs group is F g h rest c x y le f l = absurd (false_true c)
+  repeating_last_holds fin tokens rs group is F g h rest c x y le f l = absurd (false_true c)
+  repeating_last_holds fin (nothing ~ b) rs group is F g h rest c x y le f l = absurd (false_true c)
+  repeating_last_holds fin ((kind j) ~ b) rs group is F g h rest c x y le f l = absurd (false_true c)
+  repeating_last_holds fin ((place p) ~ b) rs group is F g h rest c x y le f l = absurd (false_true c)
+  repeating_last_holds fin ((inside j r) ~ b) rs group is F g h rest c x y le f l = absurd (false_true c)
+  repeating_last_holds fin ((r ||| q) ~ b) rs group is F g h rest c x y le f l = absurd (false_true c)
+  repeating_last_holds fin ((many r) ~ b) rs group is F g h rest c x y le f l = absurd (false_true c)
+  repeating_last_holds fin (tokens ~ b) rs group is F g h rest c x y le f l = absurd (false_true c)
+  repeating_last_holds fin ((r ~ q) ~ b) rs group is F g h rest c x y le f l = absurd (false_true c)
+  repeating_last_holds fin (word w ~ b) [] group is F g h rest c x y le f l = absurd (false_true c)
+  repeating_last_holds fin (word w ~ b) (nothing ∷ rs) group is F g h rest c x y le f l = absurd (false_true c)
+  repeating_last_holds fin (word w ~ b) ((word e) ∷ rs) group is F g h rest c x y le f l = absurd (false_true c)
+  repeating_last_holds fin (word w ~ b) ((kind j) ∷ rs) group is F g h rest c x y le f l = absurd (false_true c)
+  repeating_last_holds fin (word w ~ b) ((place p) ∷ rs) group is F g h rest c x y le f l = absurd (false_true c)
+  repeating_last_holds fin (word w ~ b) ((inside j r) ∷ rs) group is F g h rest c x y le f l = absurd (false_true c)
+  repeating_last_holds fin (word w ~ b) ((many r) ∷ rs) group is F g h rest c x y le f l = absurd (false_true c)
+  repeating_last_holds fin (word w ~ b) (tokens ∷ rs) group is F g h rest c x y le f l = absurd (false_true c)
+  repeating_last_holds fin (word w ~ b) ((r ~ q) ∷ rs) group is F g h rest c x y le f l = absurd (false_true c)
+  repeating_last_holds fin (word w ~ b) (((word e) ||| z) ∷ rs) group is F g h rest c x y le f l = absurd (false_true c)
+  repeating_last_holds fin (word w ~ b) (((kind j) ||| z) ∷ rs) group is F g h rest c x y le f l = absurd (false_true c)
+  repeating_last_holds fin (word w ~ b) (((place p) ||| z) ∷ rs) group is F g h rest c x y le f l = absurd (false_true c)
+  repeating_last_holds fin (word w ~ b) (((inside j r) ||| z) ∷ rs) group is F g h rest c x y le f l = absurd (false_true c)
+  repeating_last_holds fin (word w ~ b) (((r ||| o) ||| z) ∷ rs) group is F g h rest c x y le f l = absurd (false_true c)
+  repeating_last_holds fin (word w ~ b) (((many r) ||| z) ∷ rs) group is F g h rest c x y le f l = absurd (false_true c)
+  repeating_last_holds fin (word w ~ b) ((tokens ||| z) ∷ rs) group is F g h rest c x y le f l = absurd (false_true c)
+  repeating_last_holds fin (word w ~ b) (((r ~ q) ||| z) ∷ rs) group is F g h rest c x y le f l = absurd (false_true c)
+  repeating_last_holds fin (word w ~ b) ((nothing ||| nothing) ∷ rs) group is F g h rest c x y le f l = absurd (false_true c)
+  repeating_last_holds fin (word w ~ b) ((nothing ||| (kind j)) ∷ rs) group is F g h rest c x y le f l = absurd (false_true c)
+  repeating_last_holds fin (word w ~ b) ((nothing ||| (place p)) ∷ rs) group is F g h rest c x y le f l = absurd (false_true c)
+  repeating_last_holds fin (word w ~ b) ((nothing ||| (inside j r)) ∷ rs) group is F g h rest c x y le f l = absurd (false_true c)
+  repeating_last_holds fin (word w ~ b) ((nothing ||| (r ||| q)) ∷ rs) group is F g h rest c x y le f l = absurd (false_true c)
+  repeating_last_holds fin (word w ~ b) ((nothing ||| (many r)) ∷ rs) group is F g h rest c x y le f l = absurd (false_true c)
+  repeating_last_holds fin (word w ~ b) ((nothing ||| tokens) ∷ rs) group is F g h rest c x y le f l = absurd (false_true c)
+  repeating_last_holds fin (word w ~ b) ((nothing ||| (r ~ q)) ∷ rs) group is F g h rest c x y le f l = absurd (false_true c)
 
-  on_turns_hold : (fin : Bool) (r : Rule) (rs : List Rule) (group : Group) (is : List Item) (F : Terminal → Bool)
-      (g h : Forest) (rest : List Token) → on_turns v go fin r rs group is F ≡ true → Fits v r g → FitsAll v rs h
+  on_repeats_hold : (fin : Bool) (r : Rule) (rs : List Rule) (group : Group) (is : List Item) (F : Terminal → Bool)
+      (g h : Forest) (rest : List Token) → on_repeats v go fin r rs group is F ≡ true → Fits v r g → FitsAll v rs h
       → count (g +++ h) ≤ n → F (first_of rest) ≡ true → (fin ≡ true → Last (g +++ h) rest)
-      → Walks (php v) (Turns group ∷ is) (g +++ h) rest
-  on_turns_hold fin (many a) rs group is F g h rest c x y le f l =
-      elim (three_ways (looks_once group) (turning v go fin a rs group is F) (turning_two v go fin a rs group is F) (turning_last v go fin a rs group is F) c) [
-        | inl e ↦ turning_holds fin a rs group is F g h rest e x y le f l
-        | inr e ↦ elim e [ inl o ↦ turning_two_holds fin a rs group is F g h rest o x y le f l | inr o ↦ turning_last_holds fin a rs group is F g h rest o x y le f l ]
+      → Walks (php v) (Repeats group ∷ is) (g +++ h) rest
+  on_repeats_hold fin (many a) rs group is F g h rest c x y le f l =
+      elim (three_ways (looks_once group) (repeating v go fin a rs group is F) (repeating_two v go fin a rs group is F) (repeating_last v go fin a rs group is F) c) [
+        | inl e ↦ repeating_holds fin a rs group is F g h rest e x y le f l
+        | inr e ↦ elim e [ inl o ↦ repeating_two_holds fin a rs group is F g h rest o x y le f l | inr o ↦ repeating_last_holds fin a rs group is F g h rest o x y le f l ]
       ]
-  on_turns_hold fin nothing rs group is F g h rest c x y le f l = absurd (false_true c)
-  on_turns_hold fin (word w) rs group is F g h rest c x y le f l = absurd (false_true c)
-  on_turns_hold fin (kind j) rs group is F g h rest c x y le f l = absurd (false_true c)
-  on_turns_hold fin (place p) rs group is F g h rest c x y le f l = absurd (false_true c)
-  on_turns_hold fin (inside j r) rs group is F g h rest c x y le f l = absurd (false_true c)
-  on_turns_hold fin (r ~ q) rs group is F g h rest c x y le f l = absurd (false_true c)
-  on_turns_hold fin (r ||| q) rs group is F g h rest c x y le f l = absurd (false_true c)
-  on_turns_hold fin tokens rs group is F g h rest c x y le f l = absurd (false_true c)
+  on_repeats_hold fin nothing rs group is F g h rest c x y le f l = absurd (false_true c)
+  on_repeats_hold fin (word w) rs group is F g h rest c x y le f l = absurd (false_true c)
+  on_repeats_hold fin (kind j) rs group is F g h rest c x y le f l = absurd (false_true c)
+  on_repeats_hold fin (place p) rs group is F g h rest c x y le f l = absurd (false_true c)
+  on_repeats_hold fin (inside j r) rs group is F g h rest c x y le f l = absurd (false_true c)
+  on_repeats_hold fin (r ~ q) rs group is F g h rest c x y le f l = absurd (false_true c)
+  on_repeats_hold fin (r ||| q) rs group is F g h rest c x y le f l = absurd (false_true c)
+  on_repeats_hold fin tokens rs group is F g h rest c x y le f l = absurd (false_true c)
 
   item_holds : (fin : Bool) (r : Rule) (rs : List Rule) (is : List Item) (F : Terminal → Bool) (g h : Forest)
       (rest : List Token) → on_item v go fin r rs is F ≡ true → Fits v r g → FitsAll v rs h → count (g +++ h) ≤ n
@@ -837,7 +837,7 @@ module _ (v : Version) (n : ℕ) (below : Below v n) (go : Check) (holds : Holds
       let p : (node_ends v fin rs F sort ≡ true) × (go fin rs is F ≡ true) = both (node_ends v fin rs F sort) (go fin rs is F) q.1 in
       node_read r sort is g h rest q.0 x le (stops_here fin rs F sort g h rest p.0 y f l) (holds fin rs is F h rest p.1 y (right_le g h n le) f (λ e. last_right g h rest (l e)))
   item_holds fin r rs (Part group ∷ is) F g h rest c x y le f l = aligned_holds fin r rs group is F g h rest c x y le f l
-  item_holds fin r rs (Turns group ∷ is) F g h rest c x y le f l = on_turns_hold fin r rs group is F g h rest c x y le f l
+  item_holds fin r rs (Repeats group ∷ is) F g h rest c x y le f l = on_repeats_hold fin r rs group is F g h rest c x y le f l
   item_holds fin r rs (Span ∷ is) F g h rest c x y le f l = absurd (false_true c)
 
   name_holds : (fin : Bool) (r : Rule) (rs : List Rule) (is : List Item) (F : Terminal → Bool) (g h : Forest)
@@ -849,7 +849,7 @@ module _ (v : Version) (n : ℕ) (below : Below v n) (go : Check) (holds : Holds
   name_holds fin r rs (Part group ∷ is) F g h rest c x y le f l =
       aligned_holds fin r rs group is F g h rest (chosen (is_fixed group) (aligned v go fin r rs group is F) c) x y le
       f l
-  name_holds fin r rs (Turns group ∷ is) F g h rest c x y le f l = absurd (false_true c)
+  name_holds fin r rs (Repeats group ∷ is) F g h rest c x y le f l = absurd (false_true c)
   name_holds fin r rs (Span ∷ is) F g h rest c x y le f l = absurd (false_true c)
 
   both_hold : (fin : Bool) (r q : Rule) (rs : List Rule) (is : List Item) (F : Terminal → Bool) (g h : Forest)

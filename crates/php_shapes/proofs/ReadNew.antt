@@ -43,7 +43,7 @@ use Rattle.php_terminals.specs.Marks.{is_variable_start}
 use Rattle.php_forms.specs.declared.item.Sort.TheVariants as s
 use Rattle.php_forms.specs.declared.item.Group.TheVariants as g
 use Rattle.php_forms.specs.declared.item.Item.{Item}
-use Rattle.php_forms.specs.declared.item.Item.TheVariants.{Word, Node, Part, Turns}
+use Rattle.php_forms.specs.declared.item.Item.TheVariants.{Word, Node, Part, Repeats}
 use Rattle.php_forms.specs.Grammar.{Walks, Grows, Spells, ends, child, head, word as a_word}
 use Rattle.php_grammar.specs.Accepts.{accepts, same_class}
 use Rattle.php_grammar.specs.Levels.{level}
@@ -313,7 +313,7 @@ static_instance : (ts : List Token) → first_of ts ≡ t.Static → is_double_c
 static_instance ts e d = rw (e, d) refl
 
 class_created : (ts : List Token) → first_of ts ≡ t.Class → created ts ≡ Word t.Class ∷ Part g.CtorArgs
-    ∷ Part g.Extends ∷ Part g.Implements ∷ Word t.OpenBrace ∷ Turns g.Members ∷ Word t.CloseBrace ∷ []
+    ∷ Part g.Extends ∷ Part g.Implements ∷ Word t.OpenBrace ∷ Repeats g.Members ∷ Word t.CloseBrace ∷ []
 class_created ts e = rw e refl
 
 -- ---- `instanceof`
@@ -452,7 +452,7 @@ abbrev anonymous : Version → Rule
 anonymous v = word t.Class ~ new_arguments ~ inheritance v ~ members
 
 abbrev anonymous_items : List Item
-anonymous_items = Word t.Class ∷ Part g.CtorArgs ∷ Part g.Extends ∷ Part g.Implements ∷ Word t.OpenBrace ∷ Turns g.Members ∷ Word t.CloseBrace ∷ []
+anonymous_items = Word t.Class ∷ Part g.CtorArgs ∷ Part g.Extends ∷ Part g.Implements ∷ Word t.OpenBrace ∷ Repeats g.Members ∷ Word t.CloseBrace ∷ []
 
 abbrev any_class : Terminal → Bool
 any_class c = true

@@ -13,7 +13,7 @@ use Rattle.php_terminals.specs.Ahead.{first_of, second_of}
 use Rattle.php_forms.specs.declared.item.Sort.TheVariants as s
 use Rattle.php_forms.specs.declared.item.Group.TheVariants as g
 use Rattle.php_forms.specs.declared.item.Item.{Item}
-use Rattle.php_forms.specs.declared.item.Item.TheVariants.{Word, Node, Part, Turns}
+use Rattle.php_forms.specs.declared.item.Item.TheVariants.{Word, Node, Part, Repeats}
 use Rattle.php_forms.specs.Forms.{any}
 use Rattle.php_forms.specs.Grammar.{Walks, ends, child, word as a_word, Grows, head, Spells}
 use Rattle.php_grammar.specs.Accepts.{accepts, same_class}
@@ -238,7 +238,7 @@ paren_grows v n below m c rest x le b = atom v n below m k.Paren (form v k.Paren
     (Word t.OpenParen ∷ any ∷ Word t.CloseParen ∷ []) c rest (paren_first v) refl (paren_form v) (paren_test v) x le b
 
 isset_test : (v : Version) → matches v 60 false (form v k.Isset ∷ [])
-    (Word t.Isset ∷ Word t.OpenParen ∷ any ∷ Turns g.MoreUnset ∷ Word t.CloseParen ∷ []) (before_class v k.Isset) ≡
+    (Word t.Isset ∷ Word t.OpenParen ∷ any ∷ Repeats g.MoreUnset ∷ Word t.CloseParen ∷ []) (before_class v k.Isset) ≡
     true
 unfolding for_all
 isset_test V74 = refl
@@ -252,7 +252,7 @@ isset_first V83 = refl
 isset_form : (v : Version) (ts : List Token) → first_of ts ≡ t.Isset
     → operand_form v ts ≡ Some (
       k.Isset,
-      Word t.Isset ∷ Word t.OpenParen ∷ any ∷ Turns g.MoreUnset ∷ Word t.CloseParen
+      Word t.Isset ∷ Word t.OpenParen ∷ any ∷ Repeats g.MoreUnset ∷ Word t.CloseParen
           ∷ [],
     )
 isset_form v ts e = rw e refl
@@ -261,7 +261,7 @@ pub isset_grows : (v : Version) (n : ℕ) → Below v n → (m : ℕ) (c : Fores
     → Fits v (form v k.Isset) c → count c ≤ n → Before v (k.Isset, c) (first_of rest)
     → Grows (php v) (s.Operand m) k.Isset c rest
 isset_grows v n below m c rest x le b = atom v n below m k.Isset (form v k.Isset) t.Isset
-    (Word t.Isset ∷ Word t.OpenParen ∷ any ∷ Turns g.MoreUnset ∷ Word t.CloseParen ∷ []) c rest (isset_first v) refl
+    (Word t.Isset ∷ Word t.OpenParen ∷ any ∷ Repeats g.MoreUnset ∷ Word t.CloseParen ∷ []) c rest (isset_first v) refl
     (isset_form v) (isset_test v) x le b
 
 empty_test_test : (v : Version) → matches v 60 false (form v k.EmptyTest ∷ []) (Word t.Empty ∷ Word t.OpenParen ∷ any ∷ Word t.CloseParen ∷ []) (before_class v k.EmptyTest) ≡ true

@@ -12,9 +12,9 @@ use Rattle.php_terminals.specs.Ahead.{first_of, second_of}
 use Rattle.php_forms.specs.declared.item.Sort.TheVariants as s
 use Rattle.php_forms.specs.declared.item.Group.TheVariants as g
 use Rattle.php_forms.specs.declared.item.Item.{Item}
-use Rattle.php_forms.specs.declared.item.Item.TheVariants.{Word, Node, Part, Turns}
+use Rattle.php_forms.specs.declared.item.Item.TheVariants.{Word, Node, Part, Repeats}
 use Rattle.php_forms.specs.Forms.{any}
-use Rattle.php_forms.specs.Grammar.{Walks, Grows, ends, child, stop, turn, head, onward, word as a_word}
+use Rattle.php_forms.specs.Grammar.{Walks, Grows, ends, child, stop, repeat, head, onward, word as a_word}
 use Rattle.php_grammar.specs.Accepts.{accepts, same_class}
 use Rattle.php_grammar.specs.Operands.{operand_form}
 use Rattle.php_grammar.specs.Tables.{php, parts}
@@ -295,7 +295,7 @@ at_end : (v : Version) (us : List Token) → first_of us ≡ t.QuotedEnd → par
 at_end v us e = rw e refl
 
 all_parts : (v : Version) (n : ℕ) → Below v n → (us : List Token) → first_of us ≡ t.QuotedEnd → (f : Forest)
-    → Fits v (many quoted_part) f → count f ≤ n → Walks (php v) (Turns g.QuotedParts ∷ []) f us
+    → Fits v (many quoted_part) f → count f ≤ n → Walks (php v) (Repeats g.QuotedParts ∷ []) f us
 all_parts v n below us e f no_more le = stop (at_end v us e) ends
 all_parts v n below us e f (once_more {g = a} {h = b} x y at) le =
     let le' : count (a +++ b) ≤ n = subst (λ (z : Forest). count z ≤ n) at le in
@@ -303,17 +303,17 @@ all_parts v n below us e f (once_more {g = a} {h = b} x y at) le =
     begin_quoted (starts v (many quoted_part)) (leaves b) us (rule_begins v y)
     (λ d p. where_is (starts v quoted_part) goes_quoted d ((part_begins v).0) p) (ap goes_quoted e) in
     let q : PartRead v a (leaves b ++ us) = part_read v n below a (leaves b ++ us) x (left_le a b n le') go in
-    subst (λ (z : Forest). Walks (php v) (Turns g.QuotedParts ∷ []) z us) (sym at)
-    (turn {h = a} q.chosen q.walk (some_leaf (starts v quoted_part) (leaves a) (rule_begins v x)) (all_parts v n below us e b y (right_le a b n le')))
+    subst (λ (z : Forest). Walks (php v) (Repeats g.QuotedParts ∷ []) z us) (sym at)
+    (repeat {h = a} q.chosen q.walk (some_leaf (starts v quoted_part) (leaves a) (rule_begins v x)) (all_parts v n below us e b y (right_le a b n le')))
 
 end_is : (v : Version) (us : List Token) → starts v (word t.QuotedEnd) (first_of us) ≡ true → first_of us ≡ t.QuotedEnd
 end_is v us st = same_is (first_of us) t.QuotedEnd (where_is (starts v (word t.QuotedEnd)) (λ d. same_class d t.QuotedEnd) (first_of us) ((part_begins v).1) st)
 
-quoted_form : (v : Version) (ts : List Token) → first_of ts ≡ t.QuoteOpen → operand_form v ts ≡ Some (k.Quoted, Word t.QuoteOpen ∷ Turns g.QuotedParts ∷ Word t.QuotedEnd ∷ [])
+quoted_form : (v : Version) (ts : List Token) → first_of ts ≡ t.QuoteOpen → operand_form v ts ≡ Some (k.Quoted, Word t.QuoteOpen ∷ Repeats g.QuotedParts ∷ Word t.QuotedEnd ∷ [])
 quoted_form v ts e = rw e refl
 
 pub quoted_grows : (v : Version) (n : ℕ) → Below v n → (m : ℕ) (c : Forest) (rest : List Token) → Fits v quoted c → count c ≤ n → Grows (php v) (s.Operand m) k.Quoted c rest
 quoted_grows v n below m c rest x le = head (quoted_form v (leaves c ++ rest)
     (first_is v quoted t.QuoteOpen c rest ((part_begins v).2) refl x))
-    (between_words v t.QuoteOpen t.QuotedEnd (many quoted_part) (Turns g.QuotedParts ∷ []) n c rest x le
+    (between_words v t.QuoteOpen t.QuotedEnd (many quoted_part) (Repeats g.QuotedParts ∷ []) n c rest x le
     (λ f us y le' st. all_parts v n below us (end_is v us st) f y le'))

@@ -12,7 +12,7 @@ use Rattle.php_terminals.specs.Marks.{closes, opens}
 use Rattle.php_terminals.specs.Ahead.{first_of, spanned}
 use Rattle.php_forms.specs.declared.item.Group.TheVariants as g
 use Rattle.php_forms.specs.declared.item.Item.{Item}
-use Rattle.php_forms.specs.declared.item.Item.TheVariants.{Word, Part, Turns, Span}
+use Rattle.php_forms.specs.declared.item.Item.TheVariants.{Word, Part, Repeats, Span}
 use Rattle.php_forms.specs.Declarations.{trait_rules}
 use Rattle.php_forms.specs.Forms.{or_else}
 use Rattle.php_forms.specs.Grammar.{Walks, IsFlat, head, ends, word as a_word, span}
@@ -69,7 +69,7 @@ tokens_are v f (is_tokens h) = h
 -- ---- the use
 
 abbrev names_items : List Item
-names_items = Word t.Use ∷ Part g.Name ∷ Turns g.MoreNames ∷ []
+names_items = Word t.Use ∷ Part g.Name ∷ Repeats g.MoreNames ∷ []
 
 abbrev ends_names : Terminal → Bool
 ends_names t.Semi = true

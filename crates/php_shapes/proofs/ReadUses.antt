@@ -10,7 +10,7 @@ use Rattle.php_terminals.specs.Classify.{terminal}
 use Rattle.php_terminals.specs.Ahead.{first_of, second_of}
 use Rattle.php_forms.specs.declared.item.Group.TheVariants as g
 use Rattle.php_forms.specs.declared.item.Item.{Item}
-use Rattle.php_forms.specs.declared.item.Item.TheVariants.{Word, Part, Turns}
+use Rattle.php_forms.specs.declared.item.Item.TheVariants.{Word, Part, Repeats}
 use Rattle.php_forms.specs.Declarations.{use_body, use_rest}
 use Rattle.php_forms.specs.Grammar.{Walks, word as a_word}
 use Rattle.php_forms.specs.Names.{name_more}
@@ -76,10 +76,10 @@ abbrev more_imports : Version → Rule
 more_imports v = alias ~ many (word t.Comma ~ imported v)
 
 abbrev more_items : List Item
-more_items = Part g.Alias ∷ Turns g.MoreUses ∷ []
+more_items = Part g.Alias ∷ Repeats g.MoreUses ∷ []
 
 abbrev group_items : List Item
-group_items = Word t.Backslash ∷ Word t.OpenBrace ∷ Part g.Grouped ∷ Turns g.MoreGrouped ∷ Word t.CloseBrace ∷ []
+group_items = Word t.Backslash ∷ Word t.OpenBrace ∷ Part g.Grouped ∷ Repeats g.MoreGrouped ∷ Word t.CloseBrace ∷ []
 
 no_group : (c : Terminal) → is_backslash c ≡ false → use_rest c ≡ more_items
 no_group t.Backslash h = absurd (false_true (sym h))

@@ -14,9 +14,9 @@ use Rattle.php_terminals.specs.Marks.{is_variable_start}
 use Rattle.php_forms.specs.declared.item.Sort.TheVariants as s
 use Rattle.php_forms.specs.declared.item.Group.TheVariants as g
 use Rattle.php_forms.specs.declared.item.Item.{Item}
-use Rattle.php_forms.specs.declared.item.Item.TheVariants.{Word, Node, Part, Turns, Span}
+use Rattle.php_forms.specs.declared.item.Item.TheVariants.{Word, Node, Part, Repeats, Span}
 use Rattle.php_forms.specs.Forms.{any}
-use Rattle.php_forms.specs.Grammar.{Form, Tables, Walks, Grows, Spells, ends, child, part, stop, turn, span, head, word as a_word}
+use Rattle.php_forms.specs.Grammar.{Form, Tables, Walks, Grows, Spells, ends, child, part, stop, repeat, span, head, word as a_word}
 use Rattle.php_forms.specs.Lists.{arg_list, item_form}
 use Rattle.php_forms.specs.declared.item.Group.{Group}
 use Rattle.php_grammar.specs.Operands.{operand_form, simple_variable_form}
@@ -54,9 +54,9 @@ walk_join T js e rest w at (part {g = group} {is = is} {h = h} {f = f} x y) =
     subst (λ (z : Forest). Walks T (Part group ∷ (is ++ js)) z rest) (sym (forest_assoc h f e))
     (part (subst (λ (z : List Token). Walks T (T.parts group (leaves h ++ z)) h z) (behind_join f e rest _ at) x) (walk_join T js e rest w at y))
 walk_join T js e rest w at (stop {g = group} {f = f} p x) = stop (subst (λ (z : List Token). T.parts group z ≡ []) (behind_join f e rest _ at) p) (walk_join T js e rest w at x)
-walk_join T js e rest w at (turn {g = group} {i = i} {js = ks} {is = is} {h = h} {f = f} p x lt y) =
-    subst (λ (z : Forest). Walks T (Turns group ∷ (is ++ js)) z rest) (sym (forest_assoc h f e))
-    (turn (subst (λ (z : List Token). T.parts group (leaves h ++ z) ≡ i ∷ ks) (behind_join f e rest _ at) p)
+walk_join T js e rest w at (repeat {g = group} {i = i} {js = ks} {is = is} {h = h} {f = f} p x lt y) =
+    subst (λ (z : Forest). Walks T (Repeats group ∷ (is ++ js)) z rest) (sym (forest_assoc h f e))
+    (repeat (subst (λ (z : List Token). T.parts group (leaves h ++ z) ≡ i ∷ ks) (behind_join f e rest _ at) p)
     (subst (λ (z : List Token). Walks T (i ∷ ks) h z) (behind_join f e rest _ at) x) lt
     (walk_join T js e rest w at y))
 walk_join T js e rest w at (span {is = is} {f = f} h flat p x) =
@@ -170,7 +170,7 @@ simple_variables_grow v n below c rest (is_node x near e) le = let q : Chosen v 
 abbrev some_args : Rule
 some_args = commas_last (maybe (word t.Ellipsis) ~ expr)
 
-args_test : (v : Version) → matches v 60 false (some_args ∷ []) (Part g.Variadic ∷ any ∷ Turns g.MoreArgs ∷ []) closes_args ≡ true
+args_test : (v : Version) → matches v 60 false (some_args ∷ []) (Part g.Variadic ∷ any ∷ Repeats g.MoreArgs ∷ []) closes_args ≡ true
 unfolding for_all
 args_test V74 = refl
 args_test V83 = refl
@@ -185,7 +185,7 @@ unfolding for_all
 args_begin V74 = refl
 args_begin V83 = refl
 
-arg_items : (c : Terminal) → is_no_close c ≡ true → arg_list c ≡ Part g.Variadic ∷ any ∷ Turns g.MoreArgs ∷ []
+arg_items : (c : Terminal) → is_no_close c ≡ true → arg_list c ≡ Part g.Variadic ∷ any ∷ Repeats g.MoreArgs ∷ []
 arg_items t.CloseParen e = absurd (false_true e)
 arg_items c e = refl
 
@@ -212,9 +212,9 @@ args_walk v n below c rest (is_first x) le h = group_alone v g.ArgList [] c rest
     (ap (λ (z : Forest). arg_list (first_of (leaves z ++ rest))) (nothing_is v c x) ∙ no_arg_items (first_of rest) h)
     (subst (λ (z : Forest). Walks (php v) [] z rest) (sym (nothing_is v c x)) ends)
 args_walk v n below c rest (is_second x) le h = group_alone v g.ArgList
-    (Part g.Variadic ∷ any ∷ Turns g.MoreArgs ∷ []) c rest
+    (Part g.Variadic ∷ any ∷ Repeats g.MoreArgs ∷ []) c rest
     (arg_items (first_of (leaves c ++ rest)) (starts_with v some_args is_no_close c rest (args_begin v) refl x))
-    (matched v n below 60 false (some_args ∷ []) (Part g.Variadic ∷ any ∷ Turns g.MoreArgs ∷ []) closes_args c rest
+    (matched v n below 60 false (some_args ∷ []) (Part g.Variadic ∷ any ∷ Repeats g.MoreArgs ∷ []) closes_args c rest
     (args_test v) (fits_alone v some_args c x) le h (λ z. absurd (false_true z)))
 
 pub args_grow : (v : Version) (n : ℕ) → Below v n → (c : Forest) (rest : List Token) → IsNode v k.Args c → count c ≤ n

@@ -5,8 +5,8 @@ use Rattle.php_tree.specs.Tree.{Forest, none, leaf, ◌+++◌, leaves}
 use Rattle.php_terminals.specs.declared.terminal.Terminal.{Terminal}
 use Rattle.php_forms.specs.declared.item.Group.{Group}
 use Rattle.php_forms.specs.declared.item.Item.{Item}
-use Rattle.php_forms.specs.declared.item.Item.TheVariants.{Word, Part, Turns}
-use Rattle.php_forms.specs.Grammar.{Tables, Walks, ends, word as a_word, part, stop, turn}
+use Rattle.php_forms.specs.declared.item.Item.TheVariants.{Word, Part, Repeats}
+use Rattle.php_forms.specs.Grammar.{Tables, Walks, ends, word as a_word, part, stop, repeat}
 use Rattle.php_shapes.proofs.ReadMatch.{leaves_before}
 
 pub no_items : (T : Tables) (f : Forest) (us : List Token) → Walks T [] f us → f ≡ none
@@ -25,7 +25,7 @@ part_first T g is f us (part {h = h} {f = m} y w) = (h, m, refl, y, w)
 cons_not_nil : (A : Type 0) (x : A) (xs : List A) → [] ≡ x ∷ xs → ⊥
 cons_not_nil A x xs e = cc
 
--- no turn, where the next tokens choose none
-pub no_turns : (T : Tables) (g : Group) (is : List Item) (f : Forest) (us : List Token) → T.parts g (leaves f ++ us) ≡ [] → Walks T (Turns g ∷ is) f us → Walks T is f us
-no_turns T g is f us e (stop y w) = w
-no_turns T g is f us e (turn {i = i} {js = js} {h = h} {f = m} y x lt w) = absurd (cons_not_nil Item i js (sym e ∙ ap (T.parts g) (leaves_before h m us) ∙ y))
+-- no repeat, where the next tokens choose none
+pub no_repeats : (T : Tables) (g : Group) (is : List Item) (f : Forest) (us : List Token) → T.parts g (leaves f ++ us) ≡ [] → Walks T (Repeats g ∷ is) f us → Walks T is f us
+no_repeats T g is f us e (stop y w) = w
+no_repeats T g is f us e (repeat {i = i} {js = js} {h = h} {f = m} y x lt w) = absurd (cons_not_nil Item i js (sym e ∙ ap (T.parts g) (leaves_before h m us) ∙ y))

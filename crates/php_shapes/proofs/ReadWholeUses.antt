@@ -11,9 +11,9 @@ use Rattle.php_terminals.specs.Classify.{terminal}
 use Rattle.php_terminals.specs.Ahead.{first_of, second_of}
 use Rattle.php_forms.specs.declared.item.Group.TheVariants as g
 use Rattle.php_forms.specs.declared.item.Item.{Item}
-use Rattle.php_forms.specs.declared.item.Item.TheVariants.{Word, Part, Turns}
+use Rattle.php_forms.specs.declared.item.Item.TheVariants.{Word, Part, Repeats}
 use Rattle.php_forms.specs.Declarations.{class_use_rest, more_class_grouped, use_body}
-use Rattle.php_forms.specs.Grammar.{Walks, head, ends, word as a_word, part, stop, turn}
+use Rattle.php_forms.specs.Grammar.{Walks, head, ends, word as a_word, part, stop, repeat}
 use Rattle.php_grammar.specs.Accepts.{accepts, same_class}
 use Rattle.php_grammar.specs.Tables.{php}
 use Rattle.php_exprs.proofs.Forests.{forest_assoc}
@@ -84,21 +84,21 @@ unfolding for_all
 group_begins V74 = (refl, refl, refl)
 group_begins V83 = (refl, refl, refl)
 
-comma_walks : (v : Version) (h : Forest) (us : List Token) → Fits v last_comma h → first_of us ≡ t.CloseBrace → Walks (php v) (Turns g.MoreClassGrouped ∷ []) h us
-comma_walks v h us (is_first x) e = subst (λ (i : Forest). Walks (php v) (Turns g.MoreClassGrouped ∷ []) i us)
+comma_walks : (v : Version) (h : Forest) (us : List Token) → Fits v last_comma h → first_of us ≡ t.CloseBrace → Walks (php v) (Repeats g.MoreClassGrouped ∷ []) h us
+comma_walks v h us (is_first x) e = subst (λ (i : Forest). Walks (php v) (Repeats g.MoreClassGrouped ∷ []) i us)
     (sym (nothing_is v h x)) (stop (ap (λ (c : Terminal). more_class_grouped c (second_of us)) e) ends)
 comma_walks v h us (is_second x) e =
     let q : (z : Token) × (h ≡ leaf z none) × (accepts v t.Comma z ≡ true) = word_is v t.Comma h x in
-    subst (λ (i : Forest). Walks (php v) (Turns g.MoreClassGrouped ∷ []) i us) (sym q.1)
-    (turn {h = leaf q.0 none} {f = none} (ap (λ (c : Terminal). more_class_grouped c (first_of us))
+    subst (λ (i : Forest). Walks (php v) (Repeats g.MoreClassGrouped ∷ []) i us) (sym q.1)
+    (repeat {h = leaf q.0 none} {f = none} (ap (λ (c : Terminal). more_class_grouped c (first_of us))
     (pinned v t.Comma q.0 ((comma_pinned v).0) q.2) ∙ ap (more_class_grouped t.Comma) e) (a_word q.2 ends)
     (subst (λ (i : Forest). 0 < length (leaves i)) q.1 (has_token v (word t.Comma) h x refl))
     (stop (ap (λ (c : Terminal). more_class_grouped c (second_of us)) e) ends))
 
-next_turn : (v : Version) (a : Forest) (us : List Token) → Fits v (more_grouped_rule v) a
+next_repeat : (v : Version) (a : Forest) (us : List Token) → Fits v (more_grouped_rule v) a
     → more_class_grouped (first_of (leaves a ++ us)) (second_of (leaves a ++ us)) ≡ Word t.Comma ∷ Part g.ClassGrouped
     ∷ []
-next_turn v a us x =
+next_repeat v a us x =
     let q : (z : Token) × (m : Forest) × (a ≡ leaf z m) × (terminal z ≡ t.Comma)
     × Fits v (grouped_as_class v) m = after_word v t.Comma (grouped_as_class v) a ((comma_pinned v).0) x in
     let next : Terminal = first_of (leaves q.1 ++ us) in
@@ -122,12 +122,12 @@ module _ (v : Version) (n : ℕ) (below : Below v n) where
   more_by : (r : Rule) (h : Forest) (us : List Token) → ((a : Forest) → Fits v r a → Fits v (more_grouped_rule v) a)
       → ((m : Forest) → Fits v (many r) m → ends_one (first_of (leaves (m +++ h) ++ us)) ≡ true) → Fits v last_comma h
       → first_of us ≡ t.CloseBrace → (f : Forest) → Fits v (many r) f → count f ≤ n
-      → Walks (php v) (Turns g.MoreClassGrouped ∷ []) (f +++ h) us
+      → Walks (php v) (Repeats g.MoreClassGrouped ∷ []) (f +++ h) us
   more_by r h us same closed y e f no_more le = comma_walks v h us y e
   more_by r h us same closed y e f (once_more {g = a} {h = m} x xs at) le =
       let le2 : count (a +++ m) ≤ n = subst (λ (i : Forest). count i ≤ n) at le in
-      subst (λ (i : Forest). Walks (php v) (Turns g.MoreClassGrouped ∷ []) i us) (sym (ap (λ (i : Forest). i +++ h) at ∙ forest_assoc a m h))
-      (turn {h = a} {f = m +++ h} (next_turn v a (leaves (m +++ h) ++ us) (same a x))
+      subst (λ (i : Forest). Walks (php v) (Repeats g.MoreClassGrouped ∷ []) i us) (sym (ap (λ (i : Forest). i +++ h) at ∙ forest_assoc a m h))
+      (repeat {h = a} {f = m +++ h} (next_repeat v a (leaves (m +++ h) ++ us) (same a x))
       (next_walks a (leaves (m +++ h) ++ us) (same a x) (left_le a m n le2) (closed m xs))
       (has_token v (more_grouped_rule v) a (same a x) refl)
       (more_by r h us same closed y e m xs (right_le a m n le2)))
@@ -135,7 +135,7 @@ module _ (v : Version) (n : ℕ) (below : Below v n) where
   -- the names in braces, from the first on
   names_walk : (e m h c : Forest) (us : List Token) → Fits v (grouped_as_class v) e
       → Fits v (many (more_grouped_rule v)) m → Fits v last_comma h → Fits v (word t.CloseBrace) c
-      → count (e +++ m) ≤ n → Walks (php v) (Part g.ClassGrouped ∷ Turns g.MoreClassGrouped ∷ Word t.CloseBrace ∷ [])
+      → count (e +++ m) ≤ n → Walks (php v) (Part g.ClassGrouped ∷ Repeats g.MoreClassGrouped ∷ Word t.CloseBrace ∷ [])
       (e +++ ((m +++ h) +++ c)) us
   names_walk e m h c us xe xm xh xc le =
       let z : (b : Token) × (c ≡ leaf b none) × (accepts v t.CloseBrace b ≡ true) = word_is v t.CloseBrace c xc in
@@ -147,15 +147,15 @@ module _ (v : Version) (n : ℕ) (below : Below v n) where
       (first_class v (many (more_grouped_rule v) ∷ last_comma ∷ []) closes_group (k +++ h) (leaves c ++ us)
       (k, h, y, fits_alone v last_comma h xh, refl) (ap closes_group brace)) in
       let same : leaves ((m +++ h) +++ c) ++ us ≡ leaves (m +++ h) ++ (leaves c ++ us) = leaves_before (m +++ h) c us in
-      walks_on (php v) (Part g.ClassGrouped ∷ []) (Turns g.MoreClassGrouped ∷ Word t.CloseBrace ∷ []) e ((m +++ h) +++ c) us
+      walks_on (php v) (Part g.ClassGrouped ∷ []) (Repeats g.MoreClassGrouped ∷ Word t.CloseBrace ∷ []) e ((m +++ h) +++ c) us
       (group_walk v n below e (leaves ((m +++ h) +++ c) ++ us) xe (left_le e m n le) (ap (λ (ts : List Token). ends_one (first_of ts)) same ∙ closed m xm))
-      (walks_on (php v) (Turns g.MoreClassGrouped ∷ []) (Word t.CloseBrace ∷ []) (m +++ h) c us
+      (walks_on (php v) (Repeats g.MoreClassGrouped ∷ []) (Word t.CloseBrace ∷ []) (m +++ h) c us
       (more_by (more_grouped_rule v) h (leaves c ++ us) (λ a y. y) closed xh brace m xm (right_le e m n le))
       (subst (λ (i : Forest). Walks (php v) (Word t.CloseBrace ∷ []) i us) (sym z.1) (a_word z.2 ends)))
 
   -- braces behind a name
   braces_walk : (f : Forest) (us : List Token) → Fits v (group_of (grouped_as_class v)) f → count f ≤ n
-      → Walks (php v) (Word t.Backslash ∷ Word t.OpenBrace ∷ Part g.ClassGrouped ∷ Turns g.MoreClassGrouped
+      → Walks (php v) (Word t.Backslash ∷ Word t.OpenBrace ∷ Part g.ClassGrouped ∷ Repeats g.MoreClassGrouped
       ∷ Word t.CloseBrace ∷ []) f us
   braces_walk f us x le =
       let r : Rule = grouped_as_class v in
@@ -177,7 +177,7 @@ module _ (v : Version) (n : ℕ) (below : Below v n) where
       let le2 : count o.1 ≤ n = right_le o.0 o.1 n (subst (λ (i : Forest). count i ≤ n) o.4 le1) in
       let le3 : count q.0 ≤ n = left_le q.0 q.1 n (subst (λ (i : Forest). count i ≤ n) q.4 le2) in
       let le4 : count l.0 ≤ n = left_le l.0 l.1 n (subst (λ (i : Forest). count i ≤ n) l.4 le3) in
-      subst (λ (i : Forest). Walks (php v) (Word t.Backslash ∷ Word t.OpenBrace ∷ Part g.ClassGrouped ∷ Turns g.MoreClassGrouped ∷ Word t.CloseBrace ∷ []) i us) (sym at)
+      subst (λ (i : Forest). Walks (php v) (Word t.Backslash ∷ Word t.OpenBrace ∷ Part g.ClassGrouped ∷ Repeats g.MoreClassGrouped ∷ Word t.CloseBrace ∷ []) i us) (sym at)
       (a_word y.2 (a_word z.2 (names_walk e.0 e.1 l.1 q.1 us e.2 e.3 l.3 q.3 (subst (λ (i : Forest). count i ≤ n) e.4 le4))))
 
   -- a name and braces

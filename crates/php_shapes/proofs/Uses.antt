@@ -21,7 +21,7 @@ use Rattle.php_shapes.specs.Shapes.{Fits, is_nothing, is_word, is_both, is_first
 use Rattle.php_shapes.proofs.Entries as sq
 use Rattle.php_shapes.proofs.Entries.{Meet, Meets, alias_rule, entries, entry_to, flat, is_backslash, more_classes, plain, use_rest_rule, used_grouped_rule, used_rule}
 use Rattle.php_shapes.proofs.Sequences.{Gives, none_behind, pack, whole}
-use Rattle.php_shapes.proofs.Turns.{second_is}
+use Rattle.php_shapes.proofs.Repeats.{second_is}
 use Rattle.php_shapes.proofs.Told.{bare, first_join, first_none}
 
 -- ---- names that a use gives to classes
@@ -127,10 +127,10 @@ both : (b : Bool) → b ≡ true → b ≡ false → ⊥
 both true e d = absurd cc
 both false e d = absurd cc
 
-pub more_class_uses_turn : (v : Version) (x : Terminal) (h f : Forest) (rest : List Token)
+pub more_class_uses_repeat : (v : Version) (x : Terminal) (h f : Forest) (rest : List Token)
     → Meet v (entries v (fd.more_class_uses x)) h (leaves f ++ rest) → 0 < length (leaves h)
     → Meets v sq.more_class_uses f rest → Meets v sq.more_class_uses (h +++ f) rest
-more_class_uses_turn v t.Comma h f rest m has ih guard =
+more_class_uses_repeat v t.Comma h f rest m has ih guard =
     let fits = ih guard in
     let after = leaves f ++ rest in
     let a = m.3 in
@@ -142,7 +142,7 @@ more_class_uses_turn v t.Comma h f rest m has ih guard =
     both (is_backslash x) e (ap is_backslash (first_none a.1 after (same ∙ alias_none v x b.0 e alias)) ∙ more_no_backslash v f rest fits guard) in
     let class : Fits v (ns.imported_as_class v) (a.0 +++ b.0) = class_by v x a.0 b.0 a.2 alias last in
     once_more (is_both m.2 class (m.4 ∙ ap (λ (y : Forest). m.0 +++ y) (a.4 ∙ ap (λ (y : Forest). a.0 +++ y) same))) fits refl
-more_class_uses_turn v _ h f rest m has ih guard = absurd (omega (arith, subst (λ (y : Forest). 0 < length (leaves y)) m has))
+more_class_uses_repeat v _ h f rest m has ih guard = absurd (omega (arith, subst (λ (y : Forest). 0 < length (leaves y)) m has))
 
 pub class_use_rest_once : (v : Version) (x : Terminal) (f : Forest) (rest : List Token)
     → first_of (leaves f ++ rest) ≡ x → Meet v (entries v (fd.class_use_rest x)) f rest

@@ -9,10 +9,10 @@ use Rattle.php_terminals.specs.declared.terminal.Terminal.{Terminal}
 use Rattle.php_terminals.specs.Ahead.{spanned}
 use Rattle.php_forms.specs.declared.item.Group.{Group}
 use Rattle.php_forms.specs.declared.item.Item.{Item}
-use Rattle.php_forms.specs.declared.item.Item.TheVariants.{Word, Node, Part, Turns, Span}
+use Rattle.php_forms.specs.declared.item.Item.TheVariants.{Word, Node, Part, Repeats, Span}
 use Rattle.php_forms.specs.declared.item.Sort.{Sort}
 use Rattle.php_forms.specs.declared.item.Sort.TheVariants.{Operand}
-use Rattle.php_forms.specs.Grammar.{Form, Grows, IsFlat, Walks, child, ends, head, onward, part, span, stop, turn, word}
+use Rattle.php_forms.specs.Grammar.{Form, Grows, IsFlat, Walks, child, ends, head, onward, part, span, stop, repeat, word}
 use Rattle.php_grammar.specs.Tables.{form, parts, php, tail}
 use Rattle.php_exprs.specs.Expr as ex
 use Rattle.php_exprs.proofs.Forests.{forest_assoc}
@@ -23,10 +23,10 @@ use Rattle.php_shapes.specs.Nearest.{goes_on_if, is_nearest, is_open_if, is_open
 use Rattle.php_shapes.specs.Shapes.{Fits, IsExpression, Shape, is_place, is_word}
 use Rattle.php_shapes.specs.Statements as st
 use Rattle.php_shapes.proofs.Entries as sq
-use Rattle.php_shapes.proofs.Entries.{Meet, entries, flat, once, sorted, turns}
+use Rattle.php_shapes.proofs.Entries.{Meet, entries, flat, once, sorted, repeats}
 use Rattle.php_shapes.proofs.Sequences.{pack_entry, unpack_entry, whole}
 use Rattle.php_shapes.proofs.Told.{join}
-use Rattle.php_shapes.proofs.Parts.{once_meets, stop_meets, turn_meets}
+use Rattle.php_shapes.proofs.Parts.{once_meets, stop_meets, repeat_meets}
 use Rattle.php_shapes.proofs.Follows.{Ifs, Yields, follows_append, follows_flat, follows_leaf, follows_node, follows_none, nearest, shut_by}
 use Rattle.php_shapes.proofs.Standing.{Closed, Good, Stands}
 use Rattle.php_shapes.proofs.Openings.{begins_good}
@@ -76,30 +76,30 @@ module _ (v : Version) where
     yields = follows_append is_open_yield is_to h f rest a.yields r.yields;
   }
 
-  stop_walked : (g : Group) (is : List Item) (f : Forest) (rest : List Token) → parts v g (leaves f ++ rest) ≡ [] → Walked v is f rest → Walked v (Turns g ∷ is) f rest
+  stop_walked : (g : Group) (is : List Item) (f : Forest) (rest : List Token) → parts v g (leaves f ++ rest) ≡ [] → Walked v is f rest → Walked v (Repeats g ∷ is) f rest
   stop_walked g is f rest p r = record {
-    meet = unpack_entry v (turns v g) (entries v is) none f rest (stop_meets v g (leaves f ++ rest) p) r.meet;
+    meet = unpack_entry v (repeats v g) (entries v is) none f rest (stop_meets v g (leaves f ++ rest) p) r.meet;
     ifs = r.ifs;
     yields = r.yields;
   }
 
-  turn_meet : (g : Group) (is : List Item) (h f : Forest) (rest : List Token)
+  repeat_meet : (g : Group) (is : List Item) (h f : Forest) (rest : List Token)
       → Meet v (entries v (parts v g (leaves h ++ (leaves f ++ rest)))) h (leaves f ++ rest) → 0 < length (leaves h)
-      → Meet v (entries v (Turns g ∷ is)) f rest → Meet v (entries v (Turns g ∷ is)) (h +++ f) rest
-  turn_meet g is h f rest m has r =
-      let b = pack_entry v (turns v g) (entries v is) f rest r in
+      → Meet v (entries v (Repeats g ∷ is)) f rest → Meet v (entries v (Repeats g ∷ is)) (h +++ f) rest
+  repeat_meet g is h f rest m has r =
+      let b = pack_entry v (repeats v g) (entries v is) f rest r in
       let same : leaves f ++ rest ≡ leaves b.0 ++ (leaves b.1 ++ rest) = ap (λ (y : Forest). leaves y ++ rest) b.4 ∙ join b.0 b.1 rest in
       let here : Meet v (entries v (parts v g (leaves h ++ (leaves b.0 ++ (leaves b.1 ++ rest))))) h (leaves b.0 ++ (leaves b.1 ++ rest)) =
       subst (λ (ts : List Token). Meet v (entries v (parts v g (leaves h ++ ts))) h ts) same m in
-      subst (λ (y : Forest). Meet v (entries v (Turns g ∷ is)) y rest)
+      subst (λ (y : Forest). Meet v (entries v (Repeats g ∷ is)) y rest)
       (forest_assoc h b.0 b.1 ∙ ap (λ (y : Forest). h +++ y) (sym b.4))
-      (unpack_entry v (turns v g) (entries v is) (h +++ b.0) b.1 rest (turn_meets v g h b.0 (leaves b.1 ++ rest) here has b.2) b.3)
+      (unpack_entry v (repeats v g) (entries v is) (h +++ b.0) b.1 rest (repeat_meets v g h b.0 (leaves b.1 ++ rest) here has b.2) b.3)
 
-  turn_walked : (g : Group) (i : Item) (js is : List Item) (h f : Forest) (rest : List Token)
+  repeat_walked : (g : Group) (i : Item) (js is : List Item) (h f : Forest) (rest : List Token)
       → parts v g (leaves h ++ (leaves f ++ rest)) ≡ i ∷ js → Walked v (i ∷ js) h (leaves f ++ rest)
-      → 0 < length (leaves h) → Walked v (Turns g ∷ is) f rest → Walked v (Turns g ∷ is) (h +++ f) rest
-  turn_walked g i js is h f rest p a has r = record {
-    meet = turn_meet g is h f rest (subst (λ (ks : List Item). Meet v (entries v ks) h (leaves f ++ rest)) (sym p) a.meet) has r.meet;
+      → 0 < length (leaves h) → Walked v (Repeats g ∷ is) f rest → Walked v (Repeats g ∷ is) (h +++ f) rest
+  repeat_walked g i js is h f rest p a has r = record {
+    meet = repeat_meet g is h f rest (subst (λ (ks : List Item). Meet v (entries v ks) h (leaves f ++ rest)) (sym p) a.meet) has r.meet;
     ifs = follows_append is_open_if goes_on_if h f rest a.ifs r.ifs;
     yields = follows_append is_open_yield is_to h f rest a.yields r.yields;
   }
@@ -140,7 +140,7 @@ module _ (v : Version) where
     walked (child {s} {is} {k} {c} {f} {rest} g e w) = child_walked s is k c f rest e (grown g) (walked w)
     walked (part {g} {is} {h} {f} {rest} w u) = part_walked g is h f rest (walked w) (walked u)
     walked (stop {g} {is} {f} {rest} p w) = stop_walked g is f rest p (walked w)
-    walked (turn {g} {i} {js} {is} {h} {f} {rest} p w has u) = turn_walked g i js is h f rest p (walked w) has (walked u)
+    walked (repeat {g} {i} {js} {is} {h} {f} {rest} p w has u) = repeat_walked g i js is h f rest p (walked w) has (walked u)
     walked (span {is} {f} {rest} h flat p w) = span_walked is h f rest flat p (walked w)
 
     grown : {s : Sort} {k : NodeKind} {c : Forest} {rest : List Token} → Grows (php v) s k c rest → Grown v s k c rest

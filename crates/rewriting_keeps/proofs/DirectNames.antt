@@ -77,12 +77,12 @@ use Rattle.php_lexer.specs.Modes.{
   quoted,
   offset,
   property,
-  Turn,
+  ModeStep,
   stay,
   enter,
   leave,
-  turn_of,
-  code_turn,
+  mode_step_of,
+  code_mode_step,
   is_byte,
   begins_property,
   label_in,
@@ -91,7 +91,7 @@ use Rattle.php_lexer.specs.Modes.{
   IsLongest,
 }
 use Rattle.php_spellings.specs.declared.table.Mark.TheVariants.{Double, Back, Here}
-use Rattle.php_lexer.specs.Lexed.{Lexeme, Stack, start, turn_at, turned_by, after, left_top, left_below, Lexed, ends, trivia, token as one, lexeme}
+use Rattle.php_lexer.specs.Lexed.{Lexeme, Stack, start, mode_step_at, stepped_by, after, left_top, left_below, Lexed, ends, trivia, token as one, lexeme}
 use Rattle.php_relexing.specs.Written.{is_var_name}
 use Rattle.php_relexing.proofs.Picked.{kind_meets}
 use Rattle.php_reading.specs.Reading.{Reads}
@@ -112,13 +112,13 @@ record Safe (stack : Stack) (lead : List ℕ) : Type 0 where
   here : is_named stack.top ≡ true → lead ≡ []
   below : none_named stack.below ≡ true
 
--- a turn that doesn't lead to that mode
-abbrev is_calm : Turn → Bool
+-- a mode step that doesn't lead to that mode
+abbrev is_calm : ModeStep → Bool
 is_calm (stay m) = not (is_named m)
 is_calm (enter above under) = not (is_named above) && not (is_named under)
 is_calm leave = true
 
-calm_if : (b : Bool) (x y : Turn) → is_calm x ≡ true → is_calm y ≡ true → is_calm (cond b x y) ≡ true
+calm_if : (b : Bool) (x y : ModeStep) → is_calm x ≡ true → is_calm y ≡ true → is_calm (cond b x y) ≡ true
 calm_if true x y p q = p
 calm_if false x y p q = q
 
@@ -126,7 +126,7 @@ abbrev is_dollar : Kind → Bool
 is_dollar DollarBrace = true
 is_dollar _ = false
 
-calm_code : (k : Kind) (text : List ℕ) → is_calm (code_turn k text) ≡ true
+calm_code : (k : Kind) (text : List ℕ) → is_calm (code_mode_step k text) ≡ true
 calm_code Op text =
     calm_if (is_byte 123 text) (enter code code) (cond (is_byte 125 text) leave (stay code)) refl (calm_if (is_byte 125 text) leave (stay code) refl refl)
 calm_code k text = refl
@@ -135,28 +135,28 @@ calm_part : (b c : Bool) (m : Mode) → is_named m ≡ false → is_calm (cond b
 calm_part b c m e =
     calm_if b (enter offset m) (cond c (enter property m) (stay m)) (ap (λ x. not x) e) (calm_if c (enter property m) (stay m) (ap (λ x. not x) e) (ap (λ x. not x) e))
 
-calm_turn : (m : Mode) (k : Kind) (text rest : List ℕ) → is_dollar k ≡ false → is_calm (turn_of V74 m k text rest) ≡ true
-calm_turn html InlineHtml text rest h = refl
-calm_turn html k text rest h = refl
-calm_turn code k text rest h = calm_code k text
-calm_turn named k text rest h = calm_code k text
-calm_turn (quoted mark label fresh) DollarBrace text rest h = cc
-calm_turn (quoted mark label fresh) Variable text rest h = calm_part (begins_by 91 rest) (begins_property V74 rest) (quoted mark label false) refl
-calm_turn (quoted mark label fresh) k text rest h = refl
-calm_turn offset Op text rest h = calm_if (is_byte 93 text) leave (stay offset) refl refl
-calm_turn offset k text rest h = refl
-calm_turn property Label text rest h = refl
-calm_turn property k text rest h = refl
+calm_mode_step : (m : Mode) (k : Kind) (text rest : List ℕ) → is_dollar k ≡ false → is_calm (mode_step_of V74 m k text rest) ≡ true
+calm_mode_step html InlineHtml text rest h = refl
+calm_mode_step html k text rest h = refl
+calm_mode_step code k text rest h = calm_code k text
+calm_mode_step named k text rest h = calm_code k text
+calm_mode_step (quoted mark label fresh) DollarBrace text rest h = cc
+calm_mode_step (quoted mark label fresh) Variable text rest h = calm_part (begins_by 91 rest) (begins_property V74 rest) (quoted mark label false) refl
+calm_mode_step (quoted mark label fresh) k text rest h = refl
+calm_mode_step offset Op text rest h = calm_if (is_byte 93 text) leave (stay offset) refl refl
+calm_mode_step offset k text rest h = refl
+calm_mode_step property Label text rest h = refl
+calm_mode_step property k text rest h = refl
 
 -- `${` leads to that mode in a quoted text alone
-dollar_turn : (m : Mode) (text rest : List ℕ) → (is_calm (turn_of V74 m DollarBrace text rest) ≡ true)
-    ⊎ ((under : Mode) × ((turn_of V74 m DollarBrace text rest ≡ enter named under) × (is_named under ≡ false)))
-dollar_turn html text rest = inl refl
-dollar_turn code text rest = inl refl
-dollar_turn named text rest = inl refl
-dollar_turn (quoted mark label fresh) text rest = inr (quoted mark label false, (refl, refl))
-dollar_turn offset text rest = inl refl
-dollar_turn property text rest = inl refl
+dollar_mode_step : (m : Mode) (text rest : List ℕ) → (is_calm (mode_step_of V74 m DollarBrace text rest) ≡ true)
+    ⊎ ((under : Mode) × ((mode_step_of V74 m DollarBrace text rest ≡ enter named under) × (is_named under ≡ false)))
+dollar_mode_step html text rest = inl refl
+dollar_mode_step code text rest = inl refl
+dollar_mode_step named text rest = inl refl
+dollar_mode_step (quoted mark label fresh) text rest = inr (quoted mark label false, (refl, refl))
+dollar_mode_step offset text rest = inl refl
+dollar_mode_step property text rest = inl refl
 
 -- ---- stacks
 
@@ -175,9 +175,9 @@ left_safe (m ∷ ms) h = (not_named (is_named m) (none_named ms) h, rest_safe (i
     rest_safe true c h = cc
     rest_safe false c h = h
 
--- the stack behind a calm turn
-calm_behind : (t : Turn) (stack : Stack) → is_calm t ≡ true → none_named stack.below ≡ true
-    → (is_named (turned_by t stack).top ≡ false) × (none_named (turned_by t stack).below ≡ true)
+-- the stack behind a calm mode step
+calm_behind : (t : ModeStep) (stack : Stack) → is_calm t ≡ true → none_named stack.below ≡ true
+    → (is_named (stepped_by t stack).top ≡ false) × (none_named (stepped_by t stack).below ≡ true)
 calm_behind (stay m) stack c h = (flipped (is_named m) c, h)
   where
     flipped : (b : Bool) → not b ≡ true → b ≡ false
@@ -199,27 +199,27 @@ absurd_named : {A : Type 0} (b : Bool) → b ≡ false → b ≡ true → A
 absurd_named true e d = cc
 absurd_named false e d = cc
 
-calm_safe : (t : Turn) (stack : Stack) (lead : List ℕ) → is_calm t ≡ true → none_named stack.below ≡ true → Safe (turned_by t stack) lead
+calm_safe : (t : ModeStep) (stack : Stack) (lead : List ℕ) → is_calm t ≡ true → none_named stack.below ≡ true → Safe (stepped_by t stack) lead
 calm_safe t stack lead c h =
     let s = calm_behind t stack c h in
-    record { here = λ e. absurd_named (is_named (turned_by t stack).top) s.0 e; below = s.1 }
+    record { here = λ e. absurd_named (is_named (stepped_by t stack).top) s.0 e; below = s.1 }
 
 trivia_kind : (k : Kind) (text : List ℕ) → token_of k text ≡ None → is_dollar k ≡ false
 trivia_kind DollarBrace text e = cc
 trivia_kind k text e = refl
 
 -- behind any token no trivia were read
-token_safe : (k : Kind) (stack : Stack) (text rest : List ℕ) → none_named stack.below ≡ true → Safe (turned_by (turn_of V74 stack.top k text rest) stack) []
+token_safe : (k : Kind) (stack : Stack) (text rest : List ℕ) → none_named stack.below ≡ true → Safe (stepped_by (mode_step_of V74 stack.top k text rest) stack) []
 token_safe k stack text rest h = by_kind k
   where
-    entered : (t : Turn) → (is_calm t ≡ true) ⊎ ((under : Mode) × ((t ≡ enter named under) × (is_named under ≡ false))) → Safe (turned_by t stack) []
+    entered : (t : ModeStep) → (is_calm t ≡ true) ⊎ ((under : Mode) × ((t ≡ enter named under) × (is_named under ≡ false))) → Safe (stepped_by t stack) []
     entered t (inl c) = calm_safe t stack [] c h
     entered t (inr u) =
-        subst (λ x. Safe (turned_by x stack) []) (sym u.1.0) (record { here = λ e. refl; below = safe_below u.0 stack.below u.1.1 h })
+        subst (λ x. Safe (stepped_by x stack) []) (sym u.1.0) (record { here = λ e. refl; below = safe_below u.0 stack.below u.1.1 h })
 
-    by_kind : (k : Kind) → Safe (turned_by (turn_of V74 stack.top k text rest) stack) []
-    by_kind DollarBrace = entered (turn_of V74 stack.top DollarBrace text rest) (dollar_turn stack.top text rest)
-    by_kind k = calm_safe (turn_of V74 stack.top k text rest) stack [] (calm_turn stack.top k text rest refl) h
+    by_kind : (k : Kind) → Safe (stepped_by (mode_step_of V74 stack.top k text rest) stack) []
+    by_kind DollarBrace = entered (mode_step_of V74 stack.top DollarBrace text rest) (dollar_mode_step stack.top text rest)
+    by_kind k = calm_safe (mode_step_of V74 stack.top k text rest) stack [] (calm_mode_step stack.top k text rest refl) h
 
 -- ---- names behind `${`
 
@@ -268,8 +268,8 @@ direct : {stack : Stack} {lead bytes : List ℕ} {ts : List Lexeme} → Lexed V7
 direct (ends e d) s = (λ k. cc, tt)
 direct (trivia {stack = stack} {lead = lead} {bytes = bytes} k n l e rest) s =
     direct rest
-    (calm_safe (turn_of V74 stack.top k (take n bytes) (drop n bytes)) stack (lead ++ take n bytes)
-    (calm_turn stack.top k (take n bytes) (drop n bytes) (trivia_kind k (take n bytes) e)) s.below)
+    (calm_safe (mode_step_of V74 stack.top k (take n bytes) (drop n bytes)) stack (lead ++ take n bytes)
+    (calm_mode_step stack.top k (take n bytes) (drop n bytes) (trivia_kind k (take n bytes) e)) s.below)
 direct (one {stack = stack} {lead = lead} {bytes = bytes} k n t l e rest) s = (
   λ d. s.here (var_mode stack.top k (take n bytes) (drop n bytes) (other_tokens k (take n bytes) t e d) l.is),
   direct rest (token_safe k stack (take n bytes) (drop n bytes) s.below),

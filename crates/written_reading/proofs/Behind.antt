@@ -16,8 +16,8 @@ use Rattle.php_spellings.specs.Bytes.{lower}
 use Rattle.php_spellings.specs.Words.{token_of, is_keyword}
 use Rattle.php_lexer.specs.Heredocs.{led}
 use Rattle.php_lexer.specs.Rules.{Row, rule, is_tail, kind_by}
-use Rattle.php_lexer.specs.Modes.{Mode, html, code, named, quoted, offset, property, rows_of, label_in, kind_of, code_turn, turn_of}
-use Rattle.php_lexer.specs.Lexed.{Lexeme, Stack, Lexed, ends, trivia, token, turned_by, lexeme}
+use Rattle.php_lexer.specs.Modes.{Mode, html, code, named, quoted, offset, property, rows_of, label_in, kind_of, code_mode_step, mode_step_of}
+use Rattle.php_lexer.specs.Lexed.{Lexeme, Stack, Lexed, ends, trivia, token, stepped_by, lexeme}
 use Rattle.rewritten_shapes.specs.Laws.{is_namespace_label, opens_name}
 use Rattle.written_reading.specs.Laws.{begins_namespace, NoneBehind, NoNameIsNamespace}
 use Rattle.written_reading.proofs.Texts.{no_namespace}
@@ -125,7 +125,7 @@ shut_is k label text rest h o = go k h.word h.holds h.begins o
 -- ---- the mode behind them
 
 abbrev Top : Version → Stack → Mode → Kind → List ℕ → List ℕ → Type 0
-Top v stack m k text rest = (turned_by (turn_of v m k text rest) stack).top ≡ code
+Top v stack m k text rest = (stepped_by (mode_step_of v m k text rest) stack).top ≡ code
 
 in_html : (v : Version) (stack : Stack) (k : Kind) (text rest : List ℕ) → opens k text ≡ true → Top v stack html k text rest
 in_html v stack kind.Word text rest o = refl
@@ -133,10 +133,10 @@ in_html v stack kind.Keyword text rest o = refl
 in_html v stack kind.Op text rest o = refl
 in_html v stack _ text rest o = absurd cc
 
-in_code : (stack : Stack) (k : Kind) (text : List ℕ) → opens k text ≡ true → (turned_by (code_turn k text) stack).top ≡ code
+in_code : (stack : Stack) (k : Kind) (text : List ℕ) → opens k text ≡ true → (stepped_by (code_mode_step k text) stack).top ≡ code
 in_code stack kind.Word text o = refl
 in_code stack kind.Keyword text o = refl
-in_code stack kind.Op text o = by_op (λ (x : List ℕ). (turned_by (code_turn kind.Op x) stack).top ≡ code) refl refl refl text o
+in_code stack kind.Op text o = by_op (λ (x : List ℕ). (stepped_by (code_mode_step kind.Op x) stack).top ≡ code) refl refl refl text o
 in_code stack _ text o = absurd cc
 
 abbrev is_inner : Mode → Bool
@@ -172,7 +172,7 @@ to_code v stack offset k text rest e o = absurd (inner_none v offset k text rest
 to_code v stack property k text rest e o = absurd (inner_none v property k text rest refl e o)
 
 -- trivia of code stay in code
-trivia_stay : (stack : Stack) (k : Kind) (text : List ℕ) → token_of k text ≡ None → (turned_by (code_turn k text) stack).top ≡ code
+trivia_stay : (stack : Stack) (k : Kind) (text : List ℕ) → token_of k text ≡ None → (stepped_by (code_mode_step k text) stack).top ≡ code
 trivia_stay stack kind.Space text e = refl
 trivia_stay stack kind.Comment text e = refl
 trivia_stay stack kind.Tag text e = refl
@@ -231,7 +231,7 @@ lexed_none : {v : Version} {stack : Stack} {lead bytes : List ℕ} {ts : List Le
 lexed_none (ends e d) = ((λ c. refl), (refl, tt))
 lexed_none (trivia {version = v} {stack = stack} {bytes = bytes} k n h e rest) =
     let ih = lexed_none rest in
-    ((λ c. ih.0 (subst (λ (m : Mode). (turned_by (turn_of v m k (take n bytes) (drop n bytes)) stack).top ≡ code) (sym c) (trivia_stay stack k (take n bytes) e))), ih.1)
+    ((λ c. ih.0 (subst (λ (m : Mode). (stepped_by (mode_step_of v m k (take n bytes) (drop n bytes)) stack).top ≡ code) (sym c) (trivia_stay stack k (take n bytes) e))), ih.1)
 lexed_none (token {version = v} {stack = stack} {bytes = bytes} {ts = ts} k n t h e rest) =
     let ih = lexed_none rest in (
       (λ c. sym (ap (λ (o : Option TokenKind). opt_namespace o (take n bytes)) e)

@@ -1,5 +1,5 @@
-pub mod Goes
-pub mod Becomes
+pub mod ContinuesAs
+pub mod IsRewrittenTo
 pub mod Going
 pub mod CodeTokens
 pub mod Edits

@@ -1,7 +1,7 @@
 // Tokens and trivia of a source in a row, once it is edited.
 
-ghost use Rattle.written_tokens.specs.tiles.Becomes.{BecomesJoin, BecomesLoosely};
-ghost use Rattle.written_tokens.specs.tiles.Going.{RowsGoOn, GoesIsAlike, FrontsStay, CodeGoesOn};
+ghost use Rattle.written_tokens.specs.tiles.IsRewrittenTo.{RewritingsJoin, IsRewrittenLoosely};
+ghost use Rattle.written_tokens.specs.tiles.Going.{RowsGoOn, ContinuingIsAlike, FrontsStay, CodeContinues};
 ghost use Rattle.written_tokens.specs.tiles.CodeTokens.{CodeTokensBecome, HtmlTokensBecome};
 ghost use Rattle.written_tokens.specs.tiles.Edits.{HashCommentsBecome, BracesBecome, BracesAreSquared, RoundsBecome, RoundsComeIn, CastsBecomeFloat, CastsBecomeNull};
 
@@ -12,8 +12,8 @@ pub fn rows_go_on()
 {}
 
 /// The bytes of what goes on so go on alike.
-pub fn goes_is_alike()
-    ensures { GoesIsAlike }
+pub fn continuing_is_alike()
+    ensures { ContinuingIsAlike }
 {}
 
 /// Where no byte of a class comes next in the source, and edits put in none of it, none comes next in
@@ -24,18 +24,18 @@ pub fn fronts_stay()
 
 /// In code, what goes on so leaves `yield` before no `from`, `(` before no cast, and the end of a line
 /// comment.
-pub fn code_goes_on()
-    ensures { CodeGoesOn }
+pub fn code_continues()
+    ensures { CodeContinues }
 {}
 
 /// Rows that become others join.
 pub fn becomes_join()
-    ensures { BecomesJoin }
+    ensures { RewritingsJoin }
 {}
 
 /// Nothing becomes nothing, and rows stand where less is known of them.
 pub fn becomes_loosely()
-    ensures { BecomesLoosely }
+    ensures { IsRewrittenLoosely }
 {}
 
 /// A tile of code that is neither a brace nor a nowdoc nor opens a quoted text stays as it is.

@@ -14,13 +14,13 @@ use Rattle.tracked_changes.specs.Pieces.{after}
 use Rattle.tracked_changes.specs.Draft.{NewToken}
 use Rattle.syntax_rules.specs.HashComment.{outside, spaced}
 use Rattle.written_tokens.specs.tokens.Levels.{stack_of}
-use Rattle.written_tokens.specs.tiles.Becomes.{Becomes, BecomesJoin}
+use Rattle.written_tokens.specs.tiles.IsRewrittenTo.{IsRewrittenTo, RewritingsJoin}
 use Rattle.written_tokens.specs.tiles.Going.{any_stops}
 use Rattle.written_tokens.specs.tiles.Edits.{between}
 use Rattle.rewritten_shapes.specs.paired.Tokens.{IsMark, is_edge}
 use Rattle.written_reading.proofs.edited.Spelling.{Spells, step_behind}
 use Rattle.written_reading.proofs.edited.TileFacts.{mode_of, leaves_html, html_behind, html_append, gap_append, clean_append}
-use Rattle.written_reading.proofs.edited.Turns.{Filled, Turns, parted_spelled, more_behind, news_append}
+use Rattle.written_reading.proofs.edited.WrittenAs.{Filled, WrittenAs, parted_spelled, more_behind, news_append}
 use Rattle.written_reading.proofs.edited.TileKinds.{op_tile}
 use Rattle.written_reading.proofs.edited.Leads.{Means}
 use Rattle.written_reading.proofs.edited.Insides.{Inside, inside, Last, last_of}
@@ -48,11 +48,11 @@ pub mark_edge : (t : Token) (x : ℕ) → IsMark x t → is_edge t.kind ≡ fals
 mark_edge t x mark = ap is_edge mark.kind
 
 -- What the row of code between two tokens of one byte becomes.
-abbrev pub BetweenBecomes : ℕ → ℕ → ℕ → ℕ → Type 0
-BetweenBecomes b c x y =
+abbrev pub BetweenIsRewritten : ℕ → ℕ → ℕ → ℕ → Type 0
+BetweenIsRewritten b c x y =
     (needs stops : Bool) (ts us : List Tile) →
-    Becomes needs stops code code ts us →
-    Becomes false true code code (between b c ts) (between x y us)
+    IsRewrittenTo needs stops code code ts us →
+    IsRewrittenTo false true code code (between b c ts) (between x y us)
 
 -- A token of one byte leaves code above some modes.
 abbrev pub OpensCode : ℕ → (List Mode → List Mode) → Type 0
@@ -73,8 +73,8 @@ pub record IsPut (x : ℕ) (t : Token) (n : NewToken) : Type 0 where
   pub kind : n.kind ≡ token.Op
   pub text : after n.text ≡ x ∷ []
 
-module _ (means : Means) (join : BecomesJoin) (b c x y : ℕ) (into : List Mode → List Mode) (opens : OpensCode b into)
-    (law : BetweenBecomes b c x y) (shut : nat_eq b 41 ≡ false) where
+module _ (means : Means) (join : RewritingsJoin) (b c x y : ℕ) (into : List Mode → List Mode) (opens : OpensCode b into)
+    (law : BetweenIsRewritten b c x y) (shut : nat_eq b 41 ≡ false) where
   between_row :
       (h stop : Bool) (t u : Token) (ss : List Token) (ts : List NewToken) (n o : NewToken) (below : List Mode) (depth : ℕ) (tiles : List Tile) (more : List Lexeme) →
       IsMark b t →
@@ -124,17 +124,17 @@ module _ (means : Means) (join : BecomesJoin) (b c x y : ℕ) (into : List Mode 
         clean_lead = l.clean;
         clean = clean_append i.ys (tile Op y [] ∷ []) i.clean refl;
         lead = l.row;
-        row = subst (λ (z : Bool). Becomes false true code (mode_of z) (between b c i.xs) (between x y i.ys)) (sym coded)
+        row = subst (λ (z : Bool). IsRewrittenTo false true code (mode_of z) (between b c i.xs) (between x y i.ys)) (sym coded)
             (law false (any_stops i.xs) i.xs i.ys i.row);
       }
 
-  pub between_turns : (h stop : Bool) (t u : Token) (ss : List Token) (ts : List NewToken) (n o : NewToken)
-      → IsMark b t → IsMark c u → IsPut x t n → IsPut y u o → Turns false stop ss ts
-      → Turns h true (t ∷ (ss ++ u ∷ [])) (n ∷ (ts ++ o ∷ []))
-  between_turns h stop t u ss ts n o mt mu pn po turns below depth tiles more m steps same =
+  pub between_written_as : (h stop : Bool) (t u : Token) (ss : List Token) (ts : List NewToken) (n o : NewToken)
+      → IsMark b t → IsMark c u → IsPut x t n → IsPut y u o → WrittenAs false stop ss ts
+      → WrittenAs h true (t ∷ (ss ++ u ∷ [])) (n ∷ (ts ++ o ∷ []))
+  between_written_as h stop t u ss ts n o mt mu pn po written_as below depth tiles more m steps same =
       let l : Last h t tiles (map lexeme (ss ++ u ∷ []) ++ more) below depth =
       last_of means below depth h t tiles (map lexeme (ss ++ u ∷ []) ++ more) (mark_edge t b mt) (more_behind (ss ++ u ∷ []) more m) steps same in
       let behind : Steps V74 (stack_of code (into below) depth) l.rest =
       opens below depth l.rest (subst (λ (z : Tile). Steps V74 (stack_of code below depth) (z ∷ l.rest)) (mark_tile t b mt l.kind l.b l.a l.is l.text) l.steps) in
       between_row h stop t u ss ts n o below depth tiles more mt mu pn po l
-      (inside means join (into below) depth u more stop ss ts l.rest (mark_edge u c mu) turns m behind (l.left ∙ parted_spelled ss (u ∷ []) more))
+      (inside means join (into below) depth u more stop ss ts l.rest (mark_edge u c mu) written_as m behind (l.left ∙ parted_spelled ss (u ∷ []) more))

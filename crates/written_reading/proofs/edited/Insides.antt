@@ -13,7 +13,7 @@ use Rattle.tracked_changes.specs.Draft.{NewToken}
 use Rattle.syntax_rules.specs.HashComment.{outside, spaced}
 use Rattle.written_tokens.specs.tokens.Written.{new_lexeme}
 use Rattle.written_tokens.specs.tokens.Levels.{stack_of}
-use Rattle.written_tokens.specs.tiles.Becomes.{Becomes, BecomesJoin}
+use Rattle.written_tokens.specs.tiles.IsRewrittenTo.{IsRewrittenTo, RewritingsJoin}
 use Rattle.written_tokens.specs.tiles.Going.{any_stops}
 use Rattle.written_tokens.specs.tiles.Edits.{all_trivia}
 use Rattle.written_tokens.specs.names.Fronts.{Front}
@@ -22,7 +22,7 @@ use Rattle.rewritten_shapes.specs.paired.Tokens.{is_edge}
 use Rattle.written_reading.specs.edited.Rows.{all_clean}
 use Rattle.written_reading.proofs.edited.Spelling.{Spells, spells_join, led_spells, step_longest}
 use Rattle.written_reading.proofs.edited.TileFacts.{mode_of, html_behind, clean_append}
-use Rattle.written_reading.proofs.edited.Turns.{Filled, Row, has_more, Turns, steps_left, becomes_both}
+use Rattle.written_reading.proofs.edited.WrittenAs.{Filled, Row, has_more, WrittenAs, steps_left, becomes_both}
 use Rattle.written_reading.proofs.edited.TileKinds.{in_code}
 use Rattle.written_reading.proofs.edited.Leads.{inner_mode, clean_trivia, front_of, Means, front_becomes, steps_inner, lead_written}
 
@@ -40,7 +40,7 @@ pub record Inside (ts : List NewToken) (u : Token) (tiles : List Tile) (more : L
   pub steps : Steps V74 (stack_of code below depth) (tile kind b a ∷ rest)
   pub ys : List Tile
   pub clean : all_clean ys ≡ true
-  pub row : Becomes false (any_stops xs) code code xs ys
+  pub row : IsRewrittenTo false (any_stops xs) code code xs ys
   pub spells :
       (n : NewToken) (k : Kind) (c : ℕ) (e : List ℕ) →
       n.lead ≡ spaced outside u.lead →
@@ -67,7 +67,7 @@ pub record Last (h : Bool) (u : Token) (tiles : List Tile) (more : List Lexeme) 
   pub free : all_trivia ys ≡ true
   pub lead : joined ys ≡ after (spaced outside u.lead)
   pub clean : all_clean ys ≡ true
-  pub row : Becomes false (any_stops xs) (mode_of h) code xs ys
+  pub row : IsRewrittenTo false (any_stops xs) (mode_of h) code xs ys
 
 pub last_of : Means → (below : List Mode) (depth : ℕ) (h : Bool) (u : Token) (tiles : List Tile) (more : List Lexeme)
     → is_edge u.kind ≡ false → has_more more ≡ true → Steps V74 (stack_of (mode_of h) below depth) tiles
@@ -93,11 +93,11 @@ last_of means below depth h u tiles more edge m steps same =
       free = (means.spaced f.trivia f.free).0;
       lead = lead_written means h below depth tiles (lexeme u) more f steps;
       clean = clean_trivia (spaced_trivia f.trivia) (means.spaced f.trivia f.free).0 (means.spaced f.trivia f.free).1;
-      row = subst (λ (x : Bool). Becomes false (any_stops f.trivia) (mode_of h) (mode_of x) f.trivia (spaced_trivia f.trivia)) coded
+      row = subst (λ (x : Bool). IsRewrittenTo false (any_stops f.trivia) (mode_of h) (mode_of x) f.trivia (spaced_trivia f.trivia)) coded
           (front_becomes means h below depth tiles (lexeme u) more f steps);
     }
 
-module _ (means : Means) (join : BecomesJoin) (below : List Mode) (depth : ℕ) (u : Token) (more : List Lexeme) where
+module _ (means : Means) (join : RewritingsJoin) (below : List Mode) (depth : ℕ) (u : Token) (more : List Lexeme) where
   inside_none : (ts : List NewToken) (tiles : List Tile) → ts ≡ [] → Last false u tiles more below depth → Inside ts u tiles more below depth
   inside_none ts tiles none l = record {
     xs = l.xs;
@@ -163,7 +163,7 @@ module _ (means : Means) (join : BecomesJoin) (below : List Mode) (depth : ℕ) 
 
   -- code up to a token
   pub inside : (stop : Bool) (ss : List Token) (ts : List NewToken) (tiles : List Tile) → is_edge u.kind ≡ false
-      → Turns false stop ss ts → has_more more ≡ true → Steps V74 (stack_of code below depth) tiles
+      → WrittenAs false stop ss ts → has_more more ≡ true → Steps V74 (stack_of code below depth) tiles
       → spelled [] tiles ≡ map lexeme ss ++ lexeme u ∷ more → Inside ts u tiles more below depth
-  inside stop ss ts tiles edge turns m steps same =
-      inside_row stop ss ts tiles edge m steps same (turns below depth tiles (lexeme u ∷ more) refl steps same)
+  inside stop ss ts tiles edge written_as m steps same =
+      inside_row stop ss ts tiles edge m steps same (written_as below depth tiles (lexeme u ∷ more) refl steps same)

@@ -34,8 +34,8 @@ use Rattle.tracked_changes.specs.Draft.{NewToken}
 use Rattle.syntax_rules.specs.HashComment.{outside, spaced}
 use Rattle.written_tokens.specs.tokens.Stays.{in_quotes}
 use Rattle.written_tokens.specs.tokens.Levels.{stack_of}
-use Rattle.written_tokens.specs.tiles.Goes.{stops_cast, is_trivia}
-use Rattle.written_tokens.specs.tiles.Becomes.{Becomes, BecomesLoosely}
+use Rattle.written_tokens.specs.tiles.ContinuesAs.{stops_cast, is_trivia}
+use Rattle.written_tokens.specs.tiles.IsRewrittenTo.{IsRewrittenTo, IsRewrittenLoosely}
 use Rattle.written_tokens.specs.tiles.Going.{any_stops}
 use Rattle.written_tokens.specs.tiles.CodeTokens.{CodeTokensBecome, HtmlTokensBecome}
 use Rattle.written_tokens.specs.tiles.Edits.{all_trivia}
@@ -46,7 +46,7 @@ use Rattle.rewritten_shapes.specs.paired.Tokens.{is_code_kind, is_op}
 use Rattle.written_reading.specs.edited.Rows.{is_clean, all_clean}
 use Rattle.written_reading.proofs.edited.Spelling.{step_longest}
 use Rattle.written_reading.proofs.edited.TileFacts.{mode_of, leaves_html, stays_open}
-use Rattle.written_reading.proofs.edited.Turns.{or_false, Filled, has_more}
+use Rattle.written_reading.proofs.edited.WrittenAs.{or_false, Filled, has_more}
 use Rattle.written_reading.proofs.edited.TileKinds.{token_like, token_is_no_trivia, is_marked, no_html, no_mark}
 
 -- ---- trivia
@@ -81,7 +81,7 @@ front_of front tiles l (x ∷ xs) m h = front [] tiles l [] x xs h
 
 -- what is known of trivia
 pub record Means : Type 0 where
-  pub loosely : BecomesLoosely
+  pub loosely : IsRewrittenLoosely
   pub front : FrontOfRow
   pub written : SpacedAreWritten
   pub trivia : TriviaBecome
@@ -92,7 +92,7 @@ pub record Means : Type 0 where
 
 module _ (means : Means) where
   html_lead : (below : List Mode) (depth : ℕ) (ts rest : List Tile) → all_trivia ts ≡ true
-      → Steps V74 (stack_of html below depth) (ts ++ rest) → Becomes false (any_stops ts) html
+      → Steps V74 (stack_of html below depth) (ts ++ rest) → IsRewrittenTo false (any_stops ts) html
       (mode_of (inner_mode true ts)) ts (spaced_trivia ts)
   html_lead below depth [] rest p steps = means.loosely.nothing html
   html_lead below depth (tile Tag b a ∷ ts) rest p steps = means.trivia html (tile Tag b a ∷ ts) p refl
@@ -100,20 +100,20 @@ module _ (means : Means) where
   html_lead below depth (tile Comment b a ∷ ts) rest p steps = absurd (no_html Comment (b ∷ a) (joined (ts ++ rest)) refl (step_longest steps))
   html_lead below depth (tile _ b a ∷ ts) rest p steps = absurd cc
 
-  code_lead : (ts : List Tile) → all_trivia ts ≡ true → Becomes false (any_stops ts) code (mode_of (inner_mode false ts)) ts (spaced_trivia ts)
+  code_lead : (ts : List Tile) → all_trivia ts ≡ true → IsRewrittenTo false (any_stops ts) code (mode_of (inner_mode false ts)) ts (spaced_trivia ts)
   code_lead [] p = means.loosely.nothing code
   code_lead (t ∷ ts) p = means.trivia code (t ∷ ts) p refl
 
   pub lead_becomes : (h : Bool) (below : List Mode) (depth : ℕ) (ts rest : List Tile) → all_trivia ts ≡ true
       → Steps V74 (stack_of (mode_of h) below depth) (ts ++ rest)
-      → Becomes false (any_stops ts) (mode_of h) (mode_of (inner_mode h ts)) ts (spaced_trivia ts)
+      → IsRewrittenTo false (any_stops ts) (mode_of h) (mode_of (inner_mode h ts)) ts (spaced_trivia ts)
   lead_becomes true below depth ts rest p steps = html_lead below depth ts rest p steps
   lead_becomes false below depth ts rest p steps = code_lead ts p
 
   -- the trivia at the front of a row
   pub front_becomes : (h : Bool) (below : List Mode) (depth : ℕ) (tiles : List Tile) (l : Lexeme) (more : List Lexeme)
       → (f : Front [] tiles l more) → Steps V74 (stack_of (mode_of h) below depth) tiles
-      → Becomes false (any_stops f.trivia) (mode_of h) (mode_of (inner_mode h f.trivia)) f.trivia
+      → IsRewrittenTo false (any_stops f.trivia) (mode_of h) (mode_of (inner_mode h f.trivia)) f.trivia
       (spaced_trivia f.trivia)
   front_becomes h below depth tiles l more f steps =
       lead_becomes h below depth f.trivia (tile f.kind f.b f.a ∷ f.rest) f.free
@@ -150,7 +150,7 @@ module _ (means : Means) where
       (stop ≡ true → stops_cast f.kind ≡ true) →
       stays_open (tile f.kind f.b f.a ∷ []) ≡ true →
       is_clean k c e ≡ true →
-      Becomes false (any_stops (tile f.kind f.b f.a ∷ [])) (mode_of (inner_mode h f.trivia)) (mode_of (leaves_html t.kind)) (tile f.kind f.b f.a ∷ []) (tile k c e ∷ []) →
+      IsRewrittenTo false (any_stops (tile f.kind f.b f.a ∷ [])) (mode_of (inner_mode h f.trivia)) (mode_of (leaves_html t.kind)) (tile f.kind f.b f.a ∷ []) (tile k c e ∷ []) →
       Filled h stop t [] (n ∷ []) tiles more
   filled_one h stop below depth t n tiles more steps f k c e lead is text stopped opened clean becomes = record {
     inner = inner_mode h f.trivia;
@@ -189,7 +189,7 @@ module _ (means : Means) where
   -- ---- tokens that stay
 
   kept_html : (kind : Kind) (b : ℕ) (a r : List ℕ) → IsLongest V74 html (b ∷ a ++ r) kind (suc (length a))
-      → Becomes false (any_stops (tile kind b a ∷ [])) html (mode_of (leaves_html (token_like kind)))
+      → IsRewrittenTo false (any_stops (tile kind b a ∷ [])) html (mode_of (leaves_html (token_like kind)))
       (tile kind b a ∷ []) (tile kind b a ∷ [])
   kept_html Close b a r l = absurd (let e = longest_meets is_close V74 html (b ∷ a) r Close refl l in cc)
     where
@@ -197,28 +197,28 @@ module _ (means : Means) where
       is_close Close = true
       is_close _ = false
   kept_html kind b a r l =
-      subst (λ (x : Bool). Becomes false x html (mode_of (leaves_html (token_like kind))) (tile kind b a ∷ []) (tile kind b a ∷ [])) (sym (or_false (stops_cast kind)))
+      subst (λ (x : Bool). IsRewrittenTo false x html (mode_of (leaves_html (token_like kind))) (tile kind b a ∷ []) (tile kind b a ∷ [])) (sym (or_false (stops_cast kind)))
       (means.htmls kind b a)
 
-  kept_text : (b : ℕ) (a : List ℕ) (q : Bool) → in_quotes b a ≡ q → Becomes false true code code (tile Text b a ∷ []) (tile Text b a ∷ [])
+  kept_text : (b : ℕ) (a : List ℕ) (q : Bool) → in_quotes b a ≡ q → IsRewrittenTo false true code code (tile Text b a ∷ []) (tile Text b a ∷ [])
   kept_text b a true h = means.codes Text b a h
   kept_text b a false h = means.nowdocs b a h
 
   kept_op : (b : ℕ) (a : List ℕ) (p q s t : Bool) → nat_eq b 40 ≡ p → nat_eq b 41 ≡ q → nat_eq b 123 ≡ s
-      → nat_eq b 125 ≡ t → (p || (q || (s || t))) ≡ false → Becomes false true code code (tile Op b a ∷ [])
+      → nat_eq b 125 ≡ t → (p || (q || (s || t))) ≡ false → IsRewrittenTo false true code code (tile Op b a ∷ [])
       (tile Op b a ∷ [])
   kept_op b a true q s t e f g h m = absurd cc
   kept_op b a false true s t e f g h m = absurd cc
   kept_op b a false false true t e f g h m = absurd cc
   kept_op b a false false false true e f g h m = absurd cc
   kept_op b a false false false false e f g h m =
-      subst (λ (x : Bool). Becomes x true code code (tile Op b a ∷ []) (tile Op b a ∷ [])) e
+      subst (λ (x : Bool). IsRewrittenTo x true code code (tile Op b a ∷ []) (tile Op b a ∷ [])) e
       (means.codes Op b a (rw (g, h) refl))
 
   kept_code : (kind : Kind) (b : ℕ) (a r : List ℕ) → is_code_kind (token_like kind) ≡ true
       → (is_op (token_like kind) ≡ true → is_marked (b ∷ a) ≡ false)
       → IsLongest V74 code (b ∷ a ++ r) kind (suc (length a))
-      → Becomes false (any_stops (tile kind b a ∷ [])) code (mode_of (leaves_html (token_like kind)))
+      → IsRewrittenTo false (any_stops (tile kind b a ∷ [])) code (mode_of (leaves_html (token_like kind)))
       (tile kind b a ∷ []) (tile kind b a ∷ [])
   kept_code Space b a r p m l = absurd cc
   kept_code Comment b a r p m l = absurd cc
@@ -245,7 +245,7 @@ module _ (means : Means) where
   pub kept : (h : Bool) (kind : Kind) (b : ℕ) (a r : List ℕ) → is_code_kind (token_like kind) ≡ true
       → (is_op (token_like kind) ≡ true → is_marked (b ∷ a) ≡ false)
       → IsLongest V74 (mode_of h) (b ∷ a ++ r) kind (suc (length a))
-      → Becomes false (any_stops (tile kind b a ∷ [])) (mode_of h) (mode_of (leaves_html (token_like kind)))
+      → IsRewrittenTo false (any_stops (tile kind b a ∷ [])) (mode_of h) (mode_of (leaves_html (token_like kind)))
       (tile kind b a ∷ []) (tile kind b a ∷ [])
   kept true kind b a r p m l = kept_html kind b a r l
   kept false kind b a r p m l = kept_code kind b a r p m l

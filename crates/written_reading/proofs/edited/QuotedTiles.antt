@@ -29,8 +29,8 @@ use Rattle.php_spellings.specs.declared.table.Mark.{Mark}
 use Rattle.php_spellings.specs.declared.table.Mark.TheVariants.{Double, Back, Here}
 use Rattle.php_spellings.specs.Bytes.{lower, is_empty, begins_by}
 use Rattle.php_spellings.specs.Words.{token_of}
-use Rattle.php_lexer.specs.Modes.{Mode, code, named, quoted, offset, property, stay, enter, begins_arrow, part_turn, turn_of, IsLongest}
-use Rattle.php_lexer.specs.Lexed.{Lexeme, Stack, lexeme, turned_by}
+use Rattle.php_lexer.specs.Modes.{Mode, code, named, quoted, offset, property, stay, enter, begins_arrow, part_mode_step, mode_step_of, IsLongest}
+use Rattle.php_lexer.specs.Lexed.{Lexeme, Stack, lexeme, stepped_by}
 use Rattle.php_relexing.specs.Tiles.{Tile, tile, joined}
 use Rattle.php_relexing.specs.Spelled.{Steps, done, spelled}
 use Rattle.php_relexing.specs.Written.{is_var_name}
@@ -40,14 +40,14 @@ use Rattle.tracked_changes.specs.Pieces.{after}
 use Rattle.syntax_rules.specs.HashComment.{outside, spaced, hash_comment}
 use Rattle.written_tokens.specs.tokens.Written.{new_lexeme}
 use Rattle.written_tokens.specs.tokens.Levels.{stack_of}
-use Rattle.written_tokens.specs.tiles.Goes.{is_trivia}
+use Rattle.written_tokens.specs.tiles.ContinuesAs.{is_trivia}
 use Rattle.written_tokens.specs.tiles.Edits.{all_trivia}
 use Rattle.written_tokens.specs.texts.TextRows.{is_op, begins_var_name}
 use Rattle.written_tokens.proofs.texts.Stepping.{named_steps}
 use Rattle.written_tokens.specs.names.Fronts.{Front, FrontOfRow}
 use Rattle.rewritten_shapes.specs.paired.Tokens.{is_op as is_op_token}
 use Rattle.written_reading.proofs.edited.Spelling.{Spells, led_spells, step_longest, step_behind}
-use Rattle.written_reading.proofs.edited.Turns.{has_more}
+use Rattle.written_reading.proofs.edited.WrittenAs.{has_more}
 use Rattle.written_reading.proofs.edited.TileKinds.{token_like, told, some_same}
 use Rattle.written_reading.proofs.edited.Leads.{front_of}
 
@@ -120,13 +120,13 @@ property_bare kind b a r p h = let none : false ≡ true = longest_meets is_triv
 
 -- behind a variable of a quoted text
 part_bare : (mark : Mark) (label : List ℕ) (stack : Stack) (t u : Bool)
-    → NoTrivia (turned_by (cond t (enter offset (quoted mark label false))
+    → NoTrivia (stepped_by (cond t (enter offset (quoted mark label false))
     (cond u (enter property (quoted mark label false)) (stay (quoted mark label false)))) stack).top
 part_bare mark label stack true u = offset_bare
 part_bare mark label stack false true = property_bare
 part_bare mark label stack false false = quoted_bare mark label false
 
-pub behind_bare : (mark : Mark) (label : List ℕ) (stack : Stack) (rest : List ℕ) → NoTrivia (turned_by (part_turn V74 (quoted mark label false) rest) stack).top
+pub behind_bare : (mark : Mark) (label : List ℕ) (stack : Stack) (rest : List ℕ) → NoTrivia (stepped_by (part_mode_step V74 (quoted mark label false) rest) stack).top
 behind_bare mark label stack rest = part_bare mark label stack (begins_by 91 rest) (begins_arrow rest)
 
 -- ---- tokens without trivia
@@ -296,7 +296,7 @@ pub key_tile : (kind : Kind) → is_op_token (token_like kind) ≡ false → is_
 key_tile Op h = absurd cc
 key_tile kind h = refl
 
-pub offset_stays : (kind : Kind) (text rest : List ℕ) → is_op kind ≡ false → turn_of V74 offset kind text rest ≡ stay offset
+pub offset_stays : (kind : Kind) (text rest : List ℕ) → is_op kind ≡ false → mode_step_of V74 offset kind text rest ≡ stay offset
 offset_stays Op text rest h = absurd cc
 offset_stays kind text rest h = refl
 

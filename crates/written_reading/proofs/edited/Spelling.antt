@@ -10,7 +10,7 @@ use Rattle.php_lexer.specs.Modes.{IsLongest}
 use Rattle.php_lexer.specs.Lexed.{Lexeme, Stack, after}
 use Rattle.php_relexing.specs.Tiles.{Tile, tile, joined}
 use Rattle.php_relexing.specs.Spelled.{Steps, step, lexeme_with, spelled}
-use Rattle.written_tokens.specs.tiles.Goes.{is_trivia}
+use Rattle.written_tokens.specs.tiles.ContinuesAs.{is_trivia}
 use Rattle.written_tokens.specs.tiles.Edits.{all_trivia}
 
 pub trivia_is_none : (kind : Kind) (text : List ℕ) → is_trivia kind ≡ true → token_of kind text ≡ None

@@ -37,8 +37,8 @@ use Rattle.rewritten_shapes.specs.paired.Tokens.{IsMark}
 use Rattle.written_reading.proofs.edited.TileFacts.{leaves_html, html_behind, html_append}
 use Rattle.written_reading.proofs.edited.Drafts.{is_free, part_draft}
 use Rattle.written_reading.proofs.edited.FrontsKept.{free_draft}
-use Rattle.written_reading.proofs.edited.TextTurns.{TextTurns, piece_by}
-use Rattle.written_reading.proofs.edited.SimpleTurns.{is_unit_token, is_key_token, alone_turns, offset_turns, minus_turns, property_turns}
+use Rattle.written_reading.proofs.edited.TextWrittenAs.{TextWrittenAs, piece_by}
+use Rattle.written_reading.proofs.edited.SimpleWrittenAs.{is_unit_token, is_key_token, alone_written_as, offset_written_as, minus_written_as, property_written_as}
 
 -- ---- tokens
 
@@ -156,20 +156,20 @@ text_begins (named_offset {j} {t} {n} {o} {s} {u} {c} {f} is name mo inner ms mu
 text_begins (expression {j} {t} {u} {c} {f} is inner mark more) = (t, leaves c ++ u ∷ leaves f, refl, ap is_unit_token is)
 
 -- a simple variable stays
-pub simple_turns : FrontOfRow → {j : NodeKind} {c : Forest} → IsSimple j c
+pub simple_written_as : FrontOfRow → {j : NodeKind} {c : Forest} → IsSimple j c
     → (starts : Bool) (s : Token) (ss : List Token) (ts : List NewToken) → is_unit_token s.kind ≡ true
-    → TextTurns starts (s ∷ ss) ts → TextTurns false (leaves c ++ s ∷ ss) (all_spaced (leaves c) ++ ts)
-simple_turns front (alone {t} is) starts s ss ts unit turns = alone_turns front starts t s ss ts is unit turns
-simple_turns front (with_offset {t} {o} is mark (label {t = k} {u} word shut)) starts s ss ts unit turns =
-    offset_turns front starts t o k u (s ∷ ss) ts is mark (ap is_key_token word) shut turns
-simple_turns front (with_offset {t} {o} is mark (number {t = k} {u} int shut)) starts s ss ts unit turns =
-    offset_turns front starts t o k u (s ∷ ss) ts is mark (ap is_key_token int) shut turns
-simple_turns front (with_offset {t} {o} is mark (negative {s = m} {t = k} {u} minus int shut)) starts s ss ts unit turns =
-    minus_turns front starts t o m k u (s ∷ ss) ts is mark minus (ap is_key_token int) shut turns
-simple_turns front (with_offset {t} {o} is mark (variable {t = k} {u} var shut)) starts s ss ts unit turns =
-    offset_turns front starts t o k u (s ∷ ss) ts is mark (ap is_key_token var) shut turns
-simple_turns front (with_property {t} {o} {u} is op arrow word) starts s ss ts unit turns =
-    property_turns front starts t o u (s ∷ ss) ts is op arrow word turns
+    → TextWrittenAs starts (s ∷ ss) ts → TextWrittenAs false (leaves c ++ s ∷ ss) (all_spaced (leaves c) ++ ts)
+simple_written_as front (alone {t} is) starts s ss ts unit written_as = alone_written_as front starts t s ss ts is unit written_as
+simple_written_as front (with_offset {t} {o} is mark (label {t = k} {u} word shut)) starts s ss ts unit written_as =
+    offset_written_as front starts t o k u (s ∷ ss) ts is mark (ap is_key_token word) shut written_as
+simple_written_as front (with_offset {t} {o} is mark (number {t = k} {u} int shut)) starts s ss ts unit written_as =
+    offset_written_as front starts t o k u (s ∷ ss) ts is mark (ap is_key_token int) shut written_as
+simple_written_as front (with_offset {t} {o} is mark (negative {s = m} {t = k} {u} minus int shut)) starts s ss ts unit written_as =
+    minus_written_as front starts t o m k u (s ∷ ss) ts is mark minus (ap is_key_token int) shut written_as
+simple_written_as front (with_offset {t} {o} is mark (variable {t = k} {u} var shut)) starts s ss ts unit written_as =
+    offset_written_as front starts t o k u (s ∷ ss) ts is mark (ap is_key_token var) shut written_as
+simple_written_as front (with_property {t} {o} {u} is op arrow word) starts s ss ts unit written_as =
+    property_written_as front starts t o u (s ∷ ss) ts is op arrow word written_as
 
 -- ---- code behind a quoted text
 

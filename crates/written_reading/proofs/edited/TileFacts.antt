@@ -8,8 +8,8 @@ use Rattle.php_spellings.specs.declared.table.Kind.{Kind}
 use Rattle.php_spellings.specs.declared.table.Kind.TheVariants.{Space, Comment, Tag, Op}
 use Rattle.php_lexer.specs.Modes.{Mode, html, code}
 use Rattle.php_relexing.specs.Tiles.{Tile, tile}
-use Rattle.written_tokens.specs.tiles.Goes.{stops_cast, is_trivia}
-use Rattle.written_tokens.specs.tiles.Becomes.{gap_behind}
+use Rattle.written_tokens.specs.tiles.ContinuesAs.{stops_cast, is_trivia}
+use Rattle.written_tokens.specs.tiles.IsRewrittenTo.{gap_behind}
 use Rattle.written_tokens.specs.tiles.Going.{any_stops}
 use Rattle.written_tokens.specs.tiles.Edits.{all_trivia}
 use Rattle.written_reading.specs.edited.Rows.{is_clean, all_clean}

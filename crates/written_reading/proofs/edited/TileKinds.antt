@@ -40,7 +40,7 @@ use Rattle.php_spellings.specs.declared.table.Kind.TheVariants.{
 use Rattle.php_spellings.specs.Words.{is_keyword, greatest_int, value_from, whole_number, token_of}
 use Rattle.php_lexer.specs.Modes.{html, code, is_byte, IsLongest}
 use Rattle.php_relexing.proofs.Picked.{longest_meets}
-use Rattle.written_tokens.specs.tiles.Goes.{is_trivia}
+use Rattle.written_tokens.specs.tiles.ContinuesAs.{is_trivia}
 use Rattle.rewritten_shapes.specs.paired.Tokens.{is_op, is_edge}
 use Rattle.written_reading.proofs.edited.TileFacts.{mode_of}
 

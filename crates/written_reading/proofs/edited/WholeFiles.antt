@@ -20,8 +20,8 @@ use Rattle.syntax_rules.proofs.InContext.{drafted_is}
 use Rattle.written_tokens.specs.tokens.Tokens.{InARow, TokensAreTiles}
 use Rattle.written_tokens.specs.tokens.Written.{new_lexeme, draft_tokens}
 use Rattle.written_tokens.specs.tokens.Levels.{stack_of}
-use Rattle.written_tokens.specs.tiles.Goes.{ended}
-use Rattle.written_tokens.specs.tiles.Becomes.{Becomes}
+use Rattle.written_tokens.specs.tiles.ContinuesAs.{ended}
+use Rattle.written_tokens.specs.tiles.IsRewrittenTo.{IsRewrittenTo}
 use Rattle.written_tokens.specs.tiles.Going.{any_stops}
 use Rattle.written_tokens.specs.names.Fronts.{LastFront, EndOfRow}
 use Rattle.written_tokens.specs.names.Leads.{spaced_trivia}
@@ -30,11 +30,11 @@ use Rattle.rewritten_shapes.specs.paired.Laws.{ShapedFilesArePaired}
 use Rattle.written_reading.specs.edited.Rows.{all_clean, DraftsHaveRows}
 use Rattle.written_reading.proofs.edited.Spelling.{trivia_spelled, led_spells}
 use Rattle.written_reading.proofs.edited.TileFacts.{mode_of, html_behind, clean_append}
-use Rattle.written_reading.proofs.edited.Turns.{Filled, Row, Turns, parted_spelled, steps_left, becomes_both}
+use Rattle.written_reading.proofs.edited.WrittenAs.{Filled, Row, WrittenAs, parted_spelled, steps_left, becomes_both}
 use Rattle.written_reading.proofs.edited.Leads.{Means, inner_mode, clean_trivia, lead_becomes}
-use Rattle.written_reading.proofs.edited.TreeTurns.{Laws}
+use Rattle.written_reading.proofs.edited.TreeWrittenAs.{Laws}
 use Rattle.written_reading.proofs.edited.ShapedTexts.{shaped_texts}
-use Rattle.written_reading.proofs.edited.Trees.{paired_turns}
+use Rattle.written_reading.proofs.edited.Trees.{paired_written_as}
 
 -- The row of some draft's tokens and the end of the file.
 record EndedRow (ts : List NewToken) (e : Token) : Type 0 where
@@ -48,7 +48,7 @@ record Ending (h : Bool) (e : Token) (rest : List Tile) : Type 0 where
   inner : Bool
   ys : List Tile
   clean : all_clean ys ≡ true
-  become : Becomes false (any_stops rest) (mode_of h) (mode_of inner) rest ys
+  become : IsRewrittenTo false (any_stops rest) (mode_of h) (mode_of inner) rest ys
   same : spelled [] ys ≡ new_lexeme (hash_comment e) ∷ []
 
 end_lexeme : (e : Token) (lead : List ℕ) → e.kind ≡ End → e.text ≡ [] → lead ≡ after (spaced outside e.lead)
@@ -76,7 +76,7 @@ ending means ends h e rest steps same =
           ∙ ap (λ (l : Lexeme). l ∷ []) (end_lexeme e (joined (spaced_trivia rest)) last.is last.text lead);
     }
 
-ended_row : (ts us : List Tile) (h : Bool) (s : Bool) → Becomes false s html (mode_of h) ts us → Steps V74 start ts → Steps V74 start us
+ended_row : (ts us : List Tile) (h : Bool) (s : Bool) → IsRewrittenTo false s html (mode_of h) ts us → Steps V74 start ts → Steps V74 start us
 ended_row ts us h s become steps =
     subst (Steps V74 start) (append-nil us)
     (become.written false [] [] 0 0 [] [] ended (subst (Steps V74 start) (sym (append-nil ts)) steps) (done refl))
@@ -101,7 +101,7 @@ module _ (laws : Laws) (ends : EndOfRow) (e : Token) where
       let last : Ending h e f.rest = ending laws.means ends h e f.rest (steps_left f [] 0 steps) f.left in
       let old = f.trivia ++ (one ++ f.rest) in
       let written = f.spaced ++ (new ++ last.ys) in
-      let all : Becomes false (any_stops old) html (mode_of last.inner) old written =
+      let all : IsRewrittenTo false (any_stops old) html (mode_of last.inner) old written =
       becomes_both laws.join html (mode_of f.inner) (mode_of last.inner) f.trivia f.spaced (one ++ f.rest) (new ++ last.ys) f.lead
       (becomes_both laws.join (mode_of f.inner) (mode_of h) (mode_of last.inner) one new f.rest last.ys f.row last.become) in
       record {
@@ -128,10 +128,10 @@ drafts_have_rows laws ends tiled shaped bytes f reads traits =
     let d = draft_in at_top true f.statements in
     let same : spelled [] all.tiles ≡ map lexeme (leaves f.statements) ++ lexeme f.end ∷ [] =
     all.tokens ∙ sym (append-nil (map lexeme (file_leaves f))) ∙ parted_spelled (leaves f.statements) (f.end ∷ []) [] in
-    let turns : Turns true (has_stop f.statements) (leaves f.statements) (draft_tokens d) = paired_turns laws (shaped f shape traits) at_top true true (shaped_texts f shape) in
+    let written_as : WrittenAs true (has_stop f.statements) (leaves f.statements) (draft_tokens d) = paired_written_as laws (shaped f shape traits) at_top true true (shaped_texts f shape) in
     let r : EndedRow (draft_tokens d) f.end =
     ended_by laws ends f.end (has_stop f.statements) (leaves f.statements) (draft_tokens d) all.tiles all.steps same
-    (turns [] 0 all.tiles (lexeme f.end ∷ []) refl all.steps same) in
+    (written_as [] 0 all.tiles (lexeme f.end ∷ []) refl all.steps same) in
     record {
       row = r.row;
       steps = r.steps;

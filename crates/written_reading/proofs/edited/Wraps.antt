@@ -18,14 +18,14 @@ use Rattle.tracked_changes.specs.Leads.{first_lead, without_lead}
 use Rattle.tracked_changes.specs.Tokens.{put_in}
 use Rattle.written_tokens.specs.tokens.Written.{new_lexeme, draft_tokens}
 use Rattle.written_tokens.specs.tokens.Levels.{stack_of}
-use Rattle.written_tokens.specs.tiles.Goes.{stops_cast, is_trivia, begins_token}
-use Rattle.written_tokens.specs.tiles.Becomes.{Becomes}
+use Rattle.written_tokens.specs.tiles.ContinuesAs.{stops_cast, is_trivia, begins_token}
+use Rattle.written_tokens.specs.tiles.IsRewrittenTo.{IsRewrittenTo}
 use Rattle.written_tokens.specs.tiles.Going.{any_stops}
 use Rattle.written_tokens.specs.tiles.Edits.{between, is_uncast, RoundsComeIn}
 use Rattle.rewritten_shapes.specs.paired.Tokens.{is_edge}
 use Rattle.written_reading.proofs.edited.Spelling.{Spells, spells_join, led_spells, step_longest, step_behind}
 use Rattle.written_reading.proofs.edited.TileFacts.{mode_of, html_behind, stays_open, clean_append}
-use Rattle.written_reading.proofs.edited.Turns.{Filled, Turns, news_append}
+use Rattle.written_reading.proofs.edited.WrittenAs.{Filled, WrittenAs, news_append}
 use Rattle.written_reading.proofs.edited.TileKinds.{token_like, told, token_is_no_trivia, in_code}
 use Rattle.written_reading.proofs.edited.FirstTokens.{lead_of, leadless, first_lead_is, without_lead_is}
 
@@ -89,11 +89,11 @@ module _ (rounds : RoundsComeIn) (h : Bool) (t : Token) (ss : List Token) (edge 
       let inner : f.inner ≡ false = in_code f.inner f.kind f.b f.a (joined (f.body ++ f.rest)) t.kind f.is edge (step_longest behind) in
       let stops : any_stops one ≡ true = f.stopped refl in
       let within : Steps V74 (stack_of code below depth) (one ++ f.rest) = subst (λ (x : Bool). Steps V74 (stack_of (mode_of x) below depth) (one ++ f.rest)) inner behind in
-      let become : Becomes false true code code one new =
-      subst (λ (x : Bool). Becomes false x code code one new) stops
-      (subst (λ (x : Bool). Becomes false (any_stops one) (mode_of x) code one new) inner
-      (subst (λ (x : Bool). Becomes false (any_stops one) (mode_of f.inner) (mode_of x) one new) coded f.row)) in
-      let round : Becomes false true code code one (between 40 41 new) =
+      let become : IsRewrittenTo false true code code one new =
+      subst (λ (x : Bool). IsRewrittenTo false x code code one new) stops
+      (subst (λ (x : Bool). IsRewrittenTo false (any_stops one) (mode_of x) code one new) inner
+      (subst (λ (x : Bool). IsRewrittenTo false (any_stops one) (mode_of f.inner) (mode_of x) one new) coded f.row)) in
+      let round : IsRewrittenTo false true code code one (between 40 41 new) =
       rounds one new (begins_by f.kind f.b f.a f.body t.kind f.is edge) f.ends (uncast_of below depth one f.rest within stops f.no_cast) become in
       let lead : first_lead d ≡ f.first.lead = first_lead_is d ∙ ap lead_of f.tokens in
       let others : draft_tokens (without_lead d) ≡ record { kind = f.first.kind; lead = []; text = f.first.text } ∷ f.others = without_lead_is d ∙ ap leadless f.tokens in
@@ -135,14 +135,14 @@ module _ (rounds : RoundsComeIn) (h : Bool) (t : Token) (ss : List Token) (edge 
             (spells_join f.us (tile Op 41 [] ∷ []) (map new_lexeme f.others) (map new_lexeme (put_in [] (codes ")") ∷ [])) f.spells (λ rest. refl))));
         clean_lead = f.clean_lead;
         clean = clean_append new (tile Op 41 [] ∷ []) f.clean refl;
-        lead = subst (λ (x : Bool). Becomes false (any_stops f.trivia) (mode_of h) (mode_of x) f.trivia f.spaced) inner f.lead;
-        row = subst (λ (x : Bool). Becomes false x code (mode_of (html_behind h (t ∷ ss))) one (between 40 41 new)) (sym stops)
-            (subst (λ (x : Bool). Becomes false true code (mode_of x) one (between 40 41 new)) (sym coded) round);
+        lead = subst (λ (x : Bool). IsRewrittenTo false (any_stops f.trivia) (mode_of h) (mode_of x) f.trivia f.spaced) inner f.lead;
+        row = subst (λ (x : Bool). IsRewrittenTo false x code (mode_of (html_behind h (t ∷ ss))) one (between 40 41 new)) (sym stops)
+            (subst (λ (x : Bool). IsRewrittenTo false true code (mode_of x) one (between 40 41 new)) (sym coded) round);
       }
 
   -- a node in parentheses
-  pub wrapped_turns : (d : Draft) → Turns h true (t ∷ ss) (draft_tokens d)
-      → Turns h true (t ∷ ss) (put_in (first_lead d) (codes "(")
+  pub wrapped_written_as : (d : Draft) → WrittenAs h true (t ∷ ss) (draft_tokens d)
+      → WrittenAs h true (t ∷ ss) (put_in (first_lead d) (codes "(")
       ∷ (draft_tokens (without_lead d) ++ put_in [] (codes ")") ∷ []))
-  wrapped_turns d turns below depth tiles more m steps same =
-      wrapped_row d below depth tiles more steps (turns below depth tiles more m steps same)
+  wrapped_written_as d written_as below depth tiles more m steps same =
+      wrapped_row d below depth tiles more steps (written_as below depth tiles more m steps same)

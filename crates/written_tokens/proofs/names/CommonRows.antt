@@ -22,8 +22,8 @@ use Rattle.php_spellings.specs.declared.table.Mark.{Mark}
 use Rattle.php_spellings.specs.declared.table.Mark.TheVariants.{Double, Back, Here}
 use Rattle.php_spellings.specs.Bytes.{begins_by}
 use Rattle.php_spellings.specs.Words.{is_keyword}
-use Rattle.php_lexer.specs.Modes.{Mode, html, code, named, quoted, offset, property, Turn, stay, enter, leave, is_byte, turn_of, code_turn, quoted_turn, begins_property, IsLongest}
-use Rattle.php_lexer.specs.Lexed.{Stack, turned_by}
+use Rattle.php_lexer.specs.Modes.{Mode, html, code, named, quoted, offset, property, ModeStep, stay, enter, leave, is_byte, mode_step_of, code_mode_step, quoted_mode_step, begins_property, IsLongest}
+use Rattle.php_lexer.specs.Lexed.{Stack, stepped_by}
 use Rattle.php_relexing.specs.Tiles.{Tile, tile, joined}
 use Rattle.php_relexing.specs.Spelled.{Steps}
 use Rattle.php_relexing.proofs.Picked.{longest_meets}
@@ -55,16 +55,16 @@ abbrev pub sound : Stack → Bool
 sound k = modes_sound (k.top ∷ k.below)
 
 -- what a turn puts above the modes below is sound
-abbrev turn_sound : Turn → List Mode → Bool
-turn_sound (stay n) ms = not (is_simple n) || quoted_first ms
-turn_sound (enter above under) ms = (not (is_simple above) || quoted_first (under ∷ [])) && not (is_simple under)
-turn_sound leave ms = true
+abbrev mode_step_sound : ModeStep → List Mode → Bool
+mode_step_sound (stay n) ms = not (is_simple n) || quoted_first ms
+mode_step_sound (enter above under) ms = (not (is_simple above) || quoted_first (under ∷ [])) && not (is_simple under)
+mode_step_sound leave ms = true
 
-chosen : (t : Bool) (x y : Turn) (ms : List Mode) → turn_sound x ms ≡ true → turn_sound y ms ≡ true → turn_sound (cond t x y) ms ≡ true
+chosen : (t : Bool) (x y : ModeStep) (ms : List Mode) → mode_step_sound x ms ≡ true → mode_step_sound y ms ≡ true → mode_step_sound (cond t x y) ms ≡ true
 chosen true x y ms p q = p
 chosen false x y ms p q = q
 
-code_sound : (kind : Kind) (text : List ℕ) (ms : List Mode) → turn_sound (code_turn kind text) ms ≡ true
+code_sound : (kind : Kind) (text : List ℕ) (ms : List Mode) → mode_step_sound (code_mode_step kind text) ms ≡ true
 code_sound Op text ms = chosen (is_byte 123 text) (enter code code) (cond (is_byte 125 text) leave (stay code)) ms refl (chosen (is_byte 125 text) leave (stay code) ms refl refl)
 code_sound Close text ms = refl
 code_sound Quote text ms = refl
@@ -72,7 +72,7 @@ code_sound Backtick text ms = refl
 code_sound HeredocStart text ms = refl
 code_sound _ text ms = refl
 
-quoted_sound : (mark : Mark) (label : List ℕ) (kind : Kind) (text rest : List ℕ) (ms : List Mode) → turn_sound (quoted_turn V74 mark label kind text rest) ms ≡ true
+quoted_sound : (mark : Mark) (label : List ℕ) (kind : Kind) (text rest : List ℕ) (ms : List Mode) → mode_step_sound (quoted_mode_step V74 mark label kind text rest) ms ≡ true
 quoted_sound mark label Variable text rest ms =
     chosen (begins_by 91 rest) (enter offset (quoted mark label false))
     (cond (begins_property V74 rest) (enter property (quoted mark label false)) (stay (quoted mark label false)))
@@ -83,16 +83,16 @@ quoted_sound mark label CurlyOpen text rest ms = refl
 quoted_sound mark label DollarBrace text rest ms = refl
 quoted_sound mark label _ text rest ms = refl
 
-turn_is_sound : (m : Mode) (kind : Kind) (text rest : List ℕ) (ms : List Mode) → (not (is_simple m) || quoted_first ms) ≡ true → turn_sound (turn_of V74 m kind text rest) ms ≡ true
-turn_is_sound html InlineHtml text rest ms h = refl
-turn_is_sound html _ text rest ms h = refl
-turn_is_sound code kind text rest ms h = code_sound kind text ms
-turn_is_sound named kind text rest ms h = code_sound kind text ms
-turn_is_sound (quoted mark label fresh) kind text rest ms h = quoted_sound mark label kind text rest ms
-turn_is_sound offset Op text rest ms h = chosen (is_byte 93 text) leave (stay offset) ms refl h
-turn_is_sound offset _ text rest ms h = h
-turn_is_sound property Label text rest ms h = refl
-turn_is_sound property _ text rest ms h = h
+mode_step_is_sound : (m : Mode) (kind : Kind) (text rest : List ℕ) (ms : List Mode) → (not (is_simple m) || quoted_first ms) ≡ true → mode_step_sound (mode_step_of V74 m kind text rest) ms ≡ true
+mode_step_is_sound html InlineHtml text rest ms h = refl
+mode_step_is_sound html _ text rest ms h = refl
+mode_step_is_sound code kind text rest ms h = code_sound kind text ms
+mode_step_is_sound named kind text rest ms h = code_sound kind text ms
+mode_step_is_sound (quoted mark label fresh) kind text rest ms h = quoted_sound mark label kind text rest ms
+mode_step_is_sound offset Op text rest ms h = chosen (is_byte 93 text) leave (stay offset) ms refl h
+mode_step_is_sound offset _ text rest ms h = h
+mode_step_is_sound property Label text rest ms h = refl
+mode_step_is_sound property _ text rest ms h = h
 
 first_quoted : (m : Mode) (ms : List Mode) → quoted_first (m ∷ []) ≡ true → quoted_first (m ∷ ms) ≡ true
 first_quoted (quoted mark label fresh) ms h = refl
@@ -110,22 +110,22 @@ either : (x y : Bool) → x ≡ true → (x || y) ≡ true
 either true y h = refl
 either false y h = absurd cc
 
-turned_sound : (t : Turn) (m : Mode) (below : List Mode) (depth : ℕ) → turn_sound t below ≡ true → modes_sound below ≡ true → sound (turned_by t (stack_of m below depth)) ≡ true
-turned_sound (stay n) m below depth p q = rw (p, q) refl
-turned_sound (enter above under) m below depth p q =
+stepped_sound : (t : ModeStep) (m : Mode) (below : List Mode) (depth : ℕ) → mode_step_sound t below ≡ true → modes_sound below ≡ true → sound (stepped_by t (stack_of m below depth)) ≡ true
+stepped_sound (stay n) m below depth p q = rw (p, q) refl
+stepped_sound (enter above under) m below depth p q =
     let (one, two) = and_parts (not (is_simple above) || quoted_first (under ∷ [])) (not (is_simple under)) p in
     and_both (not (is_simple above) || quoted_first (under ∷ below)) ((not (is_simple under) || quoted_first below) && modes_sound below)
     (entered (not (is_simple above)) under below one)
     (and_both (not (is_simple under) || quoted_first below) (modes_sound below) (either (not (is_simple under)) (quoted_first below) two) q)
-turned_sound leave m [] depth p q = refl
-turned_sound leave m (n ∷ below) depth p q = q
+stepped_sound leave m [] depth p q = refl
+stepped_sound leave m (n ∷ below) depth p q = q
 
 pub behind_sound : (m : Mode) (below : List Mode) (depth : ℕ) (kind : Kind) (text rest : List ℕ)
     → sound (stack_of m below depth) ≡ true
-    → sound (turned_by (turn_of V74 m kind text rest) (stack_of m below depth)) ≡ true
+    → sound (stepped_by (mode_step_of V74 m kind text rest) (stack_of m below depth)) ≡ true
 behind_sound m below depth kind text rest h =
     let (top, others) = and_parts (not (is_simple m) || quoted_first below) (modes_sound below) h in
-    turned_sound (turn_of V74 m kind text rest) m below depth (turn_is_sound m kind text rest below top) others
+    stepped_sound (mode_step_of V74 m kind text rest) m below depth (mode_step_is_sound m kind text rest below top) others
 
 -- ---- `\` is an operator of code
 

@@ -32,10 +32,10 @@ use Rattle.written_tokens.specs.names.Apart.{are_apart}
 
 -- ---- a piece that begins with `?` holds the arrow behind it
 
-abbrev Goes : ℕ → Type 0
-Goes b = ((nat_eq b 34 || nat_eq b 96) ≡ false) × ((nat_eq b 36 ≡ false) × (nat_eq b 123 ≡ false))
+abbrev ContinuesAs : ℕ → Type 0
+ContinuesAs b = ((nat_eq b 34 || nat_eq b 96) ≡ false) × ((nat_eq b 36 ≡ false) × (nat_eq b 123 ≡ false))
 
-plain_goes : (mark : Mark) (label : List ℕ) (b : ℕ) (bs : List ℕ) → Goes b → in_piece mark label Plain b bs ≡ true
+plain_goes : (mark : Mark) (label : List ℕ) (b : ℕ) (bs : List ℕ) → ContinuesAs b → in_piece mark label Plain b bs ≡ true
 plain_goes mark label b bs g = by_mark mark (nat_eq b 34) (nat_eq b 96) refl refl g.0
   where
     by_mark : (m : Mark) (x y : Bool) → nat_eq b 34 ≡ x → nat_eq b 96 ≡ y → (x || y) ≡ false → in_piece m label Plain b bs ≡ true
@@ -49,10 +49,10 @@ stop_none : (t : Bool) (n : ℕ) → t ≡ true → cond t (1 + n) 0 ≡ 0 → �
 stop_none true n e h = omega arith
 stop_none false n e h = cc
 
-goes_none : (mark : Mark) (label : List ℕ) (b : ℕ) (bs : List ℕ) → Goes b → piece_len mark label Plain (b ∷ bs) ≡ 0 → ⊥
+goes_none : (mark : Mark) (label : List ℕ) (b : ℕ) (bs : List ℕ) → ContinuesAs b → piece_len mark label Plain (b ∷ bs) ≡ 0 → ⊥
 goes_none mark label b bs g e = stop_none (in_piece mark label Plain b bs) (piece_len mark label (moved (Body mark) Plain b) bs) (plain_goes mark label b bs g) e
 
-letter_goes : (b : ℕ) → is_letter b ≡ true → Goes b
+letter_goes : (b : ℕ) → is_letter b ≡ true → ContinuesAs b
 letter_goes b h = (grind (arith, nat_tests), (grind (arith, nat_tests), grind (arith, nat_tests)))
 
 -- the state behind `?`, `-` and `>`
@@ -74,10 +74,10 @@ more_plain Double = refl
 more_plain Back = refl
 more_plain Here = refl
 
-mark_goes : Goes 45
+mark_goes : ContinuesAs 45
 mark_goes = (refl, (refl, refl))
 
-more_goes : Goes 62
+more_goes : ContinuesAs 62
 more_goes = (refl, (refl, refl))
 
 -- an arrow behind: its first byte, its second, and the letter
@@ -99,11 +99,11 @@ arrow_third x y r h =
     (eqb-true x 45 two.0, (eqb-true y 62 two.1, letter))
 
 module _ (mark : Mark) (label : List ℕ) where
-  stops_byte : (n : ℕ) (s : State) (r : List ℕ) → s ≡ Plain → Goes n → begins_by n r ≡ true → piece_len mark label s r ≡ 0 → ⊥
+  stops_byte : (n : ℕ) (s : State) (r : List ℕ) → s ≡ Plain → ContinuesAs n → begins_by n r ≡ true → piece_len mark label s r ≡ 0 → ⊥
   stops_byte n s [] p g h e = cc
   stops_byte n s (b ∷ r) p g h e =
       let is : b ≡ n = eqb-true b n h in
-      goes_none mark label b r (subst Goes (sym is) g) (subst (λ (t : State). piece_len mark label t (b ∷ r) ≡ 0) p e)
+      goes_none mark label b r (subst ContinuesAs (sym is) g) (subst (λ (t : State). piece_len mark label t (b ∷ r) ≡ 0) p e)
 
   stops_letter : (s : State) (r : List ℕ) → s ≡ Plain → begins is_letter r ≡ true → piece_len mark label s r ≡ 0 → ⊥
   stops_letter s [] p h e = cc

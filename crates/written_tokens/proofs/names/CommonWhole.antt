@@ -10,8 +10,8 @@ use Rattle.php_spellings.specs.declared.table.Kind.TheVariants.{Space, Comment, 
 use Rattle.php_spellings.specs.declared.table.Mark.TheVariants.{Double, Back, Here}
 use Rattle.php_spellings.specs.Bytes.{is_space, is_letter, begins}
 use Rattle.php_spellings.specs.Words.{token_of, is_keyword}
-use Rattle.php_lexer.specs.Modes.{Mode, html, code, named, quoted, offset, property, turn_of, IsLongest}
-use Rattle.php_lexer.specs.Lexed.{Lexeme, Stack, start, turned_by}
+use Rattle.php_lexer.specs.Modes.{Mode, html, code, named, quoted, offset, property, mode_step_of, IsLongest}
+use Rattle.php_lexer.specs.Lexed.{Lexeme, Stack, start, stepped_by}
 use Rattle.php_relexing.specs.Tiles.{Tile, tile, joined}
 use Rattle.php_relexing.specs.Spelled.{Steps, lexeme_with, spelled}
 use Rattle.php_relexing.specs.Labels.{all_label}
@@ -218,7 +218,7 @@ is_code_mode code = true
 is_code_mode _ = false
 
 quoted_not : (below : List Mode) (depth : ℕ) (text rest : List ℕ) → quoted_first below ≡ true
-    → is_code_mode (turned_by (turn_of V74 property Label text rest) (stack_of property below depth)).top ≡ false
+    → is_code_mode (stepped_by (mode_step_of V74 property Label text rest) (stack_of property below depth)).top ≡ false
 quoted_not [] depth text rest h = absurd cc
 quoted_not (quoted mark label fresh ∷ below) depth text rest h = refl
 quoted_not (html ∷ below) depth text rest h = absurd cc
@@ -229,7 +229,7 @@ quoted_not (property ∷ below) depth text rest h = absurd cc
 
 label_not : (m : Mode) (below : List Mode) (depth : ℕ) (b : ℕ) (a r : List ℕ) → mode_ok m ≡ true
     → sound (stack_of m below depth) ≡ true → IsLongest V74 m (b ∷ a ++ r) Label (suc (length a))
-    → is_code_mode (turned_by (turn_of V74 m Label (b ∷ a) r) (stack_of m below depth)).top ≡ false
+    → is_code_mode (stepped_by (mode_step_of V74 m Label (b ∷ a) r) (stack_of m below depth)).top ≡ false
 label_not html below depth b a r ok f l = absurd (let clash = longest_meets is_label_tile V74 html (b ∷ a) r Label refl l in cc)
 label_not code below depth b a r ok f l = absurd (let clash = longest_meets is_label_tile V74 code (b ∷ a) r Label refl l in cc)
 label_not named below depth b a r ok f l = absurd cc
@@ -245,7 +245,7 @@ label_not property below depth b a r ok f l = quoted_not below depth (b ∷ a) r
 module _ (m : Mode) (below : List Mode) (depth : ℕ) (ok : stack_ok (stack_of m below depth) ≡ true)
     (fine : sound (stack_of m below depth) ≡ true) (b : ℕ) (a : List ℕ) (ts : List Tile) where
   abbrev Next : Kind → Stack
-  Next kind = turned_by (turn_of V74 m kind (b ∷ a) (joined ts)) (stack_of m below depth)
+  Next kind = stepped_by (mode_step_of V74 m kind (b ∷ a) (joined ts)) (stack_of m below depth)
 
   abbrev Row : Kind → Type 0
   Row kind = Steps V74 (stack_of m below depth) (tile kind b a ∷ ts)
@@ -324,7 +324,7 @@ row_all [] lead k ok fine d f s h = (refl, refl)
 row_all (tile kind b a ∷ ts) lead k ok fine d f s h =
     let (one, dollars) = and_parts (not (is_dollar_brace kind)) (none_dollar ts) d in
     let (two, hashes) = and_parts (not (is_hash kind b a)) (none_hash ts) f in
-    let n : Stack = turned_by (turn_of V74 k.top kind (b ∷ a) (joined ts)) k in
+    let n : Stack = stepped_by (mode_step_of V74 k.top kind (b ∷ a) (joined ts)) k in
     let good = behind_ok k.top k.below k.depth kind (b ∷ a) (joined ts) ok (not_it (is_dollar_brace kind) one) in
     let nice = behind_sound k.top k.below k.depth kind (b ∷ a) (joined ts) fine in
     let tail = steps_behind k n kind b a ts refl s in

@@ -9,7 +9,7 @@ use Rattle.php_spellings.specs.Words.{token_of}
 use Rattle.php_lexer.specs.Lexed.{Lexeme}
 use Rattle.php_relexing.specs.Tiles.{Tile, tile, joined}
 use Rattle.php_relexing.specs.Spelled.{lexeme_with, spelled}
-use Rattle.written_tokens.specs.tiles.Goes.{is_trivia}
+use Rattle.written_tokens.specs.tiles.ContinuesAs.{is_trivia}
 use Rattle.written_tokens.specs.tiles.Edits.{all_trivia}
 use Rattle.written_tokens.specs.names.Fronts.{Front, FrontOfRow, LastFront, EndOfRow, FrontsAreSpelled}
 

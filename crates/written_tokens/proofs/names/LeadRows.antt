@@ -21,7 +21,7 @@ use Rattle.php_relexing.proofs.Bools.{not_it}
 use Rattle.tracked_changes.specs.Pieces.{after}
 use Rattle.syntax_rules.specs.HashComment.{Standing, outside, opening, block, closing, line, next_is, moved, begins_hash, spaced}
 use Rattle.written_tokens.proofs.tokens.Kept.{opened}
-use Rattle.written_tokens.specs.tiles.Goes.{is_trivia}
+use Rattle.written_tokens.specs.tiles.ContinuesAs.{is_trivia}
 use Rattle.written_tokens.specs.tiles.Edits.{all_trivia}
 use Rattle.written_tokens.specs.names.Leads.{is_hash, spaced_tile, spaced_trivia, SpacedAreWritten, none_hash, SpacedAreTrivia}
 use Rattle.written_tokens.specs.names.Named.{all_space}

@@ -41,8 +41,8 @@ use Rattle.php_spellings.specs.declared.table.Run.TheVariants.{Labels}
 use Rattle.php_spellings.specs.Bytes.{is_letter, is_empty, lower}
 use Rattle.php_spellings.specs.Words.{token_of}
 use Rattle.php_lexer.specs.Tails.{is_run}
-use Rattle.php_lexer.specs.Modes.{Mode, html, code, named, quoted, offset, property, turn_of, IsLongest}
-use Rattle.php_lexer.specs.Lexed.{Stack, turned_by}
+use Rattle.php_lexer.specs.Modes.{Mode, html, code, named, quoted, offset, property, mode_step_of, IsLongest}
+use Rattle.php_lexer.specs.Lexed.{Stack, stepped_by}
 use Rattle.php_relexing.specs.Tiles.{Tile, tile, joined}
 use Rattle.php_relexing.specs.Spelled.{Steps}
 use Rattle.php_relexing.specs.Labels.{all_label}
@@ -51,14 +51,14 @@ use Rattle.php_relexing.proofs.Labels.{words_are_labels}
 use Rattle.php_relexing.proofs.Picked.{longest_meets}
 use Rattle.written_tokens.specs.tokens.Levels.{stack_of}
 use Rattle.written_tokens.specs.tokens.Whole.{is_label_kind, is_name_kind, is_keyword_kind, is_op_kind, is_namespace}
-use Rattle.written_tokens.specs.tiles.Goes.{is_trivia}
+use Rattle.written_tokens.specs.tiles.ContinuesAs.{is_trivia}
 use Rattle.written_tokens.specs.tiles.Edits.{all_trivia}
 use Rattle.written_tokens.proofs.tiles.Behind.{keyword_first}
 use Rattle.written_tokens.proofs.tiles.Stepping.{longest_in, steps_behind}
 use Rattle.written_tokens.specs.names.Named.{is_blank, all_blank, is_dollar_brace, none_dollar}
 use Rattle.written_tokens.proofs.names.TriviaTexts as texts
 use Rattle.written_tokens.proofs.names.NamedModes.{mode_ok, under_ok, modes_ok, stack_ok, behind_ok}
-use Rattle.written_tokens.proofs.names.NamedRows.{is_blank_kind, no_blank, blank_turn}
+use Rattle.written_tokens.proofs.names.NamedRows.{is_blank_kind, no_blank, blank_mode_step}
 
 or_none : (x : Bool) → (x || false) ≡ true → x ≡ true
 or_none true h = refl
@@ -225,7 +225,7 @@ under_html offset h = refl
 under_html property h = refl
 
 left_html : (below : List Mode) (depth : ℕ) (kind : Kind) (text rest : List ℕ) → modes_ok below ≡ true
-    → is_wordy kind ≡ true → is_html (turned_by (turn_of V74 property kind text rest)
+    → is_wordy kind ≡ true → is_html (stepped_by (mode_step_of V74 property kind text rest)
     (stack_of property below depth)).top ≡ false
 left_html [] depth Label text rest h e = refl
 left_html (m ∷ below) depth Label text rest h e = under_html m (and_parts (under_ok m) (modes_ok below) h).0
@@ -235,7 +235,7 @@ left_html below depth _ text rest h e = absurd cc
 
 pub behind_word : (m : Mode) (below : List Mode) (depth : ℕ) (kind : Kind) (text rest : List ℕ)
     → modes_ok below ≡ true → is_wordy kind ≡ true → is_html
-    (turned_by (turn_of V74 m kind text rest) (stack_of m below depth)).top ≡ false
+    (stepped_by (mode_step_of V74 m kind text rest) (stack_of m below depth)).top ≡ false
 behind_word html below depth Word text rest h e = refl
 behind_word html below depth Label text rest h e = refl
 behind_word html below depth Keyword text rest h e = refl
@@ -294,7 +294,7 @@ blank_of (tile kind b a ∷ trivia) ts m below depth ok e f s =
     let is : m ≡ code = no_blank m kind b a (joined (trivia ++ ts)) ok blank longest in
     let in_code : Steps V74 (stack_of code below depth) (tile kind b a ∷ (trivia ++ ts)) =
     subst (λ (n : Mode). Steps V74 (stack_of n below depth) (tile kind b a ∷ (trivia ++ ts))) is s in
-    let behind = steps_behind (stack_of code below depth) (stack_of code below depth) kind b a (trivia ++ ts) (blank_turn kind b a below depth blank) in_code in
+    let behind = steps_behind (stack_of code below depth) (stack_of code below depth) kind b a (trivia ++ ts) (blank_mode_step kind b a below depth blank) in_code in
     rw (here, blank_of trivia ts code below depth refl refl more behind) refl
 
 -- ---- through trivia to a token
@@ -311,6 +311,6 @@ pub reached : (trivia ts : List Tile) (k : Stack) → stack_ok k ≡ true → no
 reached [] ts k ok d s = record { m = k.top; below = k.below; depth = k.depth; ok = ok; dollar = d; steps = s }
 reached (tile kind b a ∷ trivia) ts k ok d s =
     let (one, more) = and_parts (not (is_dollar_brace kind)) (none_dollar (trivia ++ ts)) d in
-    let n : Stack = turned_by (turn_of V74 k.top kind (b ∷ a) (joined (trivia ++ ts))) k in
+    let n : Stack = stepped_by (mode_step_of V74 k.top kind (b ∷ a) (joined (trivia ++ ts))) k in
     reached trivia ts n (behind_ok k.top k.below k.depth kind (b ∷ a) (joined (trivia ++ ts)) ok (not_it (is_dollar_brace kind) one)) more
     (steps_behind k n kind b a (trivia ++ ts) refl s)

@@ -22,7 +22,7 @@ use Rattle.php_relexing.proofs.Quotes.{quotes_open}
 use Rattle.php_relexing.proofs.Scanned.{scan_of}
 use Rattle.php_relexing.proofs.TagTexts.{tags_stay}
 use Rattle.written_tokens.specs.tokens.Levels.{stack_of}
-use Rattle.written_tokens.specs.tiles.Goes.{is_trivia}
+use Rattle.written_tokens.specs.tiles.ContinuesAs.{is_trivia}
 use Rattle.written_tokens.specs.tiles.CodeTokens.{mode_opened}
 use Rattle.written_tokens.proofs.tiles.HtmlBehind.{never, tag_opens, inline_behind, no_inline, tag_behind}
 use Rattle.written_tokens.proofs.tiles.Stepping.{longest_in}
@@ -30,7 +30,7 @@ use Rattle.written_tokens.proofs.texts.OpeningTokens.{Unclosed, of_quote, no_quo
 use Rattle.written_tokens.specs.names.Named.{all_blank, Named, none, same, spaced, closed, rooted}
 use Rattle.written_tokens.proofs.names.Shared.{Share, byte_same, part_same}
 use Rattle.written_tokens.proofs.names.QuotedRows as quotes
-use Rattle.written_tokens.proofs.names.QuotedRows.{share_behind, SameFront, is_piece, quoted_stays, offset_stays, property_stays, turn_same}
+use Rattle.written_tokens.proofs.names.QuotedRows.{share_behind, SameFront, is_piece, quoted_stays, offset_stays, property_stays, mode_step_same}
 use Rattle.written_tokens.proofs.names.NamedFacts.{share_of, may_edit, edit_first, closed_edit}
 
 -- ---- inline HTML

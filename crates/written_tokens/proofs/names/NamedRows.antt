@@ -6,8 +6,8 @@ use Rattle.php_spellings.specs.declared.table.Kind.{Kind}
 use Rattle.php_spellings.specs.declared.table.Kind.TheVariants.{Space, Comment, Word, Text, Quote, Backtick, HeredocStart, Op, Piece}
 use Rattle.php_spellings.specs.declared.table.Mark.{Mark}
 use Rattle.php_spellings.specs.declared.table.Mark.TheVariants.{Double, Back, Here}
-use Rattle.php_lexer.specs.Modes.{Mode, html, code, named, quoted, offset, property, Turn, turn_of, code_turn, label_of, ends_line, IsLongest}
-use Rattle.php_lexer.specs.Lexed.{Stack, start, turned_by}
+use Rattle.php_lexer.specs.Modes.{Mode, html, code, named, quoted, offset, property, ModeStep, mode_step_of, code_mode_step, label_of, ends_line, IsLongest}
+use Rattle.php_lexer.specs.Lexed.{Stack, start, stepped_by}
 use Rattle.php_relexing.specs.Tiles.{Tile, tile, joined}
 use Rattle.php_relexing.specs.Spelled.{Steps}
 use Rattle.php_relexing.specs.Labels.{all_label}
@@ -18,17 +18,17 @@ use Rattle.written_tokens.specs.tokens.Levels.{stack_of}
 use Rattle.php_relexing.specs.Alike.{Alike}
 use Rattle.written_tokens.specs.tokens.Stays.{operator_stays}
 use Rattle.written_tokens.proofs.tokens.Stays.{code_stays}
-use Rattle.written_tokens.specs.tiles.Goes.{is_trivia}
+use Rattle.written_tokens.specs.tiles.ContinuesAs.{is_trivia}
 use Rattle.written_tokens.specs.tiles.CodeTokens.{is_plain, mode_opened}
 use Rattle.written_tokens.proofs.tiles.CodeKept.{kept}
 use Rattle.written_tokens.proofs.tiles.HtmlBehind.{never}
-use Rattle.written_tokens.proofs.tiles.Stepping.{stepped, longest_in, steps_behind, html_turn}
+use Rattle.written_tokens.proofs.tiles.Stepping.{stepped, longest_in, steps_behind, html_mode_step}
 use Rattle.written_tokens.proofs.texts.HeredocLines.{heredoc_lines_stay}
 use Rattle.written_tokens.proofs.texts.Nowdocs.{nowdoc_text, text_stops, nowdocs_stay}
 use Rattle.written_tokens.proofs.texts.OpeningTokens.{quote_text, quote_by}
 use Rattle.written_tokens.specs.names.Named.{is_blank, all_blank, Named, none, same, spaced, closed, rooted, is_dollar_brace, none_dollar, NamedSteps}
 use Rattle.written_tokens.proofs.names.Shared.{label_same}
-use Rattle.written_tokens.proofs.names.QuotedRows.{is_piece, quoted_stays, offset_stays, property_stays, turn_same}
+use Rattle.written_tokens.proofs.names.QuotedRows.{is_piece, quoted_stays, offset_stays, property_stays, mode_step_same}
 use Rattle.written_tokens.proofs.names.NamedFacts.{share_of, alike_of, goes_on, edit_first, front_of}
 use Rattle.written_tokens.proofs.names.NamedOpenings.{html_new, is_edited, unedited, feed_same, unclosed_by}
 use Rattle.written_tokens.proofs.names.NamedModes.{mode_ok, modes_ok, stack_ok, behind_ok}
@@ -39,7 +39,7 @@ abbrev Old : Kind → ℕ → List ℕ → List Tile → Type 0
 Old kind b a ts = IsLongest V74 code (b ∷ a ++ joined ts) kind (suc (length a))
 
 abbrev back_in : (m : Mode) (kind : Kind) (b : ℕ) (a : List ℕ) (ts : List Tile) (below : List Mode) (depth : ℕ) → Stack
-back_in m kind b a ts below depth = turned_by (turn_of V74 m kind (b ∷ a) (joined ts)) (stack_of m below depth)
+back_in m kind b a ts below depth = stepped_by (mode_step_of V74 m kind (b ∷ a) (joined ts)) (stack_of m below depth)
 
 -- braces
 brace_stays : (c : ℕ) (b : ℕ) (a r s : List ℕ) → nat_eq b c ≡ true → Alike r s → operator_stays c a s ≡ true
@@ -58,8 +58,8 @@ brace_by b a r s alike p l false false e f = absurd (let clash = rw (e, f) at p 
 
 code_other : (kind : Kind) (b : ℕ) (a : List ℕ) (ts us : List Tile) (below : List Mode) (depth : ℕ)
     → is_plain kind b a ≡ false → Named (is_trivia kind) ts us → Old kind b a ts
-    → Steps V74 (turned_by (code_turn kind (b ∷ a)) (stack_of code below depth)) ts
-    → Steps V74 (turned_by (code_turn kind (b ∷ a)) (stack_of code below depth)) us → Old kind b a us
+    → Steps V74 (stepped_by (code_mode_step kind (b ∷ a)) (stack_of code below depth)) ts
+    → Steps V74 (stepped_by (code_mode_step kind (b ∷ a)) (stack_of code below depth)) us → Old kind b a us
 code_other Quote b a ts us below depth p g l s w =
     quote_by b a (joined ts) (joined us) (quote_text b a (joined ts) l)
     (unclosed_by (code ∷ below) (suc depth) g (unedited Double [] false (code ∷ below) (suc depth) ts s) s w) l
@@ -74,8 +74,8 @@ code_other _ b a ts us below depth p g l s w = absurd cc
 
 code_by : (kind : Kind) (b : ℕ) (a : List ℕ) (ts us : List Tile) (below : List Mode) (depth : ℕ) (t : Bool)
     → is_plain kind b a ≡ t → Named (is_trivia kind) ts us → Old kind b a ts
-    → Steps V74 (turned_by (code_turn kind (b ∷ a)) (stack_of code below depth)) ts
-    → Steps V74 (turned_by (code_turn kind (b ∷ a)) (stack_of code below depth)) us → Old kind b a us
+    → Steps V74 (stepped_by (code_mode_step kind (b ∷ a)) (stack_of code below depth)) ts
+    → Steps V74 (stepped_by (code_mode_step kind (b ∷ a)) (stack_of code below depth)) us → Old kind b a us
 code_by kind b a ts us below depth true p g l s w = kept true (is_trivia kind) (joined ts) (joined us) (goes_on g) kind b a p (λ e. refl) (λ e. e) l
 code_by kind b a ts us below depth false p g l s w = code_other kind b a ts us below depth p g l s w
 
@@ -100,8 +100,8 @@ same_in m below depth kind b a ts us ok d g ih l s =
     let n : Stack = back_in m kind b a ts below depth in
     let more = ih n (behind_ok m below depth kind (b ∷ a) (joined ts) ok d) (steps_behind (stack_of m below depth) n kind b a ts refl s) in
     stepped (stack_of m below depth) n kind b a us l
-    (ap (λ (t : Turn). turned_by t (stack_of m below depth))
-    (sym (turn_same m kind (b ∷ a) (joined ts) (joined us) (share_of g)))) more
+    (ap (λ (t : ModeStep). stepped_by t (stack_of m below depth))
+    (sym (mode_step_same m kind (b ∷ a) (joined ts) (joined us) (share_of g)))) more
 
 same_step : (m : Mode) (below : List Mode) (depth : ℕ) (kind : Kind) (b : ℕ) (a : List ℕ) (ts us : List Tile)
     → stack_ok (stack_of m below depth) ≡ true → is_dollar_brace kind ≡ false → Named (is_trivia kind) ts us
@@ -109,9 +109,9 @@ same_step : (m : Mode) (below : List Mode) (depth : ℕ) (kind : Kind) (b : ℕ)
     → Steps V74 (stack_of m below depth) (tile kind b a ∷ us)
 same_step html below depth kind b a ts us ok d g ih s =
     let n : Stack = stack_of (mode_opened kind) below depth in
-    let tail = steps_behind (stack_of html below depth) n kind b a ts (html_turn kind b a (joined ts) below depth) s in
+    let tail = steps_behind (stack_of html below depth) n kind b a ts (html_mode_step kind b a (joined ts) below depth) s in
     let fine : stack_ok n ≡ true = subst (λ (k : Stack). stack_ok k ≡ true)
-    (html_turn kind b a (joined ts) below depth) (behind_ok html below depth kind (b ∷ a) (joined ts) ok d) in
+    (html_mode_step kind b a (joined ts) below depth) (behind_ok html below depth kind (b ∷ a) (joined ts) ok d) in
     same_in html below depth kind b a ts us ok d g ih (html_new kind b a ts us below depth g (longest_in (stack_of html below depth) kind b a ts s) tail (ih n fine tail)) s
 same_step code below depth kind b a ts us ok d g ih s =
     let n : Stack = back_in code kind b a ts below depth in
@@ -163,11 +163,11 @@ no_blank (quoted Here label false) kind b a r ok e l = absurd (let clash = longe
 no_blank offset kind b a r ok e l = absurd (let clash = longest_meets is_blank_kind V74 offset (b ∷ a) r kind e l in cc)
 no_blank property kind b a r ok e l = absurd (let clash = longest_meets is_blank_kind V74 property (b ∷ a) r kind e l in cc)
 
-pub blank_turn : (kind : Kind) (b : ℕ) (a : List ℕ) (below : List Mode) (depth : ℕ) → is_blank_kind kind ≡ true
-    → turned_by (code_turn kind (b ∷ a)) (stack_of code below depth) ≡ stack_of code below depth
-blank_turn Space b a below depth e = refl
-blank_turn Comment b a below depth e = refl
-blank_turn _ b a below depth e = absurd cc
+pub blank_mode_step : (kind : Kind) (b : ℕ) (a : List ℕ) (below : List Mode) (depth : ℕ) → is_blank_kind kind ≡ true
+    → stepped_by (code_mode_step kind (b ∷ a)) (stack_of code below depth) ≡ stack_of code below depth
+blank_mode_step Space b a below depth e = refl
+blank_mode_step Comment b a below depth e = refl
+blank_mode_step _ b a below depth e = absurd cc
 
 blank_is : (kind : Kind) (b : ℕ) (a : List ℕ) → is_blank kind b a ≡ true → is_blank_kind kind ≡ true
 blank_is Space b a h = refl
@@ -184,7 +184,7 @@ strip (tile kind b a ∷ trivia) ts m below depth f ok s =
     let is : m ≡ code = no_blank m kind b a (joined (trivia ++ ts)) ok blank (longest_in (stack_of m below depth) kind b a (trivia ++ ts) s) in
     let in_code : Steps V74 (stack_of code below depth) (tile kind b a ∷ (trivia ++ ts)) =
     subst (λ (n : Mode). Steps V74 (stack_of n below depth) (tile kind b a ∷ (trivia ++ ts))) is s in
-    let behind = steps_behind (stack_of code below depth) (stack_of code below depth) kind b a (trivia ++ ts) (blank_turn kind b a below depth blank) in_code in
+    let behind = steps_behind (stack_of code below depth) (stack_of code below depth) kind b a (trivia ++ ts) (blank_mode_step kind b a below depth blank) in_code in
     subst (λ (n : Mode). Steps V74 (stack_of n below depth) ts) (sym is) (strip trivia ts code below depth more refl behind)
 
 root_longest : (s : List ℕ) → IsLongest V74 code (92 ∷ s) Op 1

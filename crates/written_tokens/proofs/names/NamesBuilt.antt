@@ -22,7 +22,7 @@ use Rattle.written_tokens.specs.tokens.Written.{new_lexeme}
 use Rattle.written_tokens.specs.tokens.Drafted.{all_whole, joins}
 use Rattle.written_tokens.specs.tokens.Parted.{bare, parted, may_be_part, SamePart}
 use Rattle.written_tokens.specs.tokens.Spaced.{space_put, spaces_put}
-use Rattle.written_tokens.specs.tiles.Goes.{is_trivia}
+use Rattle.written_tokens.specs.tiles.ContinuesAs.{is_trivia}
 use Rattle.written_tokens.specs.tiles.Edits.{all_trivia}
 use Rattle.written_tokens.proofs.tiles.Behind.{keyword_first}
 use Rattle.written_tokens.specs.names.Named.{all_blank, Named, none, same, spaced, closed, rooted}

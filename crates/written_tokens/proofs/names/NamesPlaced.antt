@@ -6,8 +6,8 @@ use Rattle.php_tree.specs.declared.token.TokenKind.{TokenKind}
 use Rattle.php_spellings.specs.declared.table.Kind.{Kind}
 use Rattle.php_spellings.specs.declared.table.Kind.TheVariants.{Op}
 use Rattle.php_spellings.specs.Words.{token_of}
-use Rattle.php_lexer.specs.Modes.{Mode, code, turn_of}
-use Rattle.php_lexer.specs.Lexed.{Lexeme, Stack, start, turned_by}
+use Rattle.php_lexer.specs.Modes.{Mode, code, mode_step_of}
+use Rattle.php_lexer.specs.Lexed.{Lexeme, Stack, start, stepped_by}
 use Rattle.php_relexing.specs.Tiles.{Tile, tile, joined}
 use Rattle.php_relexing.specs.Spelled.{Steps, spelled}
 use Rattle.php_relexing.proofs.Bools.{not_it}
@@ -19,7 +19,7 @@ use Rattle.written_tokens.specs.tokens.Written.{new_lexeme}
 use Rattle.written_tokens.specs.tokens.Drafted.{all_whole, joins}
 use Rattle.written_tokens.specs.tokens.Parted.{bare, parted, SamePart, NamesStay}
 use Rattle.written_tokens.specs.tokens.Spaced.{spaces_put, PartsHaveText}
-use Rattle.written_tokens.specs.tiles.Goes.{is_trivia}
+use Rattle.written_tokens.specs.tiles.ContinuesAs.{is_trivia}
 use Rattle.written_tokens.proofs.tiles.Stepping.{longest_in, steps_behind}
 use Rattle.written_tokens.specs.names.Fronts.{Front}
 use Rattle.written_tokens.specs.names.Named.{Named, same, is_dollar_brace, none_dollar}
@@ -71,7 +71,7 @@ module _ (t : NewToken) (kind : Kind) (b : ℕ) (a : List ℕ) (rest : List Tile
   plain = some_plain kind (b ∷ a) t.kind p.is (is_trivia kind) refl
 
   abbrev onward : Stack
-  onward = turned_by (turn_of V74 r.m kind (b ∷ a) (joined rest)) (stack_of r.m r.below r.depth)
+  onward = stepped_by (mode_step_of V74 r.m kind (b ∷ a) (joined rest)) (stack_of r.m r.below r.depth)
 
   dollar_parts : (not (is_dollar_brace kind) ≡ true) × (none_dollar rest ≡ true)
   dollar_parts = and_parts (not (is_dollar_brace kind)) (none_dollar rest) r.dollar

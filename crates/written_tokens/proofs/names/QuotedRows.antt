@@ -15,7 +15,7 @@ use Rattle.php_spellings.specs.declared.table.Tail.TheVariants.{When, SomeOf, Sh
 use Rattle.php_spellings.specs.Bytes.{lower}
 use Rattle.php_lexer.specs.Tails.{in_piece, moved}
 use Rattle.php_lexer.specs.RulesQuoted.{from_line, end_rows}
-use Rattle.php_lexer.specs.Modes.{Mode, html, code, named, quoted, offset, property, quoted_turn, turn_of, IsLongest}
+use Rattle.php_lexer.specs.Modes.{Mode, html, code, named, quoted, offset, property, quoted_mode_step, mode_step_of, IsLongest}
 use Rattle.php_lexer.specs.Scan.{scan, scan_by, behind, tail_len, some_len, add_to, here_len, longer}
 use Rattle.php_relexing.specs.Labels.{all_label}
 use Rattle.php_relexing.proofs.PieceRuns.{piece_len, piece_scan}
@@ -194,20 +194,20 @@ property_stays kind b a r s h is = rescanned V74 V74 property property (b ∷ a 
 
 -- ---- what a token does to the modes
 
-quoted_turns : (mark : Mark) (label : List ℕ) (kind : Kind) (text r s : List ℕ) → Share r s → quoted_turn V74 mark label kind text r ≡ quoted_turn V74 mark label kind text s
-quoted_turns mark label Variable text r s h = rw (byte_same 91 refl h, arrow_same h) refl
-quoted_turns mark label QuotedEnd text r s h = refl
-quoted_turns mark label CurlyOpen text r s h = refl
-quoted_turns mark label DollarBrace text r s h = refl
-quoted_turns mark label _ text r s h = refl
+quoted_mode_steps : (mark : Mark) (label : List ℕ) (kind : Kind) (text r s : List ℕ) → Share r s → quoted_mode_step V74 mark label kind text r ≡ quoted_mode_step V74 mark label kind text s
+quoted_mode_steps mark label Variable text r s h = rw (byte_same 91 refl h, arrow_same h) refl
+quoted_mode_steps mark label QuotedEnd text r s h = refl
+quoted_mode_steps mark label CurlyOpen text r s h = refl
+quoted_mode_steps mark label DollarBrace text r s h = refl
+quoted_mode_steps mark label _ text r s h = refl
 
-pub turn_same : (m : Mode) (kind : Kind) (text r s : List ℕ) → Share r s → turn_of V74 m kind text r ≡ turn_of V74 m kind text s
-turn_same html InlineHtml text r s h = refl
-turn_same html _ text r s h = refl
-turn_same code kind text r s h = refl
-turn_same named kind text r s h = refl
-turn_same (quoted mark label fresh) kind text r s h = quoted_turns mark label kind text r s h
-turn_same offset Op text r s h = refl
-turn_same offset _ text r s h = refl
-turn_same property Label text r s h = refl
-turn_same property _ text r s h = refl
+pub mode_step_same : (m : Mode) (kind : Kind) (text r s : List ℕ) → Share r s → mode_step_of V74 m kind text r ≡ mode_step_of V74 m kind text s
+mode_step_same html InlineHtml text r s h = refl
+mode_step_same html _ text r s h = refl
+mode_step_same code kind text r s h = refl
+mode_step_same named kind text r s h = refl
+mode_step_same (quoted mark label fresh) kind text r s h = quoted_mode_steps mark label kind text r s h
+mode_step_same offset Op text r s h = refl
+mode_step_same offset _ text r s h = refl
+mode_step_same property Label text r s h = refl
+mode_step_same property _ text r s h = refl

@@ -7,7 +7,7 @@ use Rattle.php_lexer.specs.Modes.{html, IsLongest}
 use Rattle.php_relexing.specs.Tiles.{joined}
 use Rattle.php_relexing.proofs.Picked.{longest_meets}
 use Rattle.written_tokens.proofs.tokens.Kept.{opened}
-use Rattle.written_tokens.specs.tiles.Goes.{is_trivia}
+use Rattle.written_tokens.specs.tiles.ContinuesAs.{is_trivia}
 use Rattle.written_tokens.specs.names.Leads.{is_tag, TagsLead}
 
 abbrev is_blank_kind : Kind → Bool

@@ -4,7 +4,7 @@ use Rattle.std.proofs.lemmas.Bool.{and_parts, eqb-true}
 use Rattle.std.proofs.lemmas.Bool.Decides.{nat_tests}
 use Rattle.php_tree.specs.declared.version.Version.TheVariants.{V74}
 use Rattle.php_spellings.specs.Bytes.{is_line_end, is_letter, is_label_byte, begins, begins_by}
-use Rattle.php_lexer.specs.Modes.{Mode, offset, property, stay, enter, begins_arrow, part_turn}
+use Rattle.php_lexer.specs.Modes.{Mode, offset, property, stay, enter, begins_arrow, part_mode_step}
 use Rattle.php_relexing.specs.Pieces.{ends_dollar, escape_last}
 use Rattle.php_relexing.proofs.Bools.{and_false}
 
@@ -88,8 +88,8 @@ even_arrow (dull c d r s p q) = no_arrow c r p.dash ∙ sym (no_arrow d s q.dash
 even_arrow (alike b e) = even_behind b e
 
 -- a variable leaves the same mode
-pub even_turn : (m : Mode) (r s : List ℕ) → Even r s → part_turn V74 m r ≡ part_turn V74 m s
-even_turn m r s e =
+pub even_mode_step : (m : Mode) (r s : List ℕ) → Even r s → part_mode_step V74 m r ≡ part_mode_step V74 m s
+even_mode_step m r s e =
     ap (λ (t : Bool). cond t (enter offset m) (cond (begins_arrow r) (enter property m) (stay m))) (even_square e)
     ∙ ap (λ (t : Bool). cond (begins_by 91 s) (enter offset m) (cond t (enter property m) (stay m))) (even_arrow e)
 

@@ -6,7 +6,7 @@ use Rattle.php_lexer.specs.Heredocs.{no_label}
 use Rattle.php_relexing.specs.Tiles.{Tile, joined}
 use Rattle.php_relexing.specs.Pieces.{ends_dollar, escape_last}
 use Rattle.php_lexer.specs.Modes.{ends_line}
-use Rattle.written_tokens.specs.tiles.Goes.{Goes, ended, same, put, hash, brace, escaped, is_mark, is_put}
+use Rattle.written_tokens.specs.tiles.ContinuesAs.{ContinuesAs, ended, same, put, hash, brace, escaped, is_mark, is_put}
 use Rattle.written_tokens.proofs.texts.QuotedTokens.{line_at}
 
 pub no_label_is : (bs : List ℕ) → begins is_label_byte bs ≡ false → no_label bs ≡ true
@@ -40,7 +40,7 @@ escaped_label : (b c : ℕ) (a e : List ℕ) → escape_last (b ∷ a) ≡ c ∷
 escaped_label b c [] e h k = ap (λ (u : List ℕ). not (begins is_label_byte u)) (sym h)
 escaped_label b c (x ∷ a) e h k = ap (λ (u : List ℕ). not (begins is_label_byte u)) (sym h) ∙ k
 
-pub goes_no_label : {tight gap : Bool} {ts us : List Tile} → Goes tight gap ts us → no_label (joined ts) ≡ true → no_label (joined us) ≡ true
+pub goes_no_label : {tight gap : Bool} {ts us : List Tile} → ContinuesAs tight gap ts us → no_label (joined ts) ≡ true → no_label (joined us) ≡ true
 goes_no_label ended h = refl
 goes_no_label (same kind b a g) h = h
 goes_no_label {tight} (put kind c e k gap) h = ap not (put_label tight c (and_parts (is_mark kind) (is_put tight c) k).1)

@@ -7,8 +7,8 @@ use Rattle.php_lexer.specs.Modes.{code}
 use Rattle.php_relexing.specs.Tiles.{Tile, tile, joined}
 use Rattle.php_relexing.specs.Pieces.{ends_dollar, escape_last}
 use Rattle.php_relexing.proofs.Bools.{and_false}
-use Rattle.written_tokens.specs.tiles.Goes.{Goes, same, brace, escaped, is_trivia}
-use Rattle.written_tokens.specs.tiles.Becomes.{Becomes, gap_behind}
+use Rattle.written_tokens.specs.tiles.ContinuesAs.{ContinuesAs, same, brace, escaped, is_trivia}
+use Rattle.written_tokens.specs.tiles.IsRewrittenTo.{IsRewrittenTo, gap_behind}
 use Rattle.written_tokens.specs.texts.TextRows.{
   Key,
   bare,
@@ -61,20 +61,20 @@ pub data OpenRow (rest after : List Tile) : List Tile → List Tile → Type 0 w
   curled :
       {ts us : List Tile} (needs stops : Bool) (xs ys : List Tile) →
       begins_by 36 (joined ys) ≡ true →
-      Becomes needs stops code code xs ys →
+      IsRewrittenTo needs stops code code xs ys →
       OpenRow rest after ts us →
       OpenRow rest after (tile CurlyOpen 123 [] ∷ xs ++ tile Op 125 [] ∷ ts)
       (tile CurlyOpen 123 [] ∷ ys ++ tile Op 125 [] ∷ us)
   by_name :
       {ts us : List Tile} (needs stops : Bool) (b : ℕ) (a : List ℕ) (xs ys : List Tile) →
-      Becomes needs stops code code xs ys →
+      IsRewrittenTo needs stops code code xs ys →
       OpenRow rest after ts us →
       OpenRow rest after (tile DollarBrace 36 (123 ∷ []) ∷ tile VarName b a ∷ xs ++ tile Op 125 [] ∷ ts)
       (tile CurlyOpen 123 [] ∷ tile Variable 36 (b ∷ a) ∷ ys ++ tile Op 125 [] ∷ us)
   by_row :
       {ts us : List Tile} (needs stops : Bool) (xs ys : List Tile) →
       begins_var_name xs ≡ false →
-      Becomes needs stops code code xs ys →
+      IsRewrittenTo needs stops code code xs ys →
       OpenRow rest after ts us →
       OpenRow rest after (tile DollarBrace 36 (123 ∷ []) ∷ xs ++ tile Op 125 [] ∷ ts)
       (tile CurlyOpen 123 [] ∷ tile Op 36 [] ∷ tile Op 123 [] ∷ ys ++ tile Op 125 [] ∷ tile Op 125 [] ∷ us)
@@ -162,16 +162,16 @@ head_of (by_row {ts} needs stops xs ys h become row) = head_at DollarBrace 36 (1
 
 -- ---- how the written tiles go on
 
-untight : (tight gap : Bool) (ts us : List Tile) → Goes false gap ts us → Goes (tight && false) gap ts us
-untight tight gap ts us g = subst (λ (t : Bool). Goes t gap ts us) (sym (and_false tight)) g
+untight : (tight gap : Bool) (ts us : List Tile) → ContinuesAs false gap ts us → ContinuesAs (tight && false) gap ts us
+untight tight gap ts us g = subst (λ (t : Bool). ContinuesAs t gap ts us) (sym (and_false tight)) g
 
 key_goes : {ks : List Tile} → Key ks → (tight gap : Bool) (ts us : List Tile)
-    → ((tight gap : Bool) → Goes tight gap ts us) → Goes tight gap (ks ++ tile Op 93 [] ∷ ts)
+    → ((tight gap : Bool) → ContinuesAs tight gap ts us) → ContinuesAs tight gap (ks ++ tile Op 93 [] ∷ ts)
     (ks ++ tile Op 93 [] ∷ us)
 key_goes (bare kind b a h) tight gap ts us g = same kind b a (same Op 93 [] (g _ _))
 key_goes (minus kind b a h) tight gap ts us g = same Op 45 [] (same kind b a (same Op 93 [] (g _ _)))
 
-pub row_goes : {rest after ts us : List Tile} → OpenRow rest after ts us → Goes false false rest after → (tight gap : Bool) → Goes tight gap ts us
+pub row_goes : {rest after ts us : List Tile} → OpenRow rest after ts us → ContinuesAs false false rest after → (tight gap : Bool) → ContinuesAs tight gap ts us
 row_goes {rest} {after} (ends b a) g tight gap = same QuotedEnd b a (untight tight false rest after g)
 row_goes (kept b a h row) g tight gap = same Piece b a (row_goes row g _ _)
 row_goes (slashed b c a e h k l row) g tight gap = escaped b c a e k l

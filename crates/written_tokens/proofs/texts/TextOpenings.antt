@@ -36,15 +36,15 @@ use Rattle.php_spellings.specs.declared.table.Kind.TheVariants.{
 }
 use Rattle.php_spellings.specs.declared.table.Mark.{Mark}
 use Rattle.php_spellings.specs.declared.table.Mark.TheVariants.{Double, Back, Here}
-use Rattle.php_lexer.specs.Modes.{Mode, code, quoted, Turn, enter, code_turn, label_of, IsLongest}
-use Rattle.php_lexer.specs.Lexed.{turned_by}
+use Rattle.php_lexer.specs.Modes.{Mode, code, quoted, ModeStep, enter, code_mode_step, label_of, IsLongest}
+use Rattle.php_lexer.specs.Lexed.{stepped_by}
 use Rattle.php_relexing.specs.Tiles.{Tile, tile, joined}
 use Rattle.php_relexing.specs.Spelled.{Steps}
 use Rattle.php_relexing.specs.Pieces.{is_labelled}
 use Rattle.php_relexing.proofs.Bools.{and_false}
 use Rattle.written_tokens.specs.tokens.Levels.{stack_of}
-use Rattle.written_tokens.specs.tiles.Goes.{Goes, same, is_trivia, stops_cast}
-use Rattle.written_tokens.specs.tiles.Becomes.{Becomes, gap_behind}
+use Rattle.written_tokens.specs.tiles.ContinuesAs.{ContinuesAs, same, is_trivia, stops_cast}
+use Rattle.written_tokens.specs.tiles.IsRewrittenTo.{IsRewrittenTo, gap_behind}
 use Rattle.written_tokens.specs.texts.TextRows.{TextRow, begins_dollar_brace, TextsBecome}
 use Rattle.written_tokens.proofs.texts.HeredocLines.{start_text, heredoc_lines_stay, line_label}
 use Rattle.written_tokens.proofs.texts.OpenRows.{open_row, row_goes, row_gap}
@@ -57,41 +57,41 @@ use Rattle.written_tokens.proofs.texts.OpeningTokens.{quote_stays, back_stays}
 
 -- an opening token of a kind, which leaves the mode
 pub record Opens (kind : Kind) (b : ℕ) (a : List ℕ) (mark : Mark) (label : List ℕ) (fresh : Bool) : Type 0 where
-  pub turn : code_turn kind (b ∷ a) ≡ enter (quoted mark label fresh) code
+  pub mode_step : code_mode_step kind (b ∷ a) ≡ enter (quoted mark label fresh) code
   pub stops : stops_cast kind ≡ true
   pub labelled : (r : List ℕ) → IsLongest V74 code (b ∷ a ++ r) kind (suc (length a)) → is_labelled mark label ≡ true
   pub stays : (t : Bool) (r s : List ℕ) → Seam mark label fresh t r s
       → IsLongest V74 code (b ∷ a ++ r) kind (suc (length a)) → IsLongest V74 code (b ∷ a ++ s) kind (suc (length a))
 
 module _ (kind : Kind) (b : ℕ) (a : List ℕ) (mark : Mark) (label : List ℕ) (fresh : Bool) (opens : Opens kind b a mark label fresh) (ts us : List Tile) (row : TextRow ts us) where
-  tight_row : (rest after : List Tile) (tight gap : Bool) → Goes (tight && false) (gap_behind gap ts) rest after → Goes false false rest after
+  tight_row : (rest after : List Tile) (tight gap : Bool) → ContinuesAs (tight && false) (gap_behind gap ts) rest after → ContinuesAs false false rest after
   tight_row rest after tight gap g =
-      subst (λ (t : Bool). Goes t false rest after) (and_false tight)
-      (subst (λ (t : Bool). Goes (tight && false) t rest after) (row_gap row gap) g)
+      subst (λ (t : Bool). ContinuesAs t false rest after) (and_false tight)
+      (subst (λ (t : Bool). ContinuesAs (tight && false) t rest after) (row_gap row gap) g)
 
-  loose_row : (rest after : List Tile) (gap : Bool) → Goes false (gap_behind gap ts) rest after → Goes false false rest after
-  loose_row rest after gap g = subst (λ (t : Bool). Goes false t rest after) (row_gap row gap) g
+  loose_row : (rest after : List Tile) (gap : Bool) → ContinuesAs false (gap_behind gap ts) rest after → ContinuesAs false false rest after
+  loose_row rest after gap g = subst (λ (t : Bool). ContinuesAs false t rest after) (row_gap row gap) g
 
-  goes : (tight gap : Bool) (rest after : List Tile) → Goes (tight && false) (gap_behind gap (tile kind b a ∷ ts))
-      rest after → Goes tight gap ((tile kind b a ∷ ts) ++ rest) ((tile kind b a ∷ us) ++ after)
+  goes : (tight gap : Bool) (rest after : List Tile) → ContinuesAs (tight && false) (gap_behind gap (tile kind b a ∷ ts))
+      rest after → ContinuesAs tight gap ((tile kind b a ∷ ts) ++ rest) ((tile kind b a ∷ us) ++ after)
   goes tight gap rest after g = same kind b a (row_goes (open_row rest after row) (tight_row rest after tight (is_trivia kind) g) _ _)
 
   inside : (below : List Mode) (depth : ℕ) (x : List Tile) → Steps V74
-      (turned_by (code_turn kind (b ∷ a)) (stack_of code below depth)) x
+      (stepped_by (code_mode_step kind (b ∷ a)) (stack_of code below depth)) x
       → Steps V74 (stack_of (quoted mark label fresh) (code ∷ below) (suc depth)) x
-  inside below depth x h = subst (λ (t : Turn). Steps V74 (turned_by t (stack_of code below depth)) x) opens.turn h
+  inside below depth x h = subst (λ (t : ModeStep). Steps V74 (stepped_by t (stack_of code below depth)) x) opens.mode_step h
 
   outside : (below : List Mode) (depth : ℕ) (x : List Tile) → Steps V74
       (stack_of (quoted mark label fresh) (code ∷ below) (suc depth)) x
-      → Steps V74 (turned_by (code_turn kind (b ∷ a)) (stack_of code below depth)) x
-  outside below depth x h = subst (λ (t : Turn). Steps V74 (turned_by t (stack_of code below depth)) x) (sym opens.turn) h
+      → Steps V74 (stepped_by (code_mode_step kind (b ∷ a)) (stack_of code below depth)) x
+  outside below depth x h = subst (λ (t : ModeStep). Steps V74 (stepped_by t (stack_of code below depth)) x) (sym opens.mode_step) h
 
   source : (below : List Mode) (depth : ℕ) (rest : List Tile) → Steps V74 (stack_of code below depth) ((tile kind b a ∷ ts) ++ rest) → Steps V74 (stack_of code below depth) rest
   source below depth rest h =
       row_leaves rest [] (open_row rest [] row) mark label fresh below depth (inside below depth (ts ++ rest) (first (stack_of code below depth) kind b a (ts ++ rest) h).more)
 
   written : (gap : Bool) (below over : List Mode) (depth deep : ℕ) (rest after : List Tile)
-      → Goes false (gap_behind gap (tile kind b a ∷ ts)) rest after
+      → ContinuesAs false (gap_behind gap (tile kind b a ∷ ts)) rest after
       → Steps V74 (stack_of code below depth) ((tile kind b a ∷ ts) ++ rest)
       → Steps V74 (stack_of code over deep) after → Steps V74 (stack_of code over deep)
       ((tile kind b a ∷ us) ++ after)
@@ -104,18 +104,18 @@ module _ (kind : Kind) (b : ℕ) (a : List ℕ) (mark : Mark) (label : List ℕ)
       (opens.stays (begins_dollar_brace (ts ++ rest)) (joined (ts ++ rest)) (joined (us ++ after)) text.seam at.longest)
       (outside over deep (us ++ after) text.steps)
 
-  pub become : Becomes false true code code (tile kind b a ∷ ts) (tile kind b a ∷ us)
+  pub become : IsRewrittenTo false true code code (tile kind b a ∷ ts) (tile kind b a ∷ us)
   become = record { goes = goes; source = source; written = written }
 
 quote_opens : (b : ℕ) (a : List ℕ) → Opens Quote b a Double [] false
-quote_opens b a = record { turn = refl; stops = refl; labelled = λ r h. refl; stays = quote_stays b a }
+quote_opens b a = record { mode_step = refl; stops = refl; labelled = λ r h. refl; stays = quote_stays b a }
 
 back_opens : (b : ℕ) (a : List ℕ) → Opens Backtick b a Back [] false
-back_opens b a = record { turn = refl; stops = refl; labelled = λ r h. refl; stays = back_stays b a }
+back_opens b a = record { mode_step = refl; stops = refl; labelled = λ r h. refl; stays = back_stays b a }
 
 heredoc_opens : (b : ℕ) (a : List ℕ) → Opens HeredocStart b a Here (label_of (b ∷ a)) true
 heredoc_opens b a = record {
-  turn = refl;
+  mode_step = refl;
   stops = refl;
   labelled = λ r h. line_label b a (start_text b a r h);
   stays = λ t r s seam h. heredoc_lines_stay b a r s (seam_feed seam) h;

@@ -19,7 +19,7 @@ use Rattle.php_relexing.proofs.Parts.{braces_open}
 use Rattle.php_relexing.proofs.Picked.{longest_meets}
 use Rattle.php_relexing.proofs.WrittenTokens.{marks_are_tokens, variables_are_tokens, named_is_code}
 use Rattle.written_tokens.specs.tokens.Levels.{stack_of}
-use Rattle.written_tokens.specs.tiles.Goes.{Goes, same, put}
+use Rattle.written_tokens.specs.tiles.ContinuesAs.{ContinuesAs, same, put}
 use Rattle.written_tokens.specs.texts.TextRows.{begins_dollar_brace, begins_var_name}
 use Rattle.written_tokens.proofs.texts.Stepping.{first, step_by, named_steps}
 use Rattle.written_tokens.proofs.texts.QuotedTokens.{VariableText, variable_text, curly_next, double_end, back_end, no_end}
@@ -134,7 +134,7 @@ dollar_seam mark label fresh b (c ∷ l) r s t text =
     let letter = (and_parts (is_letter c) (all_label l) text.label).0 in
     subst (λ (x : ℕ). Seam mark label fresh false (x ∷ c ∷ l ++ r) (x ∷ c ∷ l ++ s)) (sym text.dollar) (seams.dollar c c (l ++ r) (l ++ s) letter letter)
 
-module _ (rest after : List Tile) (below over : List Mode) (depth deep : ℕ) (go : Goes false false rest after) (more : Steps V74 (stack_of code over deep) after) where
+module _ (rest after : List Tile) (below over : List Mode) (depth deep : ℕ) (go : ContinuesAs false false rest after) (more : Steps V74 (stack_of code over deep) after) where
   -- the closing token
   ending : (mark : Mark) (label : List ℕ) (fresh : Bool) → is_labelled mark label ≡ true → (b : ℕ) (a : List ℕ)
       → IsLongest V74 (quoted mark label fresh) (b ∷ a ++ joined rest) QuotedEnd (suc (length a))

@@ -36,8 +36,8 @@ use Rattle.php_spellings.specs.declared.table.Kind.TheVariants.{
 }
 use Rattle.php_spellings.specs.declared.table.Mark.{Mark}
 use Rattle.php_spellings.specs.Bytes.{is_letter, begins_by}
-use Rattle.php_lexer.specs.Modes.{Mode, quoted, offset, property, Turn, stay, enter, begins_arrow, part_turn, turn_of, IsLongest}
-use Rattle.php_lexer.specs.Lexed.{Stack, turned_by}
+use Rattle.php_lexer.specs.Modes.{Mode, quoted, offset, property, ModeStep, stay, enter, begins_arrow, part_mode_step, mode_step_of, IsLongest}
+use Rattle.php_lexer.specs.Lexed.{Stack, stepped_by}
 use Rattle.php_relexing.specs.Tiles.{Tile, tile, joined}
 use Rattle.php_relexing.specs.Spelled.{Steps}
 use Rattle.php_relexing.specs.Pieces.{is_labelled}
@@ -46,7 +46,7 @@ use Rattle.php_relexing.proofs.Parts.{text_variables_stay, simple_parts_stay}
 use Rattle.written_tokens.specs.tokens.Levels.{stack_of}
 use Rattle.written_tokens.specs.texts.TextRows.{is_op, Key, bare, minus}
 use Rattle.written_tokens.proofs.texts.Stepping.{first, step_by}
-use Rattle.written_tokens.proofs.texts.Evenly.{Even, even_label, even_turn}
+use Rattle.written_tokens.proofs.texts.Evenly.{Even, even_label, even_mode_step}
 use Rattle.written_tokens.proofs.texts.QuotedTokens.{is_unit, variable_text, property_ends, no_offset, no_property, no_op}
 use Rattle.written_tokens.proofs.texts.OpenRows.{Head}
 
@@ -64,22 +64,22 @@ module _ (m : Mode) (k : Stack) (kind : Kind) (b : ℕ) (a : List ℕ) (ts : Lis
   no_arrow stack top h =
       no_property kind b a (joined ts) unit (subst (λ (n : Mode). IsLongest V74 n (b ∷ a ++ joined ts) kind (suc (length a))) (sym top) (first stack kind b a ts h).longest)
 
-  turn_by : (t u : Bool) → begins_by 91 (b ∷ a ++ joined ts) ≡ t
-      → Steps V74 (turned_by (cond t (enter offset m) (cond u (enter property m) (stay m))) k) (tile kind b a ∷ ts)
+  mode_step_by : (t u : Bool) → begins_by 91 (b ∷ a ++ joined ts) ≡ t
+      → Steps V74 (stepped_by (cond t (enter offset m) (cond u (enter property m) (stay m))) k) (tile kind b a ∷ ts)
       → cond t (enter offset m) (cond u (enter property m) (stay m)) ≡ stay m
-  turn_by true u e h = absurd (no_square (turned_by (enter offset m) k) refl e h)
-  turn_by false true e h = absurd (no_arrow (turned_by (enter property m) k) refl h)
-  turn_by false false e h = refl
+  mode_step_by true u e h = absurd (no_square (stepped_by (enter offset m) k) refl e h)
+  mode_step_by false true e h = absurd (no_arrow (stepped_by (enter property m) k) refl h)
+  mode_step_by false false e h = refl
 
   -- a unit behind a variable is no part of it
-  alone_at : Steps V74 (turned_by (part_turn V74 m (b ∷ a ++ joined ts)) k) (tile kind b a ∷ ts) → part_turn V74 m (b ∷ a ++ joined ts) ≡ stay m
-  alone_at h = turn_by (begins_by 91 (b ∷ a ++ joined ts)) (begins_arrow (b ∷ a ++ joined ts)) refl h
+  alone_at : Steps V74 (stepped_by (part_mode_step V74 m (b ∷ a ++ joined ts)) k) (tile kind b a ∷ ts) → part_mode_step V74 m (b ∷ a ++ joined ts) ≡ stay m
+  alone_at h = mode_step_by (begins_by 91 (b ∷ a ++ joined ts)) (begins_arrow (b ∷ a ++ joined ts)) refl h
 
-alone : (m : Mode) (k : Stack) (ts : List Tile) → Head ts → Steps V74 (turned_by (part_turn V74 m (joined ts)) k) ts → part_turn V74 m (joined ts) ≡ stay m
+alone : (m : Mode) (k : Stack) (ts : List Tile) → Head ts → Steps V74 (stepped_by (part_mode_step V74 m (joined ts)) k) ts → part_mode_step V74 m (joined ts) ≡ stay m
 alone m k ts head h =
-    subst (λ (u : List Tile). part_turn V74 m (joined u) ≡ stay m) (sym head.same)
+    subst (λ (u : List Tile). part_mode_step V74 m (joined u) ≡ stay m) (sym head.same)
     (alone_at m k head.kind head.byte head.bytes head.more head.unit
-    (subst (λ (u : List Tile). Steps V74 (turned_by (part_turn V74 m (joined u)) k) u) head.same h))
+    (subst (λ (u : List Tile). Steps V74 (stepped_by (part_mode_step V74 m (joined u)) k) u) head.same h))
 
 module _ (mark : Mark) (label : List ℕ) (fresh : Bool) where
   abbrev In : List Mode → ℕ → Stack
@@ -91,18 +91,18 @@ module _ (mark : Mark) (label : List ℕ) (fresh : Bool) where
   -- what the source has at a variable alone
   pub record Alone (below : List Mode) (depth : ℕ) (b : ℕ) (a : List ℕ) (ts : List Tile) : Type 0 where
     pub longest : IsLongest V74 (quoted mark label fresh) (b ∷ a ++ joined ts) Variable (suc (length a))
-    pub turn : part_turn V74 (quoted mark label false) (joined ts) ≡ stay (quoted mark label false)
+    pub mode_step : part_mode_step V74 (quoted mark label false) (joined ts) ≡ stay (quoted mark label false)
     pub more : Steps V74 (Next below depth) ts
 
   pub alone_source : (below : List Mode) (depth : ℕ) (b : ℕ) (a : List ℕ) (ts : List Tile) → Head ts
       → Steps V74 (In below depth) (tile Variable b a ∷ ts) → Alone below depth b a ts
   alone_source below depth b a ts head h =
       let at = first (In below depth) Variable b a ts h in
-      let turn = alone (quoted mark label false) (In below depth) ts head at.more in
+      let mode_step = alone (quoted mark label false) (In below depth) ts head at.more in
       record {
         longest = at.longest;
-        turn = turn;
-        more = subst (λ (t : Turn). Steps V74 (turned_by t (In below depth)) ts) turn at.more;
+        mode_step = mode_step;
+        more = subst (λ (t : ModeStep). Steps V74 (stepped_by t (In below depth)) ts) mode_step at.more;
       }
 
   -- and what is written there
@@ -111,15 +111,15 @@ module _ (mark : Mark) (label : List ℕ) (fresh : Bool) where
       → Steps V74 (In over deep) (tile Variable b a ∷ us)
   alone_written labelled below over depth deep b a ts us source even written =
       let text = variable_text mark label fresh b a (joined ts) source.longest in
-      let turn : part_turn V74 (quoted mark label false) (joined us) ≡ stay (quoted mark label false) =
-      sym (even_turn (quoted mark label false) (joined ts) (joined us) even) ∙ source.turn in
+      let mode_step : part_mode_step V74 (quoted mark label false) (joined us) ≡ stay (quoted mark label false) =
+      sym (even_mode_step (quoted mark label false) (joined ts) (joined us) even) ∙ source.mode_step in
       step_by (In over deep) Variable b a us
       (text_variables_stay V74 V74 mark label fresh b a (joined ts) (joined us) labelled (sym (even_label even) ∙ text.ends) source.longest)
-      (subst (λ (t : Turn). Steps V74 (turned_by t (In over deep)) us) (sym turn) written)
+      (subst (λ (t : ModeStep). Steps V74 (stepped_by t (In over deep)) us) (sym mode_step) written)
 
 -- ---- a simple offset
 
-pub stays_in : (kind : Kind) (text rest : List ℕ) → is_op kind ≡ false → turn_of V74 offset kind text rest ≡ stay offset
+pub stays_in : (kind : Kind) (text rest : List ℕ) → is_op kind ≡ false → mode_step_of V74 offset kind text rest ≡ stay offset
 stays_in Op text rest h = absurd cc
 stays_in Space text rest h = refl
 stays_in Comment text rest h = refl
@@ -166,7 +166,7 @@ module _ (m : Mode) where
       → Steps V74 (stack_of m below depth) ts
   bare_source below depth kind b a ts k h =
       let at = first (Off below depth) kind b a (tile Op 93 [] ∷ ts) h in
-      shut_source below depth ts (subst (λ (t : Turn). Steps V74 (turned_by t (Off below depth)) (tile Op 93 [] ∷ ts)) (stays_in kind (b ∷ a) (93 ∷ joined ts) k) at.more)
+      shut_source below depth ts (subst (λ (t : ModeStep). Steps V74 (stepped_by t (Off below depth)) (tile Op 93 [] ∷ ts)) (stays_in kind (b ∷ a) (93 ∷ joined ts) k) at.more)
 
   bare_written : (below over : List Mode) (depth deep : ℕ) (kind : Kind) (b : ℕ) (a : List ℕ) (ts us : List Tile)
       → is_op kind ≡ false → Steps V74 (Off below depth) (tile kind b a ∷ tile Op 93 [] ∷ ts)
@@ -174,7 +174,7 @@ module _ (m : Mode) where
   bare_written below over depth deep kind b a ts us k h written =
       let at = first (Off below depth) kind b a (tile Op 93 [] ∷ ts) h in
       step_by (Off over deep) kind b a (tile Op 93 [] ∷ us) (offsets_stay V74 V74 kind b a (joined ts) (joined us) at.longest)
-      (subst (λ (t : Turn). Steps V74 (turned_by t (Off over deep)) (tile Op 93 [] ∷ us)) (sym (stays_in kind (b ∷ a) (93 ∷ joined us) k)) (shut_written over deep us written))
+      (subst (λ (t : ModeStep). Steps V74 (stepped_by t (Off over deep)) (tile Op 93 [] ∷ us)) (sym (stays_in kind (b ∷ a) (93 ∷ joined us) k)) (shut_written over deep us written))
 
   key_source : {ks : List Tile} → Key ks → (below : List Mode) (depth : ℕ) (ts : List Tile)
       → Steps V74 (Off below depth) (ks ++ tile Op 93 [] ∷ ts) → Steps V74 (stack_of m below depth) ts
@@ -240,7 +240,7 @@ module _ (mark : Mark) (label : List ℕ) (fresh : Bool) where
 
     fetched_by : (t : Bool) → is_letter c ≡ t → IsLongest V74 (quoted mark label fresh)
         (b ∷ a ++ (45 ∷ 62 ∷ c ∷ e ++ joined ts)) Variable (suc (length a))
-        → Steps V74 (turned_by (cond t (enter property (quoted mark label false)) (stay (quoted mark label false)))
+        → Steps V74 (stepped_by (cond t (enter property (quoted mark label false)) (stay (quoted mark label false)))
         (At below depth)) (tile Op 45 (62 ∷ []) ∷ Tail) → Fetched below depth b a c e ts
     fetched_by false p l h = absurd (no_op mark label false 45 (62 ∷ []) (joined Tail) (first (Then below depth) Op 45 (62 ∷ []) Tail h).longest)
     fetched_by true p l h =
@@ -260,9 +260,9 @@ module _ (mark : Mark) (label : List ℕ) (fresh : Bool) where
   fetched_written labelled below over depth deep b a c e ts us source even written =
       let m = quoted mark label false in
       let stops = sym (even_label even) ∙ property_ends c e (joined ts) source.longest in
-      let turn : enter property m ≡ part_turn V74 m (45 ∷ 62 ∷ c ∷ e ++ joined us) = rw source.letter refl in
+      let mode_step : enter property m ≡ part_mode_step V74 m (45 ∷ 62 ∷ c ∷ e ++ joined us) = rw source.letter refl in
       step_by (At over deep) Variable b a (tile Op 45 (62 ∷ []) ∷ tile Label c e ∷ us)
       (text_variables_stay V74 V74 mark label fresh b a (45 ∷ 62 ∷ c ∷ e ++ joined ts) (45 ∷ 62 ∷ c ∷ e ++ joined us) labelled refl source.variable)
-      (subst (λ (t : Turn). Steps V74 (turned_by t (At over deep)) (tile Op 45 (62 ∷ []) ∷ tile Label c e ∷ us)) turn
+      (subst (λ (t : ModeStep). Steps V74 (stepped_by t (At over deep)) (tile Op 45 (62 ∷ []) ∷ tile Label c e ∷ us)) mode_step
       (step_by (Prop over deep) Op 45 (62 ∷ []) (tile Label c e ∷ us) (simple_parts_stay.arrow V74 (c ∷ e ++ joined us))
       (step_by (Prop over deep) Label c e us (simple_parts_stay.label V74 V74 c e (joined ts) (joined us) stops source.longest) written)))

@@ -16,7 +16,7 @@ use Rattle.php_relexing.proofs.Bools.{not_it, and_false}
 use Rattle.php_relexing.proofs.Labels.{words_are_labels}
 use Rattle.php_relexing.proofs.Spaces.{all_space}
 use Rattle.written_tokens.specs.tokens.Levels.{stack_of}
-use Rattle.written_tokens.specs.tiles.Goes.{stops_cast, is_mark, is_put, Goes, ended, same, put, hash, brace, escaped}
+use Rattle.written_tokens.specs.tiles.ContinuesAs.{stops_cast, is_mark, is_put, ContinuesAs, ended, same, put, hash, brace, escaped}
 use Rattle.written_tokens.specs.tiles.Edits.{is_uncast}
 use Rattle.written_tokens.proofs.tiles.Bools.{out_of}
 use Rattle.written_tokens.proofs.tiles.Behind.{space_all, word_behind, keyword_y, keyword_first}
@@ -226,7 +226,7 @@ ends_same tight Word b a ts us word t ih h = refl
 ends_same tight Keyword b a ts us keyword t ih h = refl
 ends_same tight kind b a ts us (other p q r) t ih h = rw q (rw q at h)
 
-pub ends_goes : {tight gap : Bool} {ts us : List Tile} → Goes tight gap ts us → tight ≡ true → ends_ahead ts ≡ false → ends_ahead us ≡ false
+pub ends_goes : {tight gap : Bool} {ts us : List Tile} → ContinuesAs tight gap ts us → tight ≡ true → ends_ahead ts ≡ false → ends_ahead us ≡ false
 ends_goes ended t h = refl
 ends_goes (same {tight = tight} {ts = ts} {us = us} kind b a g) t h = ends_same tight kind b a ts us (stand kind) t (ends_goes g) h
 ends_goes (put {tight = tight} {us = us} kind c e p q) t h = mark_ends kind c e us (and_parts (is_mark kind) (is_put tight c) p).0 (put_round (is_mark kind) tight c t p)
@@ -247,7 +247,7 @@ casts_same tight Word b a ts us word t ih h = and_same (begins_type (b ∷ a)) (
 casts_same tight Keyword b a ts us keyword t ih h = and_false (begins_type (b ∷ a))
 casts_same tight kind b a ts us (other p q r) t ih h = rw (q, r) (and_false (begins_type (b ∷ a)))
 
-pub casts_go : {tight gap : Bool} {ts us : List Tile} → Goes tight gap ts us → tight ≡ true → cast_ahead ts ≡ false → cast_ahead us ≡ false
+pub casts_go : {tight gap : Bool} {ts us : List Tile} → ContinuesAs tight gap ts us → tight ≡ true → cast_ahead ts ≡ false → cast_ahead us ≡ false
 casts_go ended t h = refl
 casts_go (same {tight = tight} {ts = ts} {us = us} kind b a g) t h =
     casts_same tight kind b a ts us (stand kind) t (λ e. (ends_goes g e, casts_go g e)) h

@@ -13,8 +13,8 @@ use Rattle.php_relexing.specs.Words.{comes_from, begins_from, begins_cast}
 use Rattle.php_relexing.proofs.Operators.{or_case}
 use Rattle.php_relexing.proofs.Picked.{longest_meets}
 use Rattle.php_relexing.proofs.Spaces.{all_space}
-use Rattle.written_tokens.specs.tiles.Goes.{stops_cast, begins_token, is_mark, is_put, Goes, ended, same, put, hash, brace, escaped}
-use Rattle.written_tokens.specs.tiles.Going.{CodeGoesOn}
+use Rattle.written_tokens.specs.tiles.ContinuesAs.{stops_cast, begins_token, is_mark, is_put, ContinuesAs, ended, same, put, hash, brace, escaped}
+use Rattle.written_tokens.specs.tiles.Going.{CodeContinues}
 use Rattle.written_tokens.proofs.tiles.Ahead.{Coded, coded, not_space, cast_is, casts_go}
 use Rattle.written_tokens.proofs.tiles.Behind.{space_all, word_behind, keyword_first, question_behind}
 use Rattle.written_tokens.proofs.tiles.Bools.{or_left}
@@ -72,7 +72,7 @@ comes_same Word b a ts us word ih h = h
 comes_same Keyword b a ts us keyword ih h = refl
 comes_same kind b a ts us (other p q r) ih h = rw (q, r) refl
 
-comes_go : {tight gap : Bool} {ts us : List Tile} → Goes tight gap ts us → comes_ahead ts ≡ false → comes_ahead us ≡ false
+comes_go : {tight gap : Bool} {ts us : List Tile} → ContinuesAs tight gap ts us → comes_ahead ts ≡ false → comes_ahead us ≡ false
 comes_go ended h = refl
 comes_go (same {ts = ts} {us = us} kind b a g) h = comes_same kind b a ts us (stand kind) (comes_go g) h
 comes_go (put {tight = tight} {us = us} kind c e p q) h = mark_comes kind c e us (and_parts (is_mark kind) (is_put tight c) p).0
@@ -93,7 +93,7 @@ no_and false y z w f g h = rw (f refl) refl
 no_and true y true w f g h = g h
 no_and true y false w f g h = refl
 
-pub from_goes : {tight gap : Bool} {ts us : List Tile} → Coded ts → Coded us → Goes tight gap ts us → begins_from (joined ts) ≡ false → begins_from (joined us) ≡ false
+pub from_goes : {tight gap : Bool} {ts us : List Tile} → Coded ts → Coded us → ContinuesAs tight gap ts us → begins_from (joined ts) ≡ false → begins_from (joined us) ≡ false
 from_goes {ts = ts} {us = us} old new g h =
     from_split (joined us)
     ∙ no_and (begins is_space (joined ts)) (comes_from (joined ts)) (begins is_space (joined us)) (comes_from (joined us))
@@ -103,7 +103,7 @@ from_goes {ts = ts} {us = us} old new g h =
 
 -- ---- casts
 
-pub cast_goes : {gap : Bool} {ts us : List Tile} → Coded ts → Coded us → Goes true gap ts us → begins_cast (joined ts) ≡ false → begins_cast (joined us) ≡ false
+pub cast_goes : {gap : Bool} {ts us : List Tile} → Coded ts → Coded us → ContinuesAs true gap ts us → begins_cast (joined ts) ≡ false → begins_cast (joined us) ≡ false
 cast_goes {ts = ts} {us = us} old new g h = cast_is us new ∙ casts_go g refl (sym (cast_is ts old) ∙ h)
 
 -- ---- the end of a line
@@ -162,7 +162,7 @@ token_first false t e h = absurd cc
 no_piece : (b : ℕ) (a r : List ℕ) → IsLongest V74 code (b ∷ a ++ r) Piece (suc (length a)) → ⊥
 no_piece b a r l = let none = longest_meets is_piece V74 code (b ∷ a) r Piece refl l in cc
 
-line_goes : {tight gap : Bool} {ts us : List Tile} → Goes tight gap ts us → gap ≡ true → Coded ts → stops_line (joined ts) ≡ true → stops_line (joined us) ≡ true
+line_goes : {tight gap : Bool} {ts us : List Tile} → ContinuesAs tight gap ts us → gap ≡ true → Coded ts → stops_line (joined ts) ≡ true → stops_line (joined us) ≡ true
 line_goes ended e old h = refl
 line_goes (same {ts = ts} {us = us} kind b a g) e old h = line_same kind b a (joined ts) (joined us) old.0 h
 line_goes (put {gap = gap} {ts = ts} {us = us} kind c e p q) f old h = put_line ts old (stops_line (c ∷ e ++ joined us)) (token_first gap (begins_token ts) f q) h
@@ -170,13 +170,13 @@ line_goes (hash a e) f old h = absurd cc
 line_goes (brace kind e) f old h = absurd cc
 line_goes (escaped {ts = ts} b c a e d l) f old h = absurd (no_piece b a (joined ts) old.0)
 
-pub line_ends_so : {tight : Bool} {ts us : List Tile} → Coded ts → Goes tight true ts us → stops_line (joined ts) ≡ true → stops_line (joined us) ≡ true
+pub line_ends_so : {tight : Bool} {ts us : List Tile} → Coded ts → ContinuesAs tight true ts us → stops_line (joined ts) ≡ true → stops_line (joined us) ≡ true
 line_ends_so old g h = line_goes g refl old h
 
 -- ---- code
 
-pub code_goes_on : CodeGoesOn
-code_goes_on below over depth deep ts us s w =
+pub code_continues : CodeContinues
+code_continues below over depth deep ts us s w =
     let old = coded below depth ts s in
     let new = coded over deep us w in
     record {

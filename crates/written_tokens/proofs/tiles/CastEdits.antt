@@ -15,9 +15,9 @@ use Rattle.php_relexing.proofs.Comments.{line_stays}
 use Rattle.php_relexing.proofs.Scanned.{found, found_length, scan_of, longest_of}
 use Rattle.php_relexing.proofs.WrittenTokens.{marks_are_tokens, null_is_written}
 use Rattle.written_tokens.specs.tokens.Levels.{stack_of}
-use Rattle.written_tokens.specs.tiles.Goes.{is_trivia, Goes, put, hash}
+use Rattle.written_tokens.specs.tiles.ContinuesAs.{is_trivia, ContinuesAs, put, hash}
 use Rattle.written_tokens.specs.tiles.Edits.{all_trivia, HashCommentsBecome, CastsBecomeFloat, CastsBecomeNull}
-use Rattle.written_tokens.proofs.tiles.AheadFrom.{code_goes_on}
+use Rattle.written_tokens.proofs.tiles.AheadFrom.{code_continues}
 use Rattle.written_tokens.proofs.tiles.Behind.{line_behind}
 use Rattle.written_tokens.proofs.tiles.Braces.{token_or}
 use Rattle.written_tokens.proofs.tiles.Standing.{trivia_kind}
@@ -26,7 +26,7 @@ use Rattle.written_tokens.proofs.tiles.Stepping.{stepped, longest_in, steps_behi
 -- ---- `(float)`
 
 float_written : (b : ℕ) (a : List ℕ) (gap : Bool) (below over : List Mode) (depth deep : ℕ) (rest after : List Tile)
-    → Goes false false rest after → Steps V74 (stack_of code below depth) (tile Cast b a ∷ rest)
+    → ContinuesAs false false rest after → Steps V74 (stack_of code below depth) (tile Cast b a ∷ rest)
     → Steps V74 (stack_of code over deep) after → Steps V74 (stack_of code over deep)
     (tile Cast 40 (codes "float)") ∷ after)
 float_written b a gap below over depth deep rest after h s w =
@@ -102,13 +102,13 @@ hash_longest a r s stop h =
     longest_of V74 code (35 ∷ 32 ∷ a ++ s) Comment (suc (suc (length a))) (hash_scan (32 ∷ a ++ s) ∙ ap (found Comment) size)
 
 hash_written : (a : List ℕ) (gap : Bool) (below over : List Mode) (depth deep : ℕ) (rest after : List Tile)
-    → Goes false true rest after → Steps V74 (stack_of code below depth) (tile Comment 35 a ∷ rest)
+    → ContinuesAs false true rest after → Steps V74 (stack_of code below depth) (tile Comment 35 a ∷ rest)
     → Steps V74 (stack_of code over deep) after → Steps V74 (stack_of code over deep)
     (tile Comment 35 (32 ∷ a) ∷ after)
 hash_written a gap below over depth deep rest after h s w =
     let l = longest_in (stack_of code below depth) Comment 35 a rest s in
     let behind = steps_behind (stack_of code below depth) (stack_of code below depth) Comment 35 a rest refl s in
-    let so = code_goes_on below over depth deep rest after behind w in
+    let so = code_continues below over depth deep rest after behind w in
     let stop = so.line false h (line_behind 35 a (joined rest) refl l) in
     stepped (stack_of code over deep) (stack_of code over deep) Comment 35 (32 ∷ a) after (hash_longest a (joined rest) (joined after) stop l) refl w
 

@@ -51,7 +51,7 @@ use Rattle.php_relexing.proofs.Operators.{OneOf, one_of, is_op, is_close, mark_s
 use Rattle.php_relexing.proofs.Picked.{picked, longest_meets}
 use Rattle.written_tokens.specs.tokens.Stays.{comment_stays, operator_stays, stays_before}
 use Rattle.written_tokens.proofs.tokens.Stays.{code_stays}
-use Rattle.written_tokens.specs.tiles.Goes.{is_trivia}
+use Rattle.written_tokens.specs.tiles.ContinuesAs.{is_trivia}
 use Rattle.written_tokens.specs.tiles.Going.{puts_none}
 use Rattle.written_tokens.specs.tiles.CodeTokens.{is_plain, is_opening}
 use Rattle.written_tokens.proofs.tiles.Behind.{

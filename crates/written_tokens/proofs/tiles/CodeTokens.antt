@@ -39,7 +39,7 @@ use Rattle.php_lexer.specs.Modes.{Mode, code, IsLongest}
 use Rattle.php_relexing.specs.Tiles.{Tile, tile, joined}
 use Rattle.php_relexing.specs.Spelled.{Steps}
 use Rattle.written_tokens.specs.tokens.Levels.{stack_of}
-use Rattle.written_tokens.specs.tiles.Goes.{is_trivia, Goes, same}
+use Rattle.written_tokens.specs.tiles.ContinuesAs.{is_trivia, ContinuesAs, same}
 use Rattle.written_tokens.specs.tiles.CodeTokens.{is_plain, is_opening, mode_behind, CodeTokensBecome}
 use Rattle.written_tokens.proofs.tiles.Ahead.{Coded}
 use Rattle.written_tokens.proofs.tiles.Ahead as code_tiles
@@ -47,19 +47,19 @@ use Rattle.written_tokens.proofs.tiles.AheadFrom.{from_goes, cast_goes, line_end
 use Rattle.written_tokens.proofs.tiles.CodeKept.{GoesOn, close_kept, kept}
 use Rattle.written_tokens.proofs.tiles.Going.{bytes_alike, first_stays}
 use Rattle.written_tokens.proofs.tiles.Onward.{onward}
-use Rattle.written_tokens.proofs.tiles.Stepping.{stepped, longest_in, steps_behind, plain_turn}
+use Rattle.written_tokens.proofs.tiles.Stepping.{stepped, longest_in, steps_behind, plain_mode_step}
 
 -- ---- what goes on as the source does
 
-goes_so : (tight gap : Bool) (ts us : List Tile) → Coded ts → Coded us → Goes tight gap ts us → GoesOn tight gap (joined ts) (joined us)
+goes_so : (tight gap : Bool) (ts us : List Tile) → Coded ts → Coded us → ContinuesAs tight gap ts us → GoesOn tight gap (joined ts) (joined us)
 goes_so tight gap ts us old new g = record {
   alike = bytes_alike g;
   on = onward g;
   first = λ p out blank h. first_stays p out g h;
   spaces = λ e h. first_stays is_space refl g h;
-  line = λ e h. line_ends_so old (subst (λ (x : Bool). Goes tight x ts us) e g) h;
+  line = λ e h. line_ends_so old (subst (λ (x : Bool). ContinuesAs tight x ts us) e g) h;
   from = λ h. from_goes old new g h;
-  cast = λ e h. cast_goes old new (subst (λ (x : Bool). Goes x gap ts us) e g) h;
+  cast = λ e h. cast_goes old new (subst (λ (x : Bool). ContinuesAs x gap ts us) e g) h;
 }
 
 -- the mode behind a tile of code
@@ -107,7 +107,7 @@ module _ (below over : List Mode) (depth deep : ℕ) (rest after : List Tile) wh
   New kind b a = IsLongest V74 code (b ∷ a ++ joined after) kind (suc (length a))
 
   kept_by : (kind : Kind) (b : ℕ) (a : List ℕ) → Behind kind → is_plain kind b a ≡ true
-      → Goes (is_opening kind b) (is_trivia kind) rest after → Old kind b a
+      → ContinuesAs (is_opening kind b) (is_trivia kind) rest after → Old kind b a
       → Steps V74 (stack_of (mode_behind kind) below depth) rest
       → Steps V74 (stack_of (mode_behind kind) over deep) after → New kind b a
   kept_by Close b a closed h g l s w = close_kept (joined rest) (joined after) (bytes_alike g) (λ p out blank k. first_stays p out g k) b a l
@@ -119,17 +119,17 @@ module _ (below over : List Mode) (depth deep : ℕ) (rest after : List Tile) wh
 token_source : (kind : Kind) (b : ℕ) (a : List ℕ) → is_plain kind b a ≡ true
     → (below : List Mode) (depth : ℕ) (rest : List Tile) → Steps V74 (stack_of code below depth)
     (tile kind b a ∷ rest) → Steps V74 (stack_of (mode_behind kind) below depth) rest
-token_source kind b a h below depth rest s = steps_behind (stack_of code below depth) (stack_of (mode_behind kind) below depth) kind b a rest (plain_turn kind b a below depth h) s
+token_source kind b a h below depth rest s = steps_behind (stack_of code below depth) (stack_of (mode_behind kind) below depth) kind b a rest (plain_mode_step kind b a below depth h) s
 
 token_written : (kind : Kind) (b : ℕ) (a : List ℕ) → is_plain kind b a ≡ true
     → (gap : Bool) (below over : List Mode) (depth deep : ℕ) (rest after : List Tile)
-    → Goes (is_opening kind b) (is_trivia kind) rest after → Steps V74 (stack_of code below depth)
+    → ContinuesAs (is_opening kind b) (is_trivia kind) rest after → Steps V74 (stack_of code below depth)
     (tile kind b a ∷ rest) → Steps V74 (stack_of (mode_behind kind) over deep) after
     → Steps V74 (stack_of code over deep) (tile kind b a ∷ after)
 token_written kind b a h gap below over depth deep rest after g s w =
     let new = kept_by below over depth deep rest after kind b a (behind kind) h g
     (longest_in (stack_of code below depth) kind b a rest s) (token_source kind b a h below depth rest s) w in
-    stepped (stack_of code over deep) (stack_of (mode_behind kind) over deep) kind b a after new (plain_turn kind b a over deep h) w
+    stepped (stack_of code over deep) (stack_of (mode_behind kind) over deep) kind b a after new (plain_mode_step kind b a over deep h) w
 
 pub code_tokens_become : CodeTokensBecome
 code_tokens_become kind b a h = record {

@@ -7,9 +7,9 @@ use Rattle.php_relexing.specs.Alike.{Alike, is_break}
 use Rattle.php_relexing.specs.Alike as alike
 use Rattle.php_relexing.specs.Pieces.{escape_last}
 use Rattle.php_relexing.proofs.AlikeJoins.{alike_joins}
-use Rattle.written_tokens.specs.tiles.Goes.{stops_cast, is_trivia, begins_token, is_mark, is_put, Goes, ended, same, put, hash, brace, escaped}
-use Rattle.written_tokens.specs.tiles.Becomes.{gap_behind}
-use Rattle.written_tokens.specs.tiles.Going.{any_stops, RowsGoOn, GoesIsAlike, puts_none, FrontsStay}
+use Rattle.written_tokens.specs.tiles.ContinuesAs.{stops_cast, is_trivia, begins_token, is_mark, is_put, ContinuesAs, ended, same, put, hash, brace, escaped}
+use Rattle.written_tokens.specs.tiles.IsRewrittenTo.{gap_behind}
+use Rattle.written_tokens.specs.tiles.Going.{any_stops, RowsGoOn, ContinuingIsAlike, puts_none, FrontsStay}
 use Rattle.written_tokens.proofs.tiles.Bools.{and_true, and_not_or, out_of, none_of}
 
 -- ---- where less is asked
@@ -20,7 +20,7 @@ put_loose true true t y h = refl
 put_loose true false true y h = absurd cc
 put_loose true false false y h = h
 
-untight : {tight gap : Bool} {ts us : List Tile} → Goes tight gap ts us → Goes false gap ts us
+untight : {tight gap : Bool} {ts us : List Tile} → ContinuesAs tight gap ts us → ContinuesAs false gap ts us
 untight ended = ended
 untight (same kind b a h) = same kind b a (untight h)
 untight (put {tight} kind c e p q) =
@@ -30,7 +30,7 @@ untight (brace kind e) = brace kind e
 untight (escaped b c a e d l) = escaped b c a e d l
 
 -- tight where it is asked for
-pub tighter : (x y : Bool) {gap : Bool} {ts us : List Tile} → (y ≡ true → x ≡ true) → Goes x gap ts us → Goes y gap ts us
+pub tighter : (x y : Bool) {gap : Bool} {ts us : List Tile} → (y ≡ true → x ≡ true) → ContinuesAs x gap ts us → ContinuesAs y gap ts us
 tighter true true f h = h
 tighter x false f h = untight h
 tighter false true f h = absurd (let clash = f refl in cc)
@@ -39,7 +39,7 @@ or_put : (g t : Bool) → (not true || t) ≡ true → (not g || t) ≡ true
 or_put true t h = h
 or_put false t h = refl
 
-pub gapless : {tight : Bool} {ts us : List Tile} (gap : Bool) → Goes tight true ts us → Goes tight gap ts us
+pub gapless : {tight : Bool} {ts us : List Tile} (gap : Bool) → ContinuesAs tight true ts us → ContinuesAs tight gap ts us
 gapless gap ended = ended
 gapless gap (same kind b a h) = same kind b a h
 gapless gap (put {ts = ts} kind c e p q) = put kind c e p (or_put gap (begins_token ts) q)
@@ -49,16 +49,16 @@ gapless gap (escaped b c a e d l) = escaped b c a e d l
 
 -- ---- behind a common front
 
-itself : (tight gap : Bool) (ts : List Tile) → Goes tight gap ts ts
+itself : (tight gap : Bool) (ts : List Tile) → ContinuesAs tight gap ts ts
 itself tight gap [] = ended
 itself tight gap (tile kind b a ∷ ts) = same kind b a (itself (tight && not (stops_cast kind)) (is_trivia kind) ts)
 
-front : (tight gap : Bool) (ts rest after : List Tile) → Goes (tight && not (any_stops ts)) (gap_behind gap ts) rest after → Goes tight gap (ts ++ rest) (ts ++ after)
-front tight gap [] rest after h = subst (λ (t : Bool). Goes t gap rest after) (and_true tight) h
+front : (tight gap : Bool) (ts rest after : List Tile) → ContinuesAs (tight && not (any_stops ts)) (gap_behind gap ts) rest after → ContinuesAs tight gap (ts ++ rest) (ts ++ after)
+front tight gap [] rest after h = subst (λ (t : Bool). ContinuesAs t gap rest after) (and_true tight) h
 front tight gap (tile kind b a ∷ ts) rest after h =
     same kind b a
     (front (tight && not (stops_cast kind)) (is_trivia kind) ts rest after
-    (subst (λ (t : Bool). Goes t (gap_behind (is_trivia kind) ts) rest after) (and_not_or tight (stops_cast kind) (any_stops ts)) h))
+    (subst (λ (t : Bool). ContinuesAs t (gap_behind (is_trivia kind) ts) rest after) (and_not_or tight (stops_cast kind) (any_stops ts)) h))
 
 pub rows_go_on : RowsGoOn
 rows_go_on = record {
@@ -95,7 +95,7 @@ pub escape_alike : (b : ℕ) (a r s : List ℕ) → Alike (b ∷ a ++ r) (escape
 escape_alike b [] r s = alike.broken 92 refl
 escape_alike b (c ∷ a) r s = alike.same b (escape_alike c a r s)
 
-pub bytes_alike : {tight gap : Bool} {ts us : List Tile} → Goes tight gap ts us → Alike (joined ts) (joined us)
+pub bytes_alike : {tight gap : Bool} {ts us : List Tile} → ContinuesAs tight gap ts us → Alike (joined ts) (joined us)
 bytes_alike ended = alike.ended
 bytes_alike (same {ts = ts} {us = us} kind b a h) = alike.same b (alike_joins.front a (joined ts) (joined us) (bytes_alike h))
 bytes_alike (put {tight = tight} kind c e p q) = alike.broken c (put_is is_break (is_mark kind) tight c refl refl refl refl refl refl refl p)
@@ -104,8 +104,8 @@ bytes_alike (brace kind e) = alike.broken 123 refl
 bytes_alike (escaped {ts = ts} {us = us} b c a e d l) =
     subst (λ (x : List ℕ). Alike (b ∷ a ++ joined ts) (x ++ joined us)) l (escape_alike b a (joined ts) (joined us))
 
-pub goes_is_alike : GoesIsAlike
-goes_is_alike tight gap ts us h = bytes_alike h
+pub continuing_is_alike : ContinuingIsAlike
+continuing_is_alike tight gap ts us h = bytes_alike h
 
 -- ---- the first byte
 
@@ -113,7 +113,7 @@ pub escape_first : (p : ℕ → Bool) (b : ℕ) (a s : List ℕ) → p 92 ≡ fa
 escape_first p b [] s h k = h
 escape_first p b (c ∷ a) s h k = k
 
-pub first_stays : (p : ℕ → Bool) {tight gap : Bool} {ts us : List Tile} → puts_none p ≡ true → Goes tight gap ts us → begins p (joined ts) ≡ false → begins p (joined us) ≡ false
+pub first_stays : (p : ℕ → Bool) {tight gap : Bool} {ts us : List Tile} → puts_none p ≡ true → ContinuesAs tight gap ts us → begins p (joined ts) ≡ false → begins p (joined us) ≡ false
 first_stays p none ended k = refl
 first_stays p none (same kind b a h) k = k
 first_stays p none (put {tight = tight} kind c e q r) k =

@@ -46,12 +46,12 @@ use Rattle.php_relexing.proofs.Operators.{OneOf, one_of}
 use Rattle.php_relexing.proofs.Picked.{picked, longest_meets}
 use Rattle.php_relexing.proofs.TagTexts.{tags_stay}
 use Rattle.written_tokens.specs.tokens.Levels.{stack_of}
-use Rattle.written_tokens.specs.tiles.Goes.{is_trivia, is_mark, is_put, begins_token, Goes, ended, same, put, hash, brace, escaped}
+use Rattle.written_tokens.specs.tiles.ContinuesAs.{is_trivia, is_mark, is_put, begins_token, ContinuesAs, ended, same, put, hash, brace, escaped}
 use Rattle.written_tokens.specs.tiles.CodeTokens.{mode_opened, HtmlTokensBecome}
 use Rattle.written_tokens.proofs.tiles.Going.{first_stays}
 use Rattle.written_tokens.proofs.tiles.HtmlBehind.{is_tag, no_html, never, tag_opens, inline_behind, no_inline, tag_behind}
 use Rattle.written_tokens.proofs.tiles.Standing.{mark_kind}
-use Rattle.written_tokens.proofs.tiles.Stepping.{stepped, longest_in, steps_behind, html_turn}
+use Rattle.written_tokens.proofs.tiles.Stepping.{stepped, longest_in, steps_behind, html_mode_step}
 use Rattle.std.proofs.lemmas.Bool.{and_parts}
 
 -- what stands in inline HTML: a tag, or HTML
@@ -97,7 +97,7 @@ html_kind QuotedEnd = none refl
 tile_none : {A : Type 0} (t : Tile) (ts : List Tile) → t ∷ ts ≡ [] → A
 tile_none t ts e = cc
 
-goes_none : {tight gap : Bool} {ts us : List Tile} → Goes tight gap ts us → gap ≡ true → ts ≡ [] → us ≡ []
+goes_none : {tight gap : Bool} {ts us : List Tile} → ContinuesAs tight gap ts us → gap ≡ true → ts ≡ [] → us ≡ []
 goes_none ended f e = refl
 goes_none (same {ts = ts} kind b a g) f e = tile_none (tile kind b a) ts e
 goes_none (put {gap = gap} {ts = ts} kind c d p q) f e = absurd (let clash : (not true || begins_token []) ≡ true = rw (f, e) at q in cc)
@@ -138,7 +138,7 @@ module _ (b : ℕ) (a : List ℕ) (below over : List Mode) (depth deep : ℕ) wh
       absurd (no_inline c e (joined ts) (inline_behind b a c (e ++ joined ts) l) (longest_in (stack_of html below depth) InlineHtml c e ts s))
   inline_by kind c e ts us (none n) l s w = never kind c e (joined ts) n (longest_in (stack_of html below depth) kind c e ts s)
 
-  pub inline_so : {tight gap : Bool} {ts us : List Tile} → Goes tight gap ts us → Inline ts
+  pub inline_so : {tight gap : Bool} {ts us : List Tile} → ContinuesAs tight gap ts us → Inline ts
       → Steps V74 (stack_of html below depth) ts → Steps V74 (stack_of html over deep) us → Inline us
   inline_so ended l s w = l
   inline_so (same {ts = ts} {us = us} kind c e g) l s w = inline_by kind c e ts us (html_kind kind) l s w
@@ -176,13 +176,13 @@ module _ (below over : List Mode) (depth deep : ℕ) (rest after : List Tile) wh
   echo_kept : (b : ℕ) (a : List ℕ) → Old OpenEcho b a → New OpenEcho b a
   echo_kept b a l = echo_by (b ∷ a) (one_of (picked is_echo html_rows) (b ∷ a) (joined rest) refl (longest_meets is_echo V74 html (b ∷ a) (joined rest) OpenEcho refl l))
 
-  tag_kept : (b : ℕ) (a : List ℕ) → Goes false true rest after → Old Tag b a → New Tag b a
+  tag_kept : (b : ℕ) (a : List ℕ) → ContinuesAs false true rest after → Old Tag b a → New Tag b a
   tag_kept b a g l =
       tags_stay V74 V74 (b ∷ a) (joined rest) (joined after)
       (and_same (ends_return (b ∷ a)) (begins_by 10 (joined rest)) (begins_by 10 (joined after)) (first_stays (λ (x : ℕ). nat_eq x 10) refl g) (tag_behind b a (joined rest) l))
       (λ e. ap joined (goes_none g refl (no_bytes rest e))) l
 
-  kept : (kind : Kind) (b : ℕ) (a : List ℕ) → Goes false (is_trivia kind) rest after → Old kind b a
+  kept : (kind : Kind) (b : ℕ) (a : List ℕ) → ContinuesAs false (is_trivia kind) rest after → Old kind b a
       → Steps V74 (stack_of (mode_opened kind) below depth) rest
       → Steps V74 (stack_of (mode_opened kind) over deep) after → New kind b a
   kept Space b a g l s w = never Space b a (joined rest) refl l
@@ -220,16 +220,16 @@ html_source : (kind : Kind) (b : ℕ) (a : List ℕ) (below : List Mode) (depth 
     → Steps V74 (stack_of html below depth) (tile kind b a ∷ rest)
     → Steps V74 (stack_of (mode_opened kind) below depth) rest
 html_source kind b a below depth rest s = steps_behind (stack_of html below depth)
-    (stack_of (mode_opened kind) below depth) kind b a rest (html_turn kind b a (joined rest) below depth) s
+    (stack_of (mode_opened kind) below depth) kind b a rest (html_mode_step kind b a (joined rest) below depth) s
 
 html_written : (kind : Kind) (b : ℕ) (a : List ℕ) (gap : Bool) (below over : List Mode) (depth deep : ℕ)
-    (rest after : List Tile) → Goes false (is_trivia kind) rest after
+    (rest after : List Tile) → ContinuesAs false (is_trivia kind) rest after
     → Steps V74 (stack_of html below depth) (tile kind b a ∷ rest)
     → Steps V74 (stack_of (mode_opened kind) over deep) after
     → Steps V74 (stack_of html over deep) (tile kind b a ∷ after)
 html_written kind b a gap below over depth deep rest after g s w =
     let new = kept below over depth deep rest after kind b a g (longest_in (stack_of html below depth) kind b a rest s) (html_source kind b a below depth rest s) w in
-    stepped (stack_of html over deep) (stack_of (mode_opened kind) over deep) kind b a after new (html_turn kind b a (joined after) over deep) w
+    stepped (stack_of html over deep) (stack_of (mode_opened kind) over deep) kind b a after new (html_mode_step kind b a (joined after) over deep) w
 
 pub html_tokens_become : HtmlTokensBecome
 html_tokens_become kind b a = record {

@@ -48,7 +48,7 @@ use Rattle.php_relexing.proofs.NameRows.{is_small, all_small, small_label}
 use Rattle.php_relexing.proofs.Picked.{longest_meets}
 use Rattle.php_relexing.proofs.Scanned.{scan_of}
 use Rattle.php_relexing.proofs.Words.{rows_are, letter_hash}
-use Rattle.written_tokens.specs.tiles.Goes.{stops_cast}
+use Rattle.written_tokens.specs.tiles.ContinuesAs.{stops_cast}
 use Rattle.written_tokens.proofs.tiles.Standing.{is_space_kind}
 
 -- ---- a word alone, where no label goes on behind
@@ -201,10 +201,10 @@ apart : (x c : ℕ) → nat_eq x (lower c) ≡ true → nat_eq x 39 ≡ false �
     → (nat_eq 39 (lower c) ≡ false) × ((nat_eq 34 (lower c) ≡ false) × (nat_eq 60 (lower c) ≡ false))
 apart x c e p q r =
     let same : x ≡ lower c = eqb-true x (lower c) e in
-    (subst (λ (y : ℕ). nat_eq 39 y ≡ false) same (turn 39 p), (subst (λ (y : ℕ). nat_eq 34 y ≡ false) same (turn 34 q), subst (λ (y : ℕ). nat_eq 60 y ≡ false) same (turn 60 r)))
+    (subst (λ (y : ℕ). nat_eq 39 y ≡ false) same (mode_step 39 p), (subst (λ (y : ℕ). nat_eq 34 y ≡ false) same (mode_step 34 q), subst (λ (y : ℕ). nat_eq 60 y ≡ false) same (mode_step 60 r)))
   where
-    turn : (k : ℕ) → nat_eq x k ≡ false → nat_eq k x ≡ false
-    turn k h = grind (arith, nat_tests)
+    mode_step : (k : ℕ) → nat_eq x k ≡ false → nat_eq k x ≡ false
+    mode_step k h = grind (arith, nat_tests)
 
 module _ (b : ℕ) (kind : Kind) (h : is_letter b ≡ true) (stops : stops_cast kind ≡ true) where
   clash_of : (bs : List ℕ) (n : ℕ) → IsLongest V74 code (b ∷ bs) kind n → stops_found (scan V74 code (b ∷ bs)) ≡ false → ⊥

@@ -32,8 +32,8 @@ use Rattle.php_lexer.specs.Scan.{shape_len, here_len, or_else, add_to}
 use Rattle.php_relexing.specs.Tiles.{Tile, joined}
 use Rattle.php_relexing.specs.Pieces.{escape_last}
 use Rattle.php_relexing.proofs.HeredocFronts.{skip_by}
-use Rattle.written_tokens.specs.tiles.Goes.{is_mark, is_put, Goes}
-use Rattle.written_tokens.specs.tiles.Goes as goes
+use Rattle.written_tokens.specs.tiles.ContinuesAs.{is_mark, is_put, ContinuesAs}
+use Rattle.written_tokens.specs.tiles.ContinuesAs as goes
 use Rattle.written_tokens.proofs.tiles.Going.{put_is}
 
 -- neither white space nor a byte of a label nor a quote nor `<`
@@ -55,7 +55,7 @@ escape_onward : (b : ℕ) (a r s : List ℕ) → Onward (b ∷ a ++ r) (escape_l
 escape_onward b [] r s = barred 92 refl
 escape_onward b (c ∷ a) r s = same b (escape_onward c a r s)
 
-pub onward : {tight gap : Bool} {ts us : List Tile} → Goes tight gap ts us → Onward (joined ts) (joined us)
+pub onward : {tight gap : Bool} {ts us : List Tile} → ContinuesAs tight gap ts us → Onward (joined ts) (joined us)
 onward goes.ended = ended
 onward (goes.same {ts = ts} {us = us} kind b a h) = same b (onward_front a (joined ts) (joined us) (onward h))
 onward (goes.put {tight = tight} kind c e p q) = barred c (put_is is_bar (is_mark kind) tight c refl refl refl refl refl refl refl p)

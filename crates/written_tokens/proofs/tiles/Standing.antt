@@ -34,7 +34,7 @@ use Rattle.php_spellings.specs.declared.table.Kind.TheVariants.{
   QuotedEnd,
 }
 use Rattle.php_relexing.specs.Tiles.{Tile, tile}
-use Rattle.written_tokens.specs.tiles.Goes.{stops_cast, is_trivia, begins_token, is_mark}
+use Rattle.written_tokens.specs.tiles.ContinuesAs.{stops_cast, is_trivia, begins_token, is_mark}
 
 abbrev pub is_space_kind : Kind → Bool
 is_space_kind Space = true

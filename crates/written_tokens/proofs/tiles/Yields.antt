@@ -50,7 +50,7 @@ use Rattle.php_relexing.proofs.Labels.{words_are_labels}
 use Rattle.php_relexing.proofs.NameRows.{is_small, all_small, small_label}
 use Rattle.php_relexing.proofs.Parts.{label_run}
 use Rattle.php_relexing.proofs.Scanned.{found, scan_of, longest_of}
-use Rattle.php_relexing.proofs.Words.{turn_round, letter_hash, rows_are}
+use Rattle.php_relexing.proofs.Words.{other_way_round, letter_hash, rows_are}
 
 -- ---- `from` is found
 
@@ -168,7 +168,7 @@ word_scan : (b : ℕ) (a s : List ℕ) → is_letter b ≡ true → nat_eq (lowe
 word_scan b a s h p k e =
     older_scan b (a ++ s) (letter_hash b h)
     ∙ letter_scan b (a ++ s) h
-    ∙ rows_are b (a ++ s) (turn_round (lower b) 98 p)
+    ∙ rows_are b (a ++ s) (other_way_round (lower b) 98 p)
     ∙ ap (λ (o : Option (Kind × ℕ)). longer Keyword (keyword_len b (a ++ s)) o) (word_row b a s h p k e)
 
 abbrev is_word : Kind → Bool

@@ -3,7 +3,7 @@ use Rattle.std.proofs.Common.{◌≡◌, ℕ, suc, List, [], ◌∷◌, ◌++◌
 use Rattle.php_tree.specs.declared.version.Version.{Version}
 use Rattle.php_spellings.specs.declared.table.Kind.{Kind}
 use Rattle.php_spellings.specs.declared.table.Kind.TheVariants.{Op}
-use Rattle.php_lexer.specs.Modes.{Mode, code, Turn, stay, enter, leave, turn_of, IsLongest}
+use Rattle.php_lexer.specs.Modes.{Mode, code, ModeStep, stay, enter, leave, mode_step_of, IsLongest}
 use Rattle.php_relexing.specs.Tiles.{Tile, tile, joined}
 use Rattle.php_relexing.proofs.Written.{closing_is, square_is, end_square_is}
 use Rattle.php_relexing.proofs.Openings.{openings_are_uncast}
@@ -21,17 +21,17 @@ module _ (v : Version) (m : Mode) (kind : Kind) (b : ℕ) (a : List ℕ) {x y : 
   longest_moved : IsLongest v m (b ∷ a ++ x) kind (suc (length a)) → IsLongest v m (b ∷ a ++ y) kind (suc (length a))
   longest_moved h = subst (λ (u : List ℕ). IsLongest v m (b ∷ a ++ u) kind (suc (length a))) e h
 
-  turn_moved : (t : Turn) → turn_of v m kind (b ∷ a) x ≡ t → turn_of v m kind (b ∷ a) y ≡ t
-  turn_moved t h = subst (λ (u : List ℕ). turn_of v m kind (b ∷ a) u ≡ t) e h
+  mode_step_moved : (t : ModeStep) → mode_step_of v m kind (b ∷ a) x ≡ t → mode_step_of v m kind (b ∷ a) y ≡ t
+  mode_step_moved t h = subst (λ (u : List ℕ). mode_step_of v m kind (b ∷ a) u ≡ t) e h
 
 join : {v : Version} {front : List ℕ} {m n : Mode} {ts : List Tile} → Level v front m ts n
     → (rest : List ℕ) (p : Mode) (us : List Tile) → joined us ++ rest ≡ front → Level v rest n us p
     → Level v rest m (ts ++ us) p
 join none rest p us same more = more
-join (flat {v} {rest = front} {m} {n} to kind b a ts h turn inner) rest p us same more =
+join (flat {v} {rest = front} {m} {n} to kind b a ts h mode_step inner) rest p us same more =
     let bytes : joined ts ++ front ≡ joined (ts ++ us) ++ rest = ap (λ (u : List ℕ). joined ts ++ u) (sym same) ∙ whole ts us rest in
-    flat to kind b a (ts ++ us) (longest_moved v m kind b a bytes h) (turn_moved v m kind b a bytes (stay to) turn) (join inner rest p us same more)
-join (deep {v} {rest = front} {m} {n} up under low kind b a ts k c e vs h turn inner close out pair last) rest p us same more =
+    flat to kind b a (ts ++ us) (longest_moved v m kind b a bytes h) (mode_step_moved v m kind b a bytes (stay to) mode_step) (join inner rest p us same more)
+join (deep {v} {rest = front} {m} {n} up under low kind b a ts k c e vs h mode_step inner close out pair last) rest p us same more =
     let all : (ts ++ tile k c e ∷ vs) ++ us ≡ ts ++ tile k c e ∷ (vs ++ us) = append_assoc ts (tile k c e ∷ vs) us in
     let bytes : joined (ts ++ tile k c e ∷ vs) ++ front ≡ joined (ts ++ tile k c e ∷ (vs ++ us)) ++ rest =
     ap (λ (u : List ℕ). joined (ts ++ tile k c e ∷ vs) ++ u) (sym same)
@@ -41,9 +41,9 @@ join (deep {v} {rest = front} {m} {n} up under low kind b a ts k c e vs h turn i
     ap (λ (u : List ℕ). joined (tile k c e ∷ vs) ++ u) (sym same) ∙ whole (tile k c e ∷ vs) us rest in
     let later : joined vs ++ front ≡ joined (vs ++ us) ++ rest = ap (λ (u : List ℕ). joined vs ++ u) (sym same) ∙ whole vs us rest in
     let there : Level v rest m (tile kind b a ∷ (ts ++ tile k c e ∷ (vs ++ us))) p =
-    deep up under low kind b a ts k c e (vs ++ us) (longest_moved v m kind b a bytes h) (turn_moved v m kind b a bytes (enter up under) turn)
+    deep up under low kind b a ts k c e (vs ++ us) (longest_moved v m kind b a bytes h) (mode_step_moved v m kind b a bytes (enter up under) mode_step)
     (subst (λ (u : List ℕ). Level v u up ts low) behind inner)
-    (longest_moved v low k c e later close) (turn_moved v low k c e later leave out) pair (join last rest p us same more) in
+    (longest_moved v low k c e later close) (mode_step_moved v low k c e later leave out) pair (join last rest p us same more) in
     subst (λ (l : List Tile). Level v rest m (tile kind b a ∷ l) p) (sym all) there
 
 pub levels_join : LevelsJoin

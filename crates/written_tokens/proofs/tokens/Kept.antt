@@ -7,8 +7,8 @@ use Rattle.php_tree.specs.declared.version.Version.TheVariants.{V74, V83}
 use Rattle.php_spellings.specs.declared.table.Kind.{Kind}
 use Rattle.php_spellings.specs.declared.table.Kind.TheVariants.{Variable, Word, Name, Piece}
 use Rattle.php_spellings.specs.declared.table.Mark.{Mark}
-use Rattle.php_lexer.specs.Modes.{Mode, html, code, named, quoted, offset, property, begins_arrow, part_turn, IsLongest}
-use Rattle.php_lexer.specs.Lexed.{Stack, turned_by, after}
+use Rattle.php_lexer.specs.Modes.{Mode, html, code, named, quoted, offset, property, begins_arrow, part_mode_step, IsLongest}
+use Rattle.php_lexer.specs.Lexed.{Stack, stepped_by, after}
 use Rattle.php_relexing.specs.Tiles.{Tile, tile, joined}
 use Rattle.php_relexing.specs.Spelled.{Steps, step}
 use Rattle.php_relexing.specs.Newer.{begins_deeper, ends_name}
@@ -67,7 +67,7 @@ module _ (mark : Mark) (label : List ℕ) (fresh : Bool) (below : List Mode) (de
   here = stack_by (quoted mark label fresh) below depth
 
   abbrev top_before : List ℕ → Mode
-  top_before r = (turned_by (part_turn V74 (quoted mark label false) r) (stack_by (quoted mark label fresh) below depth)).top
+  top_before r = (stepped_by (part_mode_step V74 (quoted mark label false) r) (stack_by (quoted mark label fresh) below depth)).top
 
   before_63 : (bs : List ℕ) → top_before (63 ∷ bs) ≡ quoted mark label false
   before_63 [] = refl

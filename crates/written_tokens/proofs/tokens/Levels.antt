@@ -1,8 +1,8 @@
 -- Tiles that open and close in pairs leave the modes below as they are.
 use Rattle.std.proofs.Common.{◌≡◌, ℕ, suc, Bool, true, false, cond, List, ◌∷◌, ◌++◌, refl, sym, ap, ◌∙◌, subst}
 use Rattle.php_tree.specs.declared.version.Version.{Version}
-use Rattle.php_lexer.specs.Modes.{Mode, html, code, named, quoted, offset, property, Turn, enter, leave}
-use Rattle.php_lexer.specs.Lexed.{effect, deeper, less_one, turned_by}
+use Rattle.php_lexer.specs.Modes.{Mode, html, code, named, quoted, offset, property, ModeStep, enter, leave}
+use Rattle.php_lexer.specs.Lexed.{effect, deeper, less_one, stepped_by}
 use Rattle.php_relexing.specs.Tiles.{Tile, tile}
 use Rattle.php_relexing.specs.Passes.{Pass, nothing, then}
 use Rattle.php_relexing.proofs.Passes.{passes_join}
@@ -68,21 +68,21 @@ same_depth top up under low n h =
 passed : {v : Version} {rest : List ℕ} {m n : Mode} {ts : List Tile} → Level v rest m ts n
     → (below : List Mode) (depth : ℕ) → Pass v rest (stack_of m below depth) ts (stack_of n below depth)
 passed none below depth = nothing
-passed (flat {v} {rest} {m} {n} to kind b a ts h turn more) below depth =
+passed (flat {v} {rest} {m} {n} to kind b a ts h mode_step more) below depth =
     then kind b a ts h
-    (subst (λ (t : Turn). Pass v rest (turned_by t (stack_of m below depth)) ts (stack_of n below depth)) (sym turn) (passed more below depth))
-passed (deep {v} {rest} {m} {n} up under low kind b a ts k c e us h turn inner close out same more) below depth =
+    (subst (λ (t : ModeStep). Pass v rest (stepped_by t (stack_of m below depth)) ts (stack_of n below depth)) (sym mode_step) (passed more below depth))
+passed (deep {v} {rest} {m} {n} up under low kind b a ts k c e us h mode_step inner close out same more) below depth =
     let d : ℕ = deeper (effect m (enter up under)) depth in
     let last : Pass v rest (stack_of under below (deeper (effect low leave) (deeper (effect m (enter up under)) depth))) us (stack_of n below depth) =
     subst (λ (x : ℕ). Pass v rest (stack_of under below x) us (stack_of n below depth)) (sym (same_depth m up under low depth same)) (passed more below depth) in
     let shut : Pass v rest (stack_of low (under ∷ below) (deeper (effect m (enter up under)) depth)) (tile k c e ∷ us) (stack_of n below depth) =
     then k c e us close
-    (subst (λ (t : Turn). Pass v rest (turned_by t (stack_of low (under ∷ below) (deeper (effect m (enter up under)) depth))) us (stack_of n below depth)) (sym out) last) in
+    (subst (λ (t : ModeStep). Pass v rest (stepped_by t (stack_of low (under ∷ below) (deeper (effect m (enter up under)) depth))) us (stack_of n below depth)) (sym out) last) in
     let whole = passes_join.join v rest (stack_of up (under ∷ below) (deeper (effect m (enter up under)) depth))
     (stack_of low (under ∷ below) (deeper (effect m (enter up under)) depth)) (stack_of n below depth) ts
     (tile k c e ∷ us) (passed inner (under ∷ below) (deeper (effect m (enter up under)) depth)) shut in
     then kind b a (ts ++ tile k c e ∷ us) h
-    (subst (λ (t : Turn). Pass v rest (turned_by t (stack_of m below depth)) (ts ++ tile k c e ∷ us) (stack_of n below depth)) (sym turn) whole)
+    (subst (λ (t : ModeStep). Pass v rest (stepped_by t (stack_of m below depth)) (ts ++ tile k c e ∷ us) (stack_of n below depth)) (sym mode_step) whole)
 
 pub levels_pass : LevelsPass
 levels_pass v rest m n ts h below depth = passed h below depth

@@ -22,8 +22,8 @@ use Rattle.php_spellings.specs.declared.table.Kind.TheVariants.{
 use Rattle.php_spellings.specs.declared.table.Mark.{Mark}
 use Rattle.php_spellings.specs.declared.table.Mark.TheVariants.{Double, Back, Here}
 use Rattle.php_spellings.specs.Bytes.{begins_by}
-use Rattle.php_lexer.specs.Modes.{Mode, html, code, named, quoted, offset, property, Turn, stay, enter, leave, is_byte, begins_property, quoted_turn, turn_of, IsLongest}
-use Rattle.php_lexer.specs.Lexed.{Stack, turned_by, turn_at, after}
+use Rattle.php_lexer.specs.Modes.{Mode, html, code, named, quoted, offset, property, ModeStep, stay, enter, leave, is_byte, begins_property, quoted_mode_step, mode_step_of, IsLongest}
+use Rattle.php_lexer.specs.Lexed.{Stack, stepped_by, mode_step_at, after}
 use Rattle.php_lexer.proofs.Dispatch.{other_head}
 use Rattle.php_relexing.proofs.Scanned.{found, scan_of, rescanned}
 use Rattle.php_relexing.proofs.Picked.{longest_meets}
@@ -39,7 +39,7 @@ abbrev pub SameProperty : List ℕ → Type 0
 SameProperty rest = begins_property V83 rest ≡ begins_property V74 rest
 
 quoted_same : (mark : Mark) (label : List ℕ) (kind : Kind) (text rest : List ℕ)
-    → (is_variable kind ≡ true → SameProperty rest) → quoted_turn V83 mark label kind text rest ≡ quoted_turn V74 mark
+    → (is_variable kind ≡ true → SameProperty rest) → quoted_mode_step V83 mark label kind text rest ≡ quoted_mode_step V74 mark
     label kind text rest
 quoted_same mark label Variable text rest h = rw (h refl) refl
 quoted_same mark label QuotedEnd text rest h = refl
@@ -56,20 +56,20 @@ is_quoted (quoted mark label fresh) = true
 is_quoted offset = false
 is_quoted property = false
 
-pub same_turn : (mode : Mode) (kind : Kind) (text rest : List ℕ)
+pub same_mode_step : (mode : Mode) (kind : Kind) (text rest : List ℕ)
     → (is_quoted mode ≡ true → is_variable kind ≡ true → SameProperty rest)
-    → turn_of V83 mode kind text rest ≡ turn_of V74 mode kind text rest
-same_turn html kind text rest h = refl
-same_turn code kind text rest h = refl
-same_turn named kind text rest h = refl
-same_turn (quoted mark label fresh) kind text rest h = quoted_same mark label kind text rest (h refl)
-same_turn offset kind text rest h = refl
-same_turn property kind text rest h = refl
+    → mode_step_of V83 mode kind text rest ≡ mode_step_of V74 mode kind text rest
+same_mode_step html kind text rest h = refl
+same_mode_step code kind text rest h = refl
+same_mode_step named kind text rest h = refl
+same_mode_step (quoted mark label fresh) kind text rest h = quoted_same mark label kind text rest (h refl)
+same_mode_step offset kind text rest h = refl
+same_mode_step property kind text rest h = refl
 
 pub same_after : (stack : Stack) (kind : Kind) (n : ℕ) (bytes : List ℕ)
     → (is_quoted stack.top ≡ true → is_variable kind ≡ true → SameProperty (drop n bytes))
     → after V83 stack kind n bytes ≡ after V74 stack kind n bytes
-same_after stack kind n bytes h = ap (λ (t : Turn). turned_by t stack) (same_turn stack.top kind (take n bytes) (drop n bytes) h)
+same_after stack kind n bytes h = ap (λ (t : ModeStep). stepped_by t stack) (same_mode_step stack.top kind (take n bytes) (drop n bytes) h)
 
 -- ---- no mode behind `${`
 
@@ -77,16 +77,16 @@ abbrev pub is_dollar_brace : Kind → Bool
 is_dollar_brace DollarBrace = true
 is_dollar_brace _ = false
 
-abbrev plain_turn : Turn → Bool
-plain_turn (stay m) = not (is_named m)
-plain_turn (enter above under) = not (is_named above) && not (is_named under)
-plain_turn leave = true
+abbrev plain_mode_step : ModeStep → Bool
+plain_mode_step (stay m) = not (is_named m)
+plain_mode_step (enter above under) = not (is_named above) && not (is_named under)
+plain_mode_step leave = true
 
-chosen : (t : Bool) (x y : Turn) → plain_turn x ≡ true → plain_turn y ≡ true → plain_turn (cond t x y) ≡ true
+chosen : (t : Bool) (x y : ModeStep) → plain_mode_step x ≡ true → plain_mode_step y ≡ true → plain_mode_step (cond t x y) ≡ true
 chosen true x y p q = p
 chosen false x y p q = q
 
-code_plain : (kind : Kind) (text rest : List ℕ) → plain_turn (turn_of V74 code kind text rest) ≡ true
+code_plain : (kind : Kind) (text rest : List ℕ) → plain_mode_step (mode_step_of V74 code kind text rest) ≡ true
 code_plain Op text rest = chosen (is_byte 123 text) (enter code code) (cond (is_byte 125 text) leave (stay code)) refl (chosen (is_byte 125 text) leave (stay code) refl refl)
 code_plain Close text rest = refl
 code_plain Quote text rest = refl
@@ -94,11 +94,11 @@ code_plain Backtick text rest = refl
 code_plain HeredocStart text rest = refl
 code_plain _ text rest = refl
 
-html_plain : (kind : Kind) (text rest : List ℕ) → plain_turn (turn_of V74 html kind text rest) ≡ true
+html_plain : (kind : Kind) (text rest : List ℕ) → plain_mode_step (mode_step_of V74 html kind text rest) ≡ true
 html_plain InlineHtml text rest = refl
 html_plain _ text rest = refl
 
-quoted_plain : (mark : Mark) (label : List ℕ) (kind : Kind) (text rest : List ℕ) → is_dollar_brace kind ≡ false → plain_turn (quoted_turn V74 mark label kind text rest) ≡ true
+quoted_plain : (mark : Mark) (label : List ℕ) (kind : Kind) (text rest : List ℕ) → is_dollar_brace kind ≡ false → plain_mode_step (quoted_mode_step V74 mark label kind text rest) ≡ true
 quoted_plain mark label DollarBrace text rest h = absurd cc
 quoted_plain mark label Variable text rest h =
     chosen (begins_by 91 rest) (enter offset (quoted mark label false))
@@ -109,35 +109,35 @@ quoted_plain mark label QuotedEnd text rest h = refl
 quoted_plain mark label CurlyOpen text rest h = refl
 quoted_plain mark label _ text rest h = refl
 
-offset_plain : (kind : Kind) (text rest : List ℕ) → plain_turn (turn_of V74 offset kind text rest) ≡ true
+offset_plain : (kind : Kind) (text rest : List ℕ) → plain_mode_step (mode_step_of V74 offset kind text rest) ≡ true
 offset_plain Op text rest = chosen (is_byte 93 text) leave (stay offset) refl refl
 offset_plain _ text rest = refl
 
-property_plain : (kind : Kind) (text rest : List ℕ) → plain_turn (turn_of V74 property kind text rest) ≡ true
+property_plain : (kind : Kind) (text rest : List ℕ) → plain_mode_step (mode_step_of V74 property kind text rest) ≡ true
 property_plain Label text rest = refl
 property_plain _ text rest = refl
 
-turn_plain : (mode : Mode) (kind : Kind) (text rest : List ℕ) → is_named mode ≡ false → is_dollar_brace kind ≡ false → plain_turn (turn_of V74 mode kind text rest) ≡ true
-turn_plain html kind text rest p q = html_plain kind text rest
-turn_plain code kind text rest p q = code_plain kind text rest
-turn_plain named kind text rest p q = absurd cc
-turn_plain (quoted mark label fresh) kind text rest p q = quoted_plain mark label kind text rest q
-turn_plain offset kind text rest p q = offset_plain kind text rest
-turn_plain property kind text rest p q = property_plain kind text rest
+mode_step_plain : (mode : Mode) (kind : Kind) (text rest : List ℕ) → is_named mode ≡ false → is_dollar_brace kind ≡ false → plain_mode_step (mode_step_of V74 mode kind text rest) ≡ true
+mode_step_plain html kind text rest p q = html_plain kind text rest
+mode_step_plain code kind text rest p q = code_plain kind text rest
+mode_step_plain named kind text rest p q = absurd cc
+mode_step_plain (quoted mark label fresh) kind text rest p q = quoted_plain mark label kind text rest q
+mode_step_plain offset kind text rest p q = offset_plain kind text rest
+mode_step_plain property kind text rest p q = property_plain kind text rest
 
 abbrev stack_by : Mode → List Mode → ℕ → Stack
 stack_by top below depth = record { top = top; below = below; depth = depth }
 
-left_plain : (top : Mode) (below : List Mode) (depth : ℕ) → none_named below ≡ true → is_unnamed (turned_by leave (stack_by top below depth)) ≡ true
+left_plain : (top : Mode) (below : List Mode) (depth : ℕ) → none_named below ≡ true → is_unnamed (stepped_by leave (stack_by top below depth)) ≡ true
 left_plain top [] depth h = refl
 left_plain top (m ∷ ms) depth h = h
 
-turned_plain : (t : Turn) (top : Mode) (below : List Mode) (depth : ℕ) → plain_turn t ≡ true → none_named below ≡ true → is_unnamed (turned_by t (stack_by top below depth)) ≡ true
-turned_plain (stay m) top below depth p q = rw (p, q) refl
-turned_plain (enter above under) top below depth p q =
+stepped_plain : (t : ModeStep) (top : Mode) (below : List Mode) (depth : ℕ) → plain_mode_step t ≡ true → none_named below ≡ true → is_unnamed (stepped_by t (stack_by top below depth)) ≡ true
+stepped_plain (stay m) top below depth p q = rw (p, q) refl
+stepped_plain (enter above under) top below depth p q =
     let (one, two) = and_parts (not (is_named above)) (not (is_named under)) p in
     rw (one, two, q) refl
-turned_plain leave top below depth p q = left_plain top below depth q
+stepped_plain leave top below depth p q = left_plain top below depth q
 
 not_it : (x : Bool) → not x ≡ true → x ≡ false
 not_it true h = absurd cc
@@ -147,8 +147,8 @@ pub unnamed_after : (stack : Stack) (kind : Kind) (n : ℕ) (bytes : List ℕ) �
     → is_dollar_brace kind ≡ false → is_unnamed (after V74 stack kind n bytes) ≡ true
 unnamed_after stack kind n bytes h q =
     let (top, below) = and_parts (not (is_named stack.top)) (none_named stack.below) h in
-    turned_plain (turn_at V74 stack kind n bytes) stack.top stack.below stack.depth
-    (turn_plain stack.top kind (take n bytes) (drop n bytes) (not_it (is_named stack.top) top) q) below
+    stepped_plain (mode_step_at V74 stack kind n bytes) stack.top stack.below stack.depth
+    (mode_step_plain stack.top kind (take n bytes) (drop n bytes) (not_it (is_named stack.top) top) q) below
 
 pub unnamed_top : (stack : Stack) → is_unnamed stack ≡ true → is_named stack.top ≡ false
 unnamed_top stack h = not_it (is_named stack.top) (and_parts (not (is_named stack.top)) (none_named stack.below) h).0

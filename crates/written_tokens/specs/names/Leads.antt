@@ -11,8 +11,8 @@ use Rattle.php_relexing.specs.Spelled.{Steps}
 use Rattle.tracked_changes.specs.Pieces.{after}
 use Rattle.syntax_rules.specs.HashComment.{outside, spaced}
 use Rattle.written_tokens.specs.tokens.Levels.{stack_of}
-use Rattle.written_tokens.specs.tiles.Goes.{is_trivia}
-use Rattle.written_tokens.specs.tiles.Becomes.{Becomes}
+use Rattle.written_tokens.specs.tiles.ContinuesAs.{is_trivia}
+use Rattle.written_tokens.specs.tiles.IsRewrittenTo.{IsRewrittenTo}
 use Rattle.written_tokens.specs.tiles.Going.{any_stops}
 use Rattle.written_tokens.specs.tiles.Edits.{all_trivia}
 
@@ -57,7 +57,7 @@ TriviaBecome =
     (m : Mode) (trivia : List Tile) →
     all_trivia trivia ≡ true →
     lead_to_code m trivia ≡ true →
-    Becomes false (any_stops trivia) m code trivia (spaced_trivia trivia)
+    IsRewrittenTo false (any_stops trivia) m code trivia (spaced_trivia trivia)
 
 -- whether no tile is a comment that begins `#[`
 abbrev pub none_hash : List Tile → Bool

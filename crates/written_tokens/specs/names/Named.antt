@@ -7,7 +7,7 @@ use Rattle.php_spellings.specs.Bytes.{is_space}
 use Rattle.php_lexer.specs.Lexed.{start}
 use Rattle.php_relexing.specs.Tiles.{Tile, tile}
 use Rattle.php_relexing.specs.Spelled.{Steps}
-use Rattle.written_tokens.specs.tiles.Goes.{is_trivia}
+use Rattle.written_tokens.specs.tiles.ContinuesAs.{is_trivia}
 use Rattle.written_tokens.specs.names.Leads.{none_hash}
 
 abbrev pub all_space : List ℕ → Bool

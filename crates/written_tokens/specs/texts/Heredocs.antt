@@ -7,7 +7,7 @@ use Rattle.php_lexer.specs.Heredocs.{no_label}
 use Rattle.php_lexer.specs.Modes.{code, IsLongest}
 use Rattle.php_relexing.specs.Tiles.{tile}
 use Rattle.written_tokens.specs.tokens.Stays.{in_quotes}
-use Rattle.written_tokens.specs.tiles.Becomes.{Becomes}
+use Rattle.written_tokens.specs.tiles.IsRewrittenTo.{IsRewrittenTo}
 
 -- The first line of a heredoc stays where a line feed follows as in the source.
 abbrev pub HeredocLinesStay : Type 0
@@ -31,4 +31,4 @@ abbrev pub NowdocsBecome : Type 0
 NowdocsBecome =
     (b : ℕ) (a : List ℕ) →
     in_quotes b a ≡ false →
-    Becomes false true code code (tile Text b a ∷ []) (tile Text b a ∷ [])
+    IsRewrittenTo false true code code (tile Text b a ∷ []) (tile Text b a ∷ [])

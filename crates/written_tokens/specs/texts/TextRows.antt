@@ -6,7 +6,7 @@ use Rattle.php_spellings.specs.Bytes.{begins_by}
 use Rattle.php_lexer.specs.Modes.{code}
 use Rattle.php_relexing.specs.Tiles.{Tile, tile, joined}
 use Rattle.php_relexing.specs.Pieces.{ends_dollar, escape_last}
-use Rattle.written_tokens.specs.tiles.Becomes.{Becomes}
+use Rattle.written_tokens.specs.tiles.IsRewrittenTo.{IsRewrittenTo}
 
 abbrev pub is_op : Kind → Bool
 is_op Op = true
@@ -69,13 +69,13 @@ pub data TextRow : List Tile → List Tile → Type 0 where
   curly :
       {ts us : List Tile} (needs stops : Bool) (xs ys : List Tile) →
       begins_by 36 (joined ys) ≡ true →
-      Becomes needs stops code code xs ys →
+      IsRewrittenTo needs stops code code xs ys →
       TextRow ts us →
       TextRow (tile CurlyOpen 123 [] ∷ xs ++ tile Op 125 [] ∷ ts) (tile CurlyOpen 123 [] ∷ ys ++ tile Op 125 [] ∷ us)
   -- `{$name..}` for `${name..}`
   dollar_name :
       {ts us : List Tile} (needs stops : Bool) (b : ℕ) (a : List ℕ) (xs ys : List Tile) →
-      Becomes needs stops code code xs ys →
+      IsRewrittenTo needs stops code code xs ys →
       TextRow ts us →
       TextRow (tile DollarBrace 36 (123 ∷ []) ∷ tile VarName b a ∷ xs ++ tile Op 125 [] ∷ ts)
       (tile CurlyOpen 123 [] ∷ tile Variable 36 (b ∷ a) ∷ ys ++ tile Op 125 [] ∷ us)
@@ -83,7 +83,7 @@ pub data TextRow : List Tile → List Tile → Type 0 where
   dollar_row :
       {ts us : List Tile} (needs stops : Bool) (xs ys : List Tile) →
       begins_var_name xs ≡ false →
-      Becomes needs stops code code xs ys →
+      IsRewrittenTo needs stops code code xs ys →
       TextRow ts us →
       TextRow (tile DollarBrace 36 (123 ∷ []) ∷ xs ++ tile Op 125 [] ∷ ts)
       (tile CurlyOpen 123 [] ∷ tile Op 36 [] ∷ tile Op 123 [] ∷ ys ++ tile Op 125 [] ∷ tile Op 125 [] ∷ us)
@@ -101,7 +101,7 @@ TextsBecome =
     (kind : Kind) (b : ℕ) (a : List ℕ) (ts us : List Tile) →
     opens_text kind ≡ true →
     TextRow ts us →
-    Becomes false true code code (tile kind b a ∷ ts) (tile kind b a ∷ us)
+    IsRewrittenTo false true code code (tile kind b a ∷ ts) (tile kind b a ∷ us)
 
 -- ---- no `${` is written
 

@@ -36,8 +36,8 @@ use Rattle.php_spellings.specs.declared.table.Kind.TheVariants.{
 use Rattle.php_lexer.specs.Modes.{Mode, html, code}
 use Rattle.php_relexing.specs.Tiles.{tile}
 use Rattle.written_tokens.specs.tokens.Stays.{in_quotes}
-use Rattle.written_tokens.specs.tiles.Goes.{stops_cast}
-use Rattle.written_tokens.specs.tiles.Becomes.{Becomes}
+use Rattle.written_tokens.specs.tiles.ContinuesAs.{stops_cast}
+use Rattle.written_tokens.specs.tiles.IsRewrittenTo.{IsRewrittenTo}
 
 -- whether a tile of code is neither a brace nor a nowdoc nor opens a quoted text
 abbrev pub is_plain : Kind → ℕ → List ℕ → Bool
@@ -87,7 +87,7 @@ abbrev pub CodeTokensBecome : Type 0
 CodeTokensBecome =
     (kind : Kind) (b : ℕ) (a : List ℕ) →
     is_plain kind b a ≡ true →
-    Becomes (is_opening kind b) (stops_cast kind) code (mode_behind kind) (tile kind b a ∷ []) (tile kind b a ∷ [])
+    IsRewrittenTo (is_opening kind b) (stops_cast kind) code (mode_behind kind) (tile kind b a ∷ []) (tile kind b a ∷ [])
 
 -- the mode behind a tile of inline HTML: a tag opens code
 abbrev pub mode_opened : Kind → Mode
@@ -98,4 +98,4 @@ mode_opened _ = code
 abbrev pub HtmlTokensBecome : Type 0
 HtmlTokensBecome =
     (kind : Kind) (b : ℕ) (a : List ℕ) →
-    Becomes false (stops_cast kind) html (mode_opened kind) (tile kind b a ∷ []) (tile kind b a ∷ [])
+    IsRewrittenTo false (stops_cast kind) html (mode_opened kind) (tile kind b a ∷ []) (tile kind b a ∷ [])

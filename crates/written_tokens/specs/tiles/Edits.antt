@@ -3,12 +3,12 @@ use Rattle.std.specs.Prelude.{◌≡◌, ℕ, Bool, true, false, cond, not, ◌&
 use Rattle.php_spellings.specs.declared.table.Kind.TheVariants.{Comment, Variable, Word, Cast, Op}
 use Rattle.php_lexer.specs.Modes.{code}
 use Rattle.php_relexing.specs.Tiles.{Tile, tile}
-use Rattle.written_tokens.specs.tiles.Goes.{stops_cast, is_trivia, begins_token}
-use Rattle.written_tokens.specs.tiles.Becomes.{gap_behind, Becomes}
+use Rattle.written_tokens.specs.tiles.ContinuesAs.{stops_cast, is_trivia, begins_token}
+use Rattle.written_tokens.specs.tiles.IsRewrittenTo.{gap_behind, IsRewrittenTo}
 
 -- A comment with `#` gets a space behind the `#`.
 abbrev pub HashCommentsBecome : Type 0
-HashCommentsBecome = (a : List ℕ) → Becomes false true code code (tile Comment 35 a ∷ []) (tile Comment 35 (32 ∷ a) ∷ [])
+HashCommentsBecome = (a : List ℕ) → IsRewrittenTo false true code code (tile Comment 35 a ∷ []) (tile Comment 35 (32 ∷ a) ∷ [])
 
 -- a row between two tiles of one byte
 abbrev pub between : ℕ → ℕ → List Tile → List Tile
@@ -18,21 +18,21 @@ between b c ts = tile Op b [] ∷ ts ++ tile Op c [] ∷ []
 abbrev pub BracesBecome : Type 0
 BracesBecome =
     (needs stops : Bool) (ts us : List Tile) →
-    Becomes needs stops code code ts us →
-    Becomes false true code code (between 123 125 ts) (between 123 125 us)
+    IsRewrittenTo needs stops code code ts us →
+    IsRewrittenTo false true code code (between 123 125 ts) (between 123 125 us)
 
 abbrev pub BracesAreSquared : Type 0
 BracesAreSquared =
     (needs stops : Bool) (ts us : List Tile) →
-    Becomes needs stops code code ts us →
-    Becomes false true code code (between 123 125 ts) (between 91 93 us)
+    IsRewrittenTo needs stops code code ts us →
+    IsRewrittenTo false true code code (between 123 125 ts) (between 91 93 us)
 
 -- Between parentheses too.
 abbrev pub RoundsBecome : Type 0
 RoundsBecome =
     (needs stops : Bool) (ts us : List Tile) →
-    Becomes needs stops code code ts us →
-    Becomes false true code code (between 40 41 ts) (between 40 41 us)
+    IsRewrittenTo needs stops code code ts us →
+    IsRewrittenTo false true code code (between 40 41 ts) (between 40 41 us)
 
 -- whether the first tile that is neither a word nor white space is there and doesn't begin with `)`
 abbrev pub is_uncast : List Tile → Bool
@@ -46,14 +46,14 @@ RoundsComeIn =
     begins_token ts ≡ true →
     gap_behind true ts ≡ false →
     is_uncast ts ≡ true →
-    Becomes false true code code ts us →
-    Becomes false true code code ts (between 40 41 us)
+    IsRewrittenTo false true code code ts us →
+    IsRewrittenTo false true code code ts (between 40 41 us)
 
 -- A cast becomes `(float)`.
 abbrev pub CastsBecomeFloat : Type 0
 CastsBecomeFloat =
     (b : ℕ) (a : List ℕ) →
-    Becomes false true code code (tile Cast b a ∷ []) (tile Cast 40 (codes "float)") ∷ [])
+    IsRewrittenTo false true code code (tile Cast b a ∷ []) (tile Cast 40 (codes "float)") ∷ [])
 
 abbrev pub all_trivia : List Tile → Bool
 all_trivia [] = true
@@ -64,4 +64,4 @@ abbrev pub CastsBecomeNull : Type 0
 CastsBecomeNull =
     (b c : ℕ) (a e : List ℕ) (gap : List Tile) →
     all_trivia gap ≡ true →
-    Becomes false true code code (tile Cast b a ∷ gap ++ tile Variable c e ∷ []) (between 40 41 (tile Word 110 (codes "ull") ∷ []))
+    IsRewrittenTo false true code code (tile Cast b a ∷ gap ++ tile Variable c e ∷ []) (between 40 41 (tile Word 110 (codes "ull") ∷ []))

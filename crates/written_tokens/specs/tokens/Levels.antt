@@ -2,7 +2,7 @@
 use Rattle.std.specs.Prelude.{◌≡◌, ℕ, suc, Bool, true, false, List, [], ◌∷◌, ◌++◌, length}
 use Rattle.php_tree.specs.declared.version.Version.{Version}
 use Rattle.php_spellings.specs.declared.table.Kind.{Kind}
-use Rattle.php_lexer.specs.Modes.{Mode, html, code, named, quoted, offset, property, stay, enter, leave, turn_of, IsLongest}
+use Rattle.php_lexer.specs.Modes.{Mode, html, code, named, quoted, offset, property, stay, enter, leave, mode_step_of, IsLongest}
 use Rattle.php_lexer.specs.Lexed.{Stack}
 use Rattle.php_relexing.specs.Tiles.{Tile, tile, joined}
 use Rattle.php_relexing.specs.Passes.{Pass}
@@ -25,17 +25,17 @@ pub data Level : Version → List ℕ → Mode → List Tile → Mode → Type 0
   flat :
       {v : Version} {rest : List ℕ} {m n : Mode} (to : Mode) (kind : Kind) (b : ℕ) (a : List ℕ) (ts : List Tile) →
       Comes v rest m (tile kind b a) ts →
-      turn_of v m kind (b ∷ a) (joined ts ++ rest) ≡ stay to →
+      mode_step_of v m kind (b ∷ a) (joined ts ++ rest) ≡ stay to →
       Level v rest to ts n →
       Level v rest m (tile kind b a ∷ ts) n
   deep :
       {v : Version} {rest : List ℕ} {m n : Mode} (up under low : Mode) (kind : Kind) (b : ℕ) (a : List ℕ) (ts : List Tile)
       (k : Kind) (c : ℕ) (e : List ℕ) (us : List Tile) →
       Comes v rest m (tile kind b a) (ts ++ tile k c e ∷ us) →
-      turn_of v m kind (b ∷ a) (joined (ts ++ tile k c e ∷ us) ++ rest) ≡ enter up under →
+      mode_step_of v m kind (b ∷ a) (joined (ts ++ tile k c e ∷ us) ++ rest) ≡ enter up under →
       Level v (joined (tile k c e ∷ us) ++ rest) up ts low →
       Comes v rest low (tile k c e) us →
-      turn_of v low k (c ∷ e) (joined us ++ rest) ≡ leave →
+      mode_step_of v low k (c ∷ e) (joined us ++ rest) ≡ leave →
       is_quoted up ≡ is_quoted low →
       Level v rest under us n →
       Level v rest m (tile kind b a ∷ ts ++ tile k c e ∷ us) n

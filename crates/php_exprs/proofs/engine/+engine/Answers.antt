@@ -48,8 +48,8 @@ use Rattle.php_exprs.proofs.Steps.{
   walked_more,
   walked_fails,
   walked_ends,
-  turned_first,
-  turned_ends,
+  repeated_first,
+  repeated_ends,
   inner_none,
   inner_is,
   node_none,
@@ -67,8 +67,8 @@ use Rattle.php_exprs.proofs.Steps.{
   extends_within,
   drop_past,
   stays_none,
-  turned_breaks,
-  turned_on,
+  repeated_breaks,
+  repeated_on,
   fewer,
   tail_with,
 }
@@ -137,9 +137,9 @@ one_item-returns-in-Part t c =
     (inner_at (php c.args.version) c.args.limit c.args.nesting js (behind all c.args.row.now))) is
     c.inner.ensures)
 
-pub one_item-returns-in-Turns : goal.one_item-returns-in-Turns
+pub one_item-returns-in-Repeats : goal.one_item-returns-in-Repeats
 unfolding item_at
-one_item-returns-in-Turns t c = rw c.in-Turns.is c.turns.ensures
+one_item-returns-in-Repeats t c = rw c.in-Repeats.is c.repeats.ensures
 
 pub one_item-returns-in-Span : goal.one_item-returns-in-Span
 unfolding item_at run_read
@@ -174,18 +174,18 @@ pub inner-returns : goal.inner-returns
 inner-returns t c = rw (inner_is (php c.args.version) c.args.limit c.args.nesting (c.args.nesting - 1) c.args.form.now
     (behind (tokens_in c.args.tokens) c.args.row.now) (omega arith)) c.items.ensures
 
-pub turns-loop-form-init : goal.turns-loop-form-init
-turns-loop-form-init t c = turned_first c.args.version (tokens_in c.args.tokens) c.args.limit c.args.nesting c.args.group (c.args.row.now, c.args.reach.now) c.requires.within
+pub repeats-loop-form-init : goal.repeats-loop-form-init
+repeats-loop-form-init t c = repeated_first c.args.version (tokens_in c.args.tokens) c.args.limit c.args.nesting c.args.group (c.args.row.now, c.args.reach.now) c.requires.within
 
-pub turns-returns-then-is_empty : goal.turns-returns-then-is_empty
-turns-returns-then-is_empty t c =
+pub repeats-returns-then-is_empty : goal.repeats-returns-then-is_empty
+repeats-returns-then-is_empty t c =
     let e : parts c.args.version c.args.group (tokens_in c.rest.result) ≡ [] = grind (arith, common_steps) in
-    turned_ends c.args.version (tokens_in c.args.tokens) c.args.limit c.args.nesting c.args.group
+    repeated_ends c.args.version (tokens_in c.args.tokens) c.args.limit c.args.nesting c.args.group
     (c.args.row.now, c.args.reach.now) (c.loop-form.row, c.loop-form.reach)
     (ap (parts c.args.version c.args.group) (sym c.rest.ensures.rest) ∙ e) c.loop-form.invariant
 
-pub turns-returns-in_err-inner : goal.turns-returns-in_err-inner
-turns-returns-in_err-inner t c =
+pub repeats-returns-in_err-inner : goal.repeats-returns-in_err-inner
+repeats-returns-in_err-inner t c =
     let p = err_from_is_err_and c.from_residual.result c.from_residual.ensures.1 in
     let all = tokens_in c.args.tokens in
     let mid : State = (c.loop-form.row, c.loop-form.reach) in
@@ -196,11 +196,11 @@ turns-returns-in_err-inner t c =
     let x = subst (λ (js : List Item). Extends (Err c.in_err-inner.field-0.0) c.args.version all mid new c.args.limit
     (inner_at (php c.args.version) c.args.limit c.args.nesting js (behind all c.loop-form.row))) is
     c.in_err-inner.ensures in
-    rw (p.1, p.2) (turned_breaks c.args.version all c.args.limit c.args.nesting c.args.group
+    rw (p.1, p.2) (repeated_breaks c.args.version all c.args.limit c.args.nesting c.args.group
     (c.args.row.now, c.args.reach.now) mid new c.in_err-inner.field-0.0 has x c.loop-form.invariant)
 
-pub turns-returns-then-at-before : goal.turns-returns-then-at-before
-turns-returns-then-at-before t c =
+pub repeats-returns-then-at-before : goal.repeats-returns-then-at-before
+repeats-returns-then-at-before t c =
     let all = tokens_in c.args.tokens in
     let mid : State = (c.loop-form.row, c.loop-form.reach) in
     let new : State = (c.inner.new.row, c.inner.new.reach) in
@@ -212,8 +212,8 @@ turns-returns-then-at-before t c =
     c.in_ok-inner.ensures in
     stays_none c.args.version all c.args.limit c.args.nesting c.args.group (c.args.row.now, c.args.reach.now) mid new _ has refl x (omega arith) c.loop-form.invariant
 
-pub turns-loop-form-preserved : goal.turns-loop-form-preserved
-turns-loop-form-preserved t c =
+pub repeats-loop-form-preserved : goal.repeats-loop-form-preserved
+repeats-loop-form-preserved t c =
     let all = tokens_in c.args.tokens in
     let mid : State = (c.loop-form.row, c.loop-form.reach) in
     let new : State = (c.inner.new.row, c.inner.new.reach) in
@@ -223,7 +223,7 @@ turns-loop-form-preserved t c =
     let x = subst (λ (js : List Item). Extends (Ok tt) c.args.version all mid new c.args.limit
     (inner_at (php c.args.version) c.args.limit c.args.nesting js (behind all c.loop-form.row))) is
     c.in_ok-inner.ensures in
-    turned_on c.args.version all c.args.limit c.args.nesting c.args.group (c.args.row.now, c.args.reach.now) mid new has x (omega arith) c.loop-form.invariant
+    repeated_on c.args.version all c.args.limit c.args.nesting c.args.group (c.args.row.now, c.args.reach.now) mid new has x (omega arith) c.loop-form.invariant
 
 -- ---- nodes
 

@@ -2,10 +2,10 @@ use Rattle.std.proofs.Common.{◌≡◌, ℕ, ◌+◌, List, take, drop, Some, N
 use Rattle.php_tree.specs.declared.token.TokenKind.TheVariants.{End}
 use Rattle.php_spellings.specs.Words.{token_of}
 use Rattle.php_lexer.specs.Modes.{IsLongest, HasNone}
-use Rattle.php_lexer.specs.Views.{mode_of, token_cut, IsTurned}
+use Rattle.php_lexer.specs.Views.{mode_of, token_cut, IsStepped}
 use Rattle.php_lexer.proofs.Fronts.{front_trivia, front_token, front_ends, front_stops, front_open, meets_stop}
 use Rattle.php_lexer.proofs.MarksRead.{tokens_in, cut_is, one_more, all_more}
-use Rattle.php_lexer.proofs.TurnLemmas.{stayed}
+use Rattle.php_lexer.proofs.ModeStepLemmas.{stayed}
 use Rattle.php_lexer.proofs.lexer.read.Goals as goal
 use Rattle.php_lexer.proofs.lexer.read.Goals.{then-not-stays+in_ok-mode-in-Some, else-not-stays, in-None-token_kind, in-Some-token_kind+in_ok-push-in-Some-token_kind}
 
@@ -24,7 +24,7 @@ loop-at-preserved c =
     let found = subst (λ (u : List ℕ). IsLongest v (mode_of bytes c.loop-at.mode) u c.in-Some.kind c.in-Some.len) c.split_at.ensures.back c.in-Some.ensures.found in
     let text : c.split_at-in-Some.result.0.now ≡ take c.in-Some.len (drop c.loop-at.at bytes) =
     c.split_at-in-Some.ensures.front ∙ ap (λ (u : List ℕ). take c.in-Some.len u) c.split_at.ensures.back in
-    let moved : IsTurned v bytes c.loop-at.mode c.in-Some.kind c.loop-at.at c.in-Some.len c.loop-at.below.items
+    let moved : IsStepped v bytes c.loop-at.mode c.in-Some.kind c.loop-at.at c.in-Some.len c.loop-at.below.items
     c.if-not-stays.mode c.if-not-stays.below.items c.loop-at.opens.items c.if-not-stays.opens.items =
     elim c.if-not-stays.branch [
       | then-not-stays+in_ok-mode-in-Some w ↦ rw (w.mode-is, w.below-is, w.opens-is) w.in_ok-mode-in-Some.ensures
@@ -33,7 +33,7 @@ loop-at-preserved c =
           rw (w.mode-is, w.below-is, w.opens-is)
           (stayed v bytes c.loop-at.mode c.in-Some.kind c.loop-at.at c.in-Some.len c.loop-at.below.items
           c.loop-at.opens.items c.split_at-in-Some.result.0.now text (c.stays.ensures.mode yes)
-          (c.stays.ensures.turn yes))
+          (c.stays.ensures.mode_step yes))
     ] in
     elim c.match-token_kind.branch [
       | in-None-token_kind w ↦
@@ -42,7 +42,7 @@ loop-at-preserved c =
           rw (w.marks-is, w.lead-is) (
             front_trivia v bytes (tokens_in bytes c.loop-at.marks.items) c.loop-at.mode
                 c.loop-at.below.items c.loop-at.opens.items c.loop-at.lead c.loop-at.at c.loop-at.invariant.0
-                c.in-Some.kind c.in-Some.len moved.turn c.if-not-stays.mode c.if-not-stays.below.items
+                c.in-Some.kind c.in-Some.len moved.mode_step c.if-not-stays.mode c.if-not-stays.below.items
                 c.if-not-stays.opens.items found moved.seen moved.after moved.noted blank,
             c.loop-at.invariant.1,
           )
@@ -56,7 +56,7 @@ loop-at-preserved c =
           rw (w.marks-is, w.lead-is) (
             front_token v bytes (tokens_in bytes c.loop-at.marks.items) c.loop-at.mode
                 c.loop-at.below.items c.loop-at.opens.items c.loop-at.lead c.loop-at.at c.loop-at.invariant.0
-                c.in-Some.kind c.in-Some.len moved.turn c.if-not-stays.mode c.if-not-stays.below.items
+                c.in-Some.kind c.in-Some.len moved.mode_step c.if-not-stays.mode c.if-not-stays.below.items
                 c.if-not-stays.opens.items found moved.seen moved.after moved.noted w.in-Some-token_kind.kind solid
                 (tokens_in bytes w.push.new.marks.items)
                 (one_more bytes c.loop-at.marks.items w.push.new.marks.items m.result

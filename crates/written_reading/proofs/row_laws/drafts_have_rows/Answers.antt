@@ -1,5 +1,5 @@
 use Rattle.written_reading.proofs.edited.Leads.{Means}
-use Rattle.written_reading.proofs.edited.TreeTurns.{Laws}
+use Rattle.written_reading.proofs.edited.TreeWrittenAs.{Laws}
 use Rattle.written_reading.proofs.edited.WholeFiles.{drafts_have_rows}
 use Rattle.written_reading.proofs.row_laws.drafts_have_rows.Goals as goal
 

@@ -19,7 +19,7 @@ use Rattle.syntax_rules.specs.HashComment.{outside, spaced, hash_comment}
 use Rattle.syntax_rules.specs.DollarBrace.{curly, dollar_name}
 use Rattle.written_tokens.specs.tokens.Written.{new_lexeme}
 use Rattle.written_tokens.specs.tokens.Levels.{stack_of}
-use Rattle.written_tokens.specs.tiles.Becomes.{Becomes, BecomesJoin}
+use Rattle.written_tokens.specs.tiles.IsRewrittenTo.{IsRewrittenTo, RewritingsJoin}
 use Rattle.written_tokens.specs.tiles.Going.{any_stops}
 use Rattle.written_tokens.specs.texts.TextRows as units
 use Rattle.written_tokens.proofs.texts.Stepping.{first}
@@ -29,7 +29,7 @@ use Rattle.rewritten_shapes.specs.paired.Tokens.{IsMark}
 use Rattle.written_reading.specs.edited.Rows.{all_clean}
 use Rattle.written_reading.proofs.edited.Spelling.{Spells, led_spells}
 use Rattle.written_reading.proofs.edited.TileFacts.{clean_append}
-use Rattle.written_reading.proofs.edited.Turns.{has_more, Turns, parted_spelled, more_behind, news_append}
+use Rattle.written_reading.proofs.edited.WrittenAs.{has_more, WrittenAs, parted_spelled, more_behind, news_append}
 use Rattle.written_reading.proofs.edited.Leads.{front_of, Means}
 use Rattle.written_reading.proofs.edited.Insides.{Inside, inside}
 use Rattle.written_reading.proofs.edited.Between.{mark_tile, mark_edge}
@@ -48,7 +48,7 @@ use Rattle.written_reading.proofs.edited.QuotedTiles.{
   named_code,
   name_front,
 }
-use Rattle.written_reading.proofs.edited.TextTurns.{TextTurn, TextTurns, as_tile, as_kind}
+use Rattle.written_reading.proofs.edited.TextWrittenAs.{TextStep, TextWrittenAs, as_tile, as_kind}
 
 -- ---- `$` at the front of tiles
 
@@ -116,7 +116,7 @@ pub record Shut (mark : Mark) (label : List ℕ) (over : List Mode) (depth : ℕ
     (u : Token) (ts : List NewToken) (tiles : List Tile) (more : List Lexeme) : Type 0 where
   pub xs : List Tile
   pub ys : List Tile
-  pub row : Becomes false (any_stops xs) code code xs ys
+  pub row : IsRewrittenTo false (any_stops xs) code code xs ys
   pub clean_row : all_clean ys ≡ true
   pub r_xs : List Tile
   pub r_ys : List Tile
@@ -135,18 +135,18 @@ pub record Shut (mark : Mark) (label : List ℕ) (over : List Mode) (depth : ℕ
       Spells us ls →
       Spells (ys ++ tile k c e ∷ us) (map new_lexeme ns ++ new_lexeme n ∷ ls)
 
-pub shut : Means → BecomesJoin → (stop starts : Bool) (u : Token) (cs : List Token) (ns : List NewToken)
-    (ss : List Token) (ts : List NewToken) → IsMark 125 u → Turns false stop cs ns → TextTurns starts ss ts
+pub shut : Means → RewritingsJoin → (stop starts : Bool) (u : Token) (cs : List Token) (ns : List NewToken)
+    (ss : List Token) (ts : List NewToken) → IsMark 125 u → WrittenAs false stop cs ns → TextWrittenAs starts ss ts
     → (mark : Mark) (label : List ℕ) (over : List Mode) (depth : ℕ) (tiles : List Tile) (more : List Lexeme)
     → has_more more ≡ true → Steps V74 (stack_of code (quoted mark label false ∷ over) depth) tiles
     → spelled [] tiles ≡ map lexeme (cs ++ u ∷ ss) ++ more → Shut mark label over depth ns starts u ts tiles more
-shut means join stop starts u cs ns ss ts mu turns texts mark label over depth tiles more m steps same =
+shut means join stop starts u cs ns ss ts mu written_as texts mark label over depth tiles more m steps same =
     let low = quoted mark label false ∷ over in
     let i : Inside ns u tiles (map lexeme ss ++ more) low depth =
-    inside means join low depth u (map lexeme ss ++ more) stop cs ns tiles (mark_edge u 125 mu) turns (more_behind ss more m) steps (same ∙ parted_spelled cs (u ∷ ss) more) in
+    inside means join low depth u (map lexeme ss ++ more) stop cs ns tiles (mark_edge u 125 mu) written_as (more_behind ss more m) steps (same ∙ parted_spelled cs (u ∷ ss) more) in
     let end : tile i.kind i.b i.a ≡ tile Op 125 [] = mark_tile u 125 mu i.kind i.b i.a i.is i.text in
     let at : Steps V74 (stack_of code low depth) (tile Op 125 [] ∷ i.rest) = subst (λ (x : Tile). Steps V74 (stack_of code low depth) (x ∷ i.rest)) end i.steps in
-    let r : TextTurn ts starts i.rest more = texts mark label false over depth i.rest more m (first (stack_of code low depth) Op 125 [] i.rest at).more i.left in
+    let r : TextStep ts starts i.rest more = texts mark label false over depth i.rest more m (first (stack_of code low depth) Op 125 [] i.rest at).more i.left in
     record {
       xs = i.xs;
       ys = i.ys;
@@ -172,11 +172,11 @@ kept_end u mu = sym (ap (λ (l : List ℕ). l ++ []) mu.text)
 
 -- ---- `{$..}`
 
-pub curly_turns : Means → BecomesJoin → (stop starts : Bool) (t u : Token) (cs : List Token) (ns : List NewToken)
+pub curly_written_as : Means → RewritingsJoin → (stop starts : Bool) (t u : Token) (cs : List Token) (ns : List NewToken)
     (ss : List Token) (ts : List NewToken) → t.kind ≡ token.CurlyOpen → IsMark 125 u → (cs ≡ [] → ⊥)
-    → (Dollar (old_front cs) → Dollar (new_front ns)) → Turns false stop cs ns → TextTurns starts ss ts
-    → TextTurns false (t ∷ (cs ++ u ∷ ss)) (hash_comment t ∷ (ns ++ hash_comment u ∷ ts))
-curly_turns means join stop starts t u cs ns ss ts is mu some dollar turns texts mark label fresh over depth tiles more m steps same =
+    → (Dollar (old_front cs) → Dollar (new_front ns)) → WrittenAs false stop cs ns → TextWrittenAs starts ss ts
+    → TextWrittenAs false (t ∷ (cs ++ u ∷ ss)) (hash_comment t ∷ (ns ++ hash_comment u ∷ ts))
+curly_written_as means join stop starts t u cs ns ss ts is mu some dollar written_as texts mark label fresh over depth tiles more m steps same =
     let stack = stack_of (quoted mark label fresh) over depth in
     let left = map lexeme (cs ++ u ∷ ss) ++ more in
     let n : Next t tiles left = next_of means.front stack (quoted_bare mark label fresh) t tiles left (more_behind (cs ++ u ∷ ss) more m) steps same in
@@ -185,7 +185,7 @@ curly_turns means join stop starts t u cs ns ss ts is mu some dollar turns texts
     subst (λ (x : Kind). Steps V74 stack (tile x n.b n.a ∷ n.rest)) kind (subst (λ (l : List Tile). Steps V74 stack l) n.whole steps) in
     let one : tile CurlyOpen n.b n.a ≡ tile CurlyOpen 123 [] = curly_tile mark label fresh n.b n.a (joined n.rest) (first stack CurlyOpen n.b n.a n.rest there).longest in
     let at = first stack CurlyOpen 123 [] n.rest (subst (λ (x : Tile). Steps V74 stack (x ∷ n.rest)) one there) in
-    let s : Shut mark label over depth ns starts u ts n.rest more = shut means join stop starts u cs ns ss ts mu turns texts mark label over depth n.rest more m at.more n.tokens in
+    let s : Shut mark label over depth ns starts u ts n.rest more = shut means join stop starts u cs ns ss ts mu written_as texts mark label over depth n.rest more m at.more n.tokens in
     let old : Dollar (old_front cs) =
     source_dollar means.front n.rest cs (lexeme u) (map lexeme ss ++ more)
     (n.tokens ∙ parted_spelled cs (u ∷ ss) more) (curly_next mark label fresh (joined n.rest) at.longest) some in
@@ -240,11 +240,11 @@ opened front mark label fresh over depth t tiles more is m steps same =
     }
 
 -- `${name..}`
-pub named_turns : Means → BecomesJoin → (stop starts : Bool) (t v u : Token) (cs : List Token) (ns : List NewToken)
+pub named_written_as : Means → RewritingsJoin → (stop starts : Bool) (t v u : Token) (cs : List Token) (ns : List NewToken)
     (ss : List Token) (ts : List NewToken) → t.kind ≡ token.DollarBrace → v.kind ≡ token.VarName → IsMark 125 u
-    → Turns false stop cs ns → TextTurns starts ss ts → TextTurns true (t ∷ v ∷ (cs ++ u ∷ ss))
+    → WrittenAs false stop cs ns → TextWrittenAs starts ss ts → TextWrittenAs true (t ∷ v ∷ (cs ++ u ∷ ss))
     (curly (hash_comment t) ∷ dollar_name (hash_comment v) ∷ (ns ++ hash_comment u ∷ ts))
-named_turns means join stop starts t v u cs ns ss ts is name mu turns texts mark label fresh over depth tiles more m steps same =
+named_written_as means join stop starts t v u cs ns ss ts is name mu written_as texts mark label fresh over depth tiles more m steps same =
     let low = quoted mark label false ∷ over in
     let left = map lexeme (cs ++ u ∷ ss) ++ more in
     let o : Opened mark label over depth t tiles (lexeme v ∷ left) = opened means.front mark label fresh over depth t tiles (lexeme v ∷ left) is refl steps same in
@@ -254,7 +254,7 @@ named_turns means join stop starts t v u cs ns ss ts is name mu turns texts mark
     subst (λ (x : Kind). Steps V74 (stack_of named low depth) (tile x n.b n.a ∷ n.rest)) kind
     (subst (λ (l : List Tile). Steps V74 (stack_of named low depth) l) n.whole o.behind) in
     let s : Shut mark label over depth ns starts u ts n.rest more =
-    shut means join stop starts u cs ns ss ts mu turns texts mark label over depth n.rest more m (first (stack_of named low depth) VarName n.b n.a n.rest there).more n.tokens in
+    shut means join stop starts u cs ns ss ts mu written_as texts mark label over depth n.rest more m (first (stack_of named low depth) VarName n.b n.a n.rest there).more n.tokens in
     let p : Next v o.rest left = as_kind VarName v o.rest left n kind in
     let text : 36 ∷ n.b ∷ n.a ≡ after (dollar_name (hash_comment v)).text =
     ap (λ (l : List ℕ). 36 ∷ l) (n.text ∙ sym (append-nil v.text)) ∙ ap (λ (l : List ℕ). 36 ∷ after (spaced outside l ++ kept v.text ∷ [])) (sym n.lead) in
@@ -289,18 +289,18 @@ other_first tiles [] u more h op same = no_name_first tiles (lexeme u) more same
 other_first tiles (c ∷ cs) u more h op same = no_name_first tiles (lexeme c) (map lexeme cs ++ lexeme u ∷ more) same (not-true (is_name_kind c.kind) h)
 
 -- `${..}`
-pub row_turns : Means → BecomesJoin → (stop starts : Bool) (t u : Token) (cs : List Token) (ns : List NewToken)
+pub row_written_as : Means → RewritingsJoin → (stop starts : Bool) (t u : Token) (cs : List Token) (ns : List NewToken)
     (ss : List Token) (ts : List NewToken) → t.kind ≡ token.DollarBrace → begins_other cs ≡ true → IsMark 125 u
-    → Turns false stop cs ns → TextTurns starts ss ts → TextTurns true (t ∷ (cs ++ u ∷ ss))
+    → WrittenAs false stop cs ns → TextWrittenAs starts ss ts → TextWrittenAs true (t ∷ (cs ++ u ∷ ss))
     (curly (hash_comment t) ∷ put_also token.Op (codes "$") ∷ put_also token.Op (codes "{")
     ∷ (ns ++ retexted token.Op (codes "}") (hash_comment u) ∷ put_also token.Op (codes "}") ∷ ts))
-row_turns means join stop starts t u cs ns ss ts is other mu turns texts mark label fresh over depth tiles more m steps same =
+row_written_as means join stop starts t u cs ns ss ts is other mu written_as texts mark label fresh over depth tiles more m steps same =
     let low = quoted mark label false ∷ over in
     let left = map lexeme (cs ++ u ∷ ss) ++ more in
     let o : Opened mark label over depth t tiles left = opened means.front mark label fresh over depth t tiles left is (more_behind (cs ++ u ∷ ss) more m) steps same in
     let apart : units.begins_var_name o.rest ≡ false = other_first o.rest cs u (map lexeme ss ++ more) other mu.kind (o.tokens ∙ parted_spelled cs (u ∷ ss) more) in
     let s : Shut mark label over depth ns starts u ts o.rest more =
-    shut means join stop starts u cs ns ss ts mu turns texts mark label over depth o.rest more m (named_code low depth o.rest apart o.behind) o.tokens in
+    shut means join stop starts u cs ns ss ts mu written_as texts mark label over depth o.rest more m (named_code low depth o.rest apart o.behind) o.tokens in
     let close = retexted token.Op (codes "}") (hash_comment u) in
     let twice = tile Op 125 [] ∷ s.r_ys in
     let behind = s.ys ++ tile Op 125 [] ∷ twice in

@@ -24,11 +24,11 @@ use Rattle.written_tokens.proofs.texts.Stepping.{first}
 use Rattle.written_tokens.specs.names.Fronts.{FrontOfRow}
 use Rattle.written_reading.specs.edited.Rows.{all_clean}
 use Rattle.written_reading.proofs.edited.Spelling.{Spells, led_spells}
-use Rattle.written_reading.proofs.edited.Turns.{has_more, more_behind}
+use Rattle.written_reading.proofs.edited.WrittenAs.{has_more, more_behind}
 use Rattle.written_reading.proofs.edited.QuotedTiles.{tile_by, quoted_bare, Next, next_of, next_spells}
 
 -- The tiles of tokens of a quoted text up to its end, and what they become; `starts` tells whether `${` comes first.
-pub record TextTurn (ts : List NewToken) (starts : Bool) (tiles : List Tile) (more : List Lexeme) : Type 0 where
+pub record TextStep (ts : List NewToken) (starts : Bool) (tiles : List Tile) (more : List Lexeme) : Type 0 where
   pub xs : List Tile
   pub ys : List Tile
   pub rest : List Tile
@@ -40,13 +40,13 @@ pub record TextTurn (ts : List NewToken) (starts : Bool) (tiles : List Tile) (mo
   pub clean : all_clean ys ≡ true
 
 -- The same wherever they stand in a quoted text.
-abbrev pub TextTurns : Bool → List Token → List NewToken → Type 0
-TextTurns starts ss ts =
+abbrev pub TextWrittenAs : Bool → List Token → List NewToken → Type 0
+TextWrittenAs starts ss ts =
     (mark : Mark) (label : List ℕ) (fresh : Bool) (over : List Mode) (depth : ℕ) (tiles : List Tile) (more : List Lexeme) →
     has_more more ≡ true →
     Steps V74 (stack_of (quoted mark label fresh) over depth) tiles →
     spelled [] tiles ≡ map lexeme ss ++ more →
-    TextTurn ts starts tiles more
+    TextStep ts starts tiles more
 
 abbrev tells : Token → Tile → Type 0
 tells t (tile kind b a) = (token_of kind (b ∷ a) ≡ Some t.kind) × (b ∷ a ≡ t.text)
@@ -73,8 +73,8 @@ as_kind x t tiles more n same = as_tile x n.b n.a t tiles more n (ap (λ (y : Ki
 
 -- ---- closing tokens
 
-pub end_turns : FrontOfRow → (t : Token) → t.kind ≡ token.QuotedEnd → TextTurns false (t ∷ []) (hash_comment t ∷ [])
-end_turns front t is mark label fresh over depth tiles more m steps same =
+pub end_written_as : FrontOfRow → (t : Token) → t.kind ≡ token.QuotedEnd → TextWrittenAs false (t ∷ []) (hash_comment t ∷ [])
+end_written_as front t is mark label fresh over depth tiles more m steps same =
     let at : Next t tiles more = next_of front (stack_of (quoted mark label fresh) over depth) (quoted_bare mark label fresh) t tiles more m steps same in
     let n : Next t tiles more = as_kind QuotedEnd t tiles more at (tile_by token.QuotedEnd refl at.kind (at.b ∷ at.a) t.kind is at.is) in
     let kind : at.kind ≡ QuotedEnd = tile_by token.QuotedEnd refl at.kind (at.b ∷ at.a) t.kind is at.is in
@@ -113,8 +113,8 @@ piece_by true n = escaped n
 piece_by false n = n
 
 module _ (t : Token) (is : t.kind ≡ token.Piece) (tiles : List Tile) (more : List Lexeme) (n : Next t tiles more) (kind : n.kind ≡ Piece) where
-  kept_piece : (starts : Bool) (ts : List NewToken) (rest : List Lexeme) → (r : TextTurn ts starts n.rest rest)
-      → (starts && ends_dollar false (n.b ∷ n.a)) ≡ false → TextTurn (hash_comment t ∷ ts) false tiles rest
+  kept_piece : (starts : Bool) (ts : List NewToken) (rest : List Lexeme) → (r : TextStep ts starts n.rest rest)
+      → (starts && ends_dollar false (n.b ∷ n.a)) ≡ false → TextStep (hash_comment t ∷ ts) false tiles rest
   kept_piece starts ts rest r h =
       let p : Next t tiles more = as_kind Piece t tiles more n kind in
       record {
@@ -129,9 +129,9 @@ module _ (t : Token) (is : t.kind ≡ token.Piece) (tiles : List Tile) (more : L
         clean = r.clean;
       }
 
-  escaped_piece : (ts : List NewToken) (rest : List Lexeme) → (r : TextTurn ts true n.rest rest)
+  escaped_piece : (ts : List NewToken) (rest : List Lexeme) → (r : TextStep ts true n.rest rest)
       → ends_dollar false (n.b ∷ n.a) ≡ true
-      → TextTurn (record (hash_comment t) { text = before_last (before (hash_comment t).text) } ∷ ts) false tiles rest
+      → TextStep (record (hash_comment t) { text = before_last (before (hash_comment t).text) } ∷ ts) false tiles rest
   escaped_piece ts rest r h =
       let p : Next t tiles more = as_kind Piece t tiles more n kind in
       let (c, e, parts) = escaped_parts n.b n.a in
@@ -152,22 +152,22 @@ module _ (t : Token) (is : t.kind ≡ token.Piece) (tiles : List Tile) (more : L
         clean = r.clean;
       }
 
-  piece_turn : (starts bare : Bool) (ts : List NewToken) (rest : List Lexeme)
-      → ends_bare false (before (hash_comment t).text) ≡ bare → TextTurn ts starts n.rest rest
-      → TextTurn (piece_by starts (hash_comment t) ∷ ts) false tiles rest
-  piece_turn false bare ts rest e r = kept_piece false ts rest r refl
-  piece_turn true false ts rest e r =
+  piece_written_as : (starts bare : Bool) (ts : List NewToken) (rest : List Lexeme)
+      → ends_bare false (before (hash_comment t).text) ≡ bare → TextStep ts starts n.rest rest
+      → TextStep (piece_by starts (hash_comment t) ∷ ts) false tiles rest
+  piece_written_as false bare ts rest e r = kept_piece false ts rest r refl
+  piece_written_as true false ts rest e r =
       rw e (kept_piece true ts rest r (sym (dollar_same false (n.b ∷ n.a)) ∙ ap (ends_bare false) (n.text ∙ sym (append-nil t.text)) ∙ e))
-  piece_turn true true ts rest e r =
+  piece_written_as true true ts rest e r =
       rw e (escaped_piece ts rest r (sym (dollar_same false (n.b ∷ n.a)) ∙ ap (ends_bare false) (n.text ∙ sym (append-nil t.text)) ∙ e))
 
-pub piece_turns : FrontOfRow → (starts : Bool) (t : Token) (ss : List Token) (ts : List NewToken)
-    → t.kind ≡ token.Piece → TextTurns starts ss ts → TextTurns false (t ∷ ss) (piece_by starts (hash_comment t) ∷ ts)
-piece_turns front starts t ss ts is turns mark label fresh over depth tiles more m steps same =
+pub piece_written_as : FrontOfRow → (starts : Bool) (t : Token) (ss : List Token) (ts : List NewToken)
+    → t.kind ≡ token.Piece → TextWrittenAs starts ss ts → TextWrittenAs false (t ∷ ss) (piece_by starts (hash_comment t) ∷ ts)
+piece_written_as front starts t ss ts is written_as mark label fresh over depth tiles more m steps same =
     let stack = stack_of (quoted mark label fresh) over depth in
     let n : Next t tiles (map lexeme ss ++ more) = next_of front stack (quoted_bare mark label fresh) t tiles (map lexeme ss ++ more) (more_behind ss more m) steps same in
     let kind : n.kind ≡ Piece = tile_by token.Piece refl n.kind (n.b ∷ n.a) t.kind is n.is in
     let at : Steps V74 stack (tile Piece n.b n.a ∷ n.rest) =
     subst (λ (x : Kind). Steps V74 stack (tile x n.b n.a ∷ n.rest)) kind (subst (λ (l : List Tile). Steps V74 stack l) n.whole steps) in
-    piece_turn t is tiles (map lexeme ss ++ more) n kind starts (ends_bare false (before (hash_comment t).text)) ts more refl
-    (turns mark label (ends_line (n.b ∷ n.a)) over depth n.rest more m (first stack Piece n.b n.a n.rest at).more n.tokens)
+    piece_written_as t is tiles (map lexeme ss ++ more) n kind starts (ends_bare false (before (hash_comment t).text)) ts more refl
+    (written_as mark label (ends_line (n.b ∷ n.a)) over depth n.rest more m (first stack Piece n.b n.a n.rest at).more n.tokens)

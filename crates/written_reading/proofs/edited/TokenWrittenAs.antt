@@ -9,14 +9,14 @@ use Rattle.php_lexer.specs.Modes.{is_byte, IsLongest}
 use Rattle.php_lexer.specs.Lexed.{lexeme}
 use Rattle.php_relexing.specs.Tiles.{tile, joined}
 use Rattle.syntax_rules.specs.HashComment.{hash_comment}
-use Rattle.written_tokens.specs.tiles.Goes.{stops_cast}
-use Rattle.written_tokens.specs.tiles.Becomes.{Becomes}
+use Rattle.written_tokens.specs.tiles.ContinuesAs.{stops_cast}
+use Rattle.written_tokens.specs.tiles.IsRewrittenTo.{IsRewrittenTo}
 use Rattle.written_tokens.specs.tiles.Going.{any_stops}
 use Rattle.written_tokens.specs.names.Fronts.{Front}
 use Rattle.rewritten_shapes.specs.paired.Tokens.{is_code_kind, is_op, is_mark, is_code_token}
 use Rattle.written_reading.proofs.edited.Spelling.{step_longest}
 use Rattle.written_reading.proofs.edited.TileFacts.{mode_of, leaves_html, stays_open}
-use Rattle.written_reading.proofs.edited.Turns.{Turns}
+use Rattle.written_reading.proofs.edited.WrittenAs.{WrittenAs}
 use Rattle.written_reading.proofs.edited.TileKinds.{token_like, told, is_marked, no_html, no_mark}
 use Rattle.written_reading.proofs.edited.Leads.{inner_mode, front_of, Means, steps_inner, filled_one, kept, like_clean, op_stops}
 
@@ -51,8 +51,8 @@ unmarked t p o = by_op (is_op t.kind) o (and_parts (is_code_kind t.kind) (not (i
     by_op true h q = not-true (is_marked t.text) q
     by_op false h q = absurd cc
 
-pub token_turns : Means → (h : Bool) (t : Token) → is_code_token t ≡ true → Turns h (is_op t.kind) (t ∷ []) (hash_comment t ∷ [])
-token_turns means h t p below depth tiles more m steps same =
+pub token_written_as : Means → (h : Bool) (t : Token) → is_code_token t ≡ true → WrittenAs h (is_op t.kind) (t ∷ []) (hash_comment t ∷ [])
+token_written_as means h t p below depth tiles more m steps same =
     let f : Front [] tiles (lexeme t) more = front_of means.front tiles (lexeme t) more m same in
     let behind = steps_inner means h below depth tiles (lexeme t) more f steps in
     let long : IsLongest V74 (mode_of (inner_mode h f.trivia)) (f.b ∷ f.a ++ joined f.rest) f.kind (suc (length f.a)) = step_longest behind in
@@ -67,6 +67,6 @@ token_turns means h t p below depth tiles more m steps same =
     (λ x. op_stops means f.kind (sym op ∙ x))
     (kept_open (inner_mode h f.trivia) f.kind f.b f.a (joined f.rest) marks long)
     (like_clean means f.kind f.b f.a coded)
-    (subst (λ (x : Bool). Becomes false (any_stops (tile f.kind f.b f.a ∷ [])) (mode_of (inner_mode h f.trivia)) (mode_of x) (tile f.kind f.b f.a ∷ []) (tile f.kind f.b f.a ∷ []))
+    (subst (λ (x : Bool). IsRewrittenTo false (any_stops (tile f.kind f.b f.a ∷ [])) (mode_of (inner_mode h f.trivia)) (mode_of x) (tile f.kind f.b f.a ∷ []) (tile f.kind f.b f.a ∷ []))
     (sym (told leaves_html refl refl f.kind (f.b ∷ f.a) t.kind f.is))
     (kept means (inner_mode h f.trivia) f.kind f.b f.a (joined f.rest) coded marks long))

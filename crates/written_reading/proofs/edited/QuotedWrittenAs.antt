@@ -15,8 +15,8 @@ use Rattle.php_relexing.specs.Spelled.{Steps}
 use Rattle.tracked_changes.specs.Draft.{NewToken}
 use Rattle.syntax_rules.specs.HashComment.{hash_comment}
 use Rattle.written_tokens.specs.tokens.Levels.{stack_of}
-use Rattle.written_tokens.specs.tiles.Goes.{is_trivia}
-use Rattle.written_tokens.specs.tiles.Becomes.{gap_behind, Becomes}
+use Rattle.written_tokens.specs.tiles.ContinuesAs.{is_trivia}
+use Rattle.written_tokens.specs.tiles.IsRewrittenTo.{gap_behind, IsRewrittenTo}
 use Rattle.written_tokens.specs.tiles.Going.{any_stops}
 use Rattle.written_tokens.specs.texts.TextRows.{
   TextRow,
@@ -37,11 +37,11 @@ use Rattle.rewritten_shapes.specs.paired.Tokens.{is_edge}
 use Rattle.rewritten_shapes.specs.paired.Tokens.{opens_text as opens_token}
 use Rattle.written_reading.specs.edited.Rows.{all_clean}
 use Rattle.written_reading.proofs.edited.TileFacts.{mode_of, html_behind, stays_open, gap_append, clean_append}
-use Rattle.written_reading.proofs.edited.Turns.{Filled, Turns, more_behind}
+use Rattle.written_reading.proofs.edited.WrittenAs.{Filled, WrittenAs, more_behind}
 use Rattle.written_reading.proofs.edited.TileKinds.{token_like, told}
 use Rattle.written_reading.proofs.edited.Leads.{Means}
 use Rattle.written_reading.proofs.edited.Insides.{Last, last_of}
-use Rattle.written_reading.proofs.edited.TextTurns.{TextTurn, TextTurns}
+use Rattle.written_reading.proofs.edited.TextWrittenAs.{TextStep, TextWrittenAs}
 
 -- a quoted text ends in a token
 text_ends : {xs ys : List Tile} → TextRow xs ys → (gap : Bool) → gap_behind gap xs ≡ false
@@ -108,7 +108,7 @@ module _ (means : Means) (law : TextsBecome) (h starts : Bool) (t : Token) (ss :
     (opens : opens_token t.kind ≡ true) (coded : html_behind h (t ∷ ss) ≡ false) where
   text_row : (below : List Mode) (depth : ℕ) (tiles : List Tile) (more : List Lexeme)
       → (l : Last h t tiles (map lexeme ss ++ more) below depth) → Opening l.kind l.b l.a
-      → TextTurn ts starts l.rest more → Filled h false t ss (hash_comment t ∷ ts) tiles more
+      → TextStep ts starts l.rest more → Filled h false t ss (hash_comment t ∷ ts) tiles more
   text_row below depth tiles more l o r = record {
     inner = false;
     trivia = l.xs;
@@ -140,16 +140,16 @@ module _ (means : Means) (law : TextsBecome) (h starts : Bool) (t : Token) (ss :
     clean_lead = l.clean;
     clean = opens_row l.kind l.b l.a r.ys o.clean r.clean;
     lead = l.row;
-    row = subst (λ (x : Bool). Becomes false x code (mode_of (html_behind h (t ∷ ss))) (tile l.kind l.b l.a ∷ r.xs) (tile l.kind l.b l.a ∷ r.ys)) (sym (o.stops r.xs))
-        (subst (λ (x : Bool). Becomes false true code (mode_of x) (tile l.kind l.b l.a ∷ r.xs) (tile l.kind l.b l.a ∷ r.ys)) (sym coded)
+    row = subst (λ (x : Bool). IsRewrittenTo false x code (mode_of (html_behind h (t ∷ ss))) (tile l.kind l.b l.a ∷ r.xs) (tile l.kind l.b l.a ∷ r.ys)) (sym (o.stops r.xs))
+        (subst (λ (x : Bool). IsRewrittenTo false true code (mode_of x) (tile l.kind l.b l.a ∷ r.xs) (tile l.kind l.b l.a ∷ r.ys)) (sym coded)
         (law l.kind l.b l.a r.xs r.ys o.opens r.row));
   }
 
-  pub quoted_turns : TextTurns starts ss ts → Turns h false (t ∷ ss) (hash_comment t ∷ ts)
-  quoted_turns turns below depth tiles more m steps same =
+  pub quoted_written_as : TextWrittenAs starts ss ts → WrittenAs h false (t ∷ ss) (hash_comment t ∷ ts)
+  quoted_written_as written_as below depth tiles more m steps same =
       let l : Last h t tiles (map lexeme ss ++ more) below depth =
       last_of means below depth h t tiles (map lexeme ss ++ more) (opening_edge t.kind opens) (more_behind ss more m) steps same in
       let like : opens_token (token_like l.kind) ≡ true = sym (told opens_token refl refl l.kind (l.b ∷ l.a) t.kind l.is) ∙ opens in
       let e : Entered l.kind l.b l.a l.rest below depth = entered l.kind l.b l.a l.rest below depth like l.steps in
       text_row below depth tiles more l (opening_by l.kind l.b l.a like)
-      (turns e.mark e.label e.fresh (code ∷ below) (suc depth) l.rest more m e.steps l.left)
+      (written_as e.mark e.label e.fresh (code ∷ below) (suc depth) l.rest more m e.steps l.left)

@@ -5,7 +5,7 @@ use Rattle.php_lexer.specs.Modes.{Mode}
 use Rattle.php_relexing.specs.Tiles.{Tile, tile}
 use Rattle.php_relexing.specs.Spelled.{Steps}
 use Rattle.written_tokens.specs.tokens.Levels.{stack_of}
-use Rattle.written_tokens.specs.tiles.Goes.{is_trivia, Goes}
+use Rattle.written_tokens.specs.tiles.ContinuesAs.{is_trivia, ContinuesAs}
 
 -- whether trivia stand directly behind the tiles, by whether they stand before them
 abbrev pub gap_behind : Bool → List Tile → Bool
@@ -15,12 +15,12 @@ gap_behind gap (tile kind b a ∷ ts) = gap_behind (is_trivia kind) ts
 -- From one mode to another, whatever the modes below them are: `ts` of the source become `us`, before any tiles that go on
 -- so. `needs` tells that these must be tight, `stops` that something in `ts` can't stand in a cast, so that whatever comes
 -- before them is tight.
-pub record Becomes (needs stops : Bool) (m n : Mode) (ts us : List Tile) : Type 0 where
+pub record IsRewrittenTo (needs stops : Bool) (m n : Mode) (ts us : List Tile) : Type 0 where
   -- the written tiles go on as the source's do
   pub goes :
       (tight gap : Bool) (rest after : List Tile) →
-      Goes (tight && not stops) (gap_behind gap ts) rest after →
-      Goes tight gap (ts ++ rest) (us ++ after)
+      ContinuesAs (tight && not stops) (gap_behind gap ts) rest after →
+      ContinuesAs tight gap (ts ++ rest) (us ++ after)
   -- the source's tiles lead from the one mode to the other
   pub source :
       (below : List Mode) (depth : ℕ) (rest : List Tile) →
@@ -29,21 +29,21 @@ pub record Becomes (needs stops : Bool) (m n : Mode) (ts us : List Tile) : Type 
   -- so do the written ones
   pub written :
       (gap : Bool) (below over : List Mode) (depth deep : ℕ) (rest after : List Tile) →
-      Goes needs (gap_behind gap ts) rest after →
+      ContinuesAs needs (gap_behind gap ts) rest after →
       Steps V74 (stack_of m below depth) (ts ++ rest) →
       Steps V74 (stack_of n over deep) after →
       Steps V74 (stack_of m over deep) (us ++ after)
 
 -- Such rows join: what the first needs tight, the second stops.
-abbrev pub BecomesJoin : Type 0
-BecomesJoin =
+abbrev pub RewritingsJoin : Type 0
+RewritingsJoin =
     (needs stops need stop : Bool) (m n p : Mode) (ts us ts' us' : List Tile) →
-    Becomes needs stops m n ts us →
-    Becomes need stop n p ts' us' →
-    Becomes (need || (needs && not stop)) (stops || stop) m p (ts ++ ts') (us ++ us')
+    IsRewrittenTo needs stops m n ts us →
+    IsRewrittenTo need stop n p ts' us' →
+    IsRewrittenTo (need || (needs && not stop)) (stops || stop) m p (ts ++ ts') (us ++ us')
 
 -- Nothing becomes nothing; of a row that becomes another one, less may be said: not that it stops, or that it needs more.
-pub record BecomesLoosely : Type 0 where
-  pub nothing : (m : Mode) → Becomes false false m m [] []
-  pub unstopped : (needs stops : Bool) (m n : Mode) (ts us : List Tile) → Becomes needs true m n ts us → Becomes needs stops m n ts us
-  pub needless : (needs stops : Bool) (m n : Mode) (ts us : List Tile) → Becomes false stops m n ts us → Becomes needs stops m n ts us
+pub record IsRewrittenLoosely : Type 0 where
+  pub nothing : (m : Mode) → IsRewrittenTo false false m m [] []
+  pub unstopped : (needs stops : Bool) (m n : Mode) (ts us : List Tile) → IsRewrittenTo needs true m n ts us → IsRewrittenTo needs stops m n ts us
+  pub needless : (needs stops : Bool) (m n : Mode) (ts us : List Tile) → IsRewrittenTo false stops m n ts us → IsRewrittenTo needs stops m n ts us

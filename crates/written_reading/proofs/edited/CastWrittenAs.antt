@@ -15,14 +15,14 @@ use Rattle.tracked_changes.specs.Draft.{NewToken}
 use Rattle.syntax_rules.specs.HashComment.{outside, spaced}
 use Rattle.written_tokens.specs.tokens.Written.{new_lexeme}
 use Rattle.written_tokens.specs.tokens.Levels.{stack_of}
-use Rattle.written_tokens.specs.tiles.Becomes.{Becomes}
+use Rattle.written_tokens.specs.tiles.IsRewrittenTo.{IsRewrittenTo}
 use Rattle.written_tokens.specs.tiles.Going.{any_stops}
 use Rattle.written_tokens.specs.tiles.Edits.{between, CastsBecomeFloat, CastsBecomeNull}
 use Rattle.written_tokens.specs.names.Fronts.{Front}
 use Rattle.rewritten_shapes.specs.paired.Tokens.{is_edge}
 use Rattle.written_reading.proofs.edited.Spelling.{Spells, step_longest, step_behind}
 use Rattle.written_reading.proofs.edited.TileFacts.{mode_of, leaves_html, stays_open, gap_append}
-use Rattle.written_reading.proofs.edited.Turns.{Filled, Turns}
+use Rattle.written_reading.proofs.edited.WrittenAs.{Filled, WrittenAs}
 use Rattle.written_reading.proofs.edited.TileKinds.{in_code, cast_tile, variable_tile}
 use Rattle.written_reading.proofs.edited.Leads.{inner_mode, front_of, Means, steps_inner, filled_one}
 use Rattle.written_reading.proofs.edited.Insides.{Last, last_of}
@@ -38,8 +38,8 @@ pub record IsFloat (t : Token) (n : NewToken) : Type 0 where
   pub kind : n.kind ≡ token.Cast
   pub text : after n.text ≡ codes "(float)"
 
-pub float_turns : Means → CastsBecomeFloat → (h : Bool) (t : Token) (n : NewToken) → t.kind ≡ token.Cast → IsFloat t n → Turns h false (t ∷ []) (n ∷ [])
-float_turns means law h t n cast new below depth tiles more m steps same =
+pub float_written_as : Means → CastsBecomeFloat → (h : Bool) (t : Token) (n : NewToken) → t.kind ≡ token.Cast → IsFloat t n → WrittenAs h false (t ∷ []) (n ∷ [])
+float_written_as means law h t n cast new below depth tiles more m steps same =
     let f : Front [] tiles (lexeme t) more = front_of means.front tiles (lexeme t) more m same in
     let long = step_longest (steps_inner means h below depth tiles (lexeme t) more f steps) in
     let coded : inner_mode h f.trivia ≡ false = in_code (inner_mode h f.trivia) f.kind f.b f.a (joined f.rest) t.kind f.is (cast_edge t cast) long in
@@ -47,11 +47,11 @@ float_turns means law h t n cast new below depth tiles more m steps same =
     filled_one means h false below depth t n tiles more steps f Cast 40 (codes "float)") new.lead
     (ap Some (sym new.kind)) (sym new.text) (λ x. absurd cc)
     (subst (λ (x : Kind). stays_open (tile x f.b f.a ∷ []) ≡ true) (sym kind) refl) refl
-    (subst (λ (x : Bool). Becomes false (any_stops (tile f.kind f.b f.a ∷ [])) (mode_of x)
+    (subst (λ (x : Bool). IsRewrittenTo false (any_stops (tile f.kind f.b f.a ∷ [])) (mode_of x)
     (mode_of (leaves_html t.kind)) (tile f.kind f.b f.a ∷ []) (tile Cast 40 (codes "float)") ∷ [])) (sym coded)
-    (subst (λ (x : TokenKind). Becomes false (any_stops (tile f.kind f.b f.a ∷ [])) code (mode_of (leaves_html x))
+    (subst (λ (x : TokenKind). IsRewrittenTo false (any_stops (tile f.kind f.b f.a ∷ [])) code (mode_of (leaves_html x))
     (tile f.kind f.b f.a ∷ []) (tile Cast 40 (codes "float)") ∷ [])) (sym cast)
-    (subst (λ (x : Kind). Becomes false (any_stops (tile x f.b f.a ∷ [])) code code (tile x f.b f.a ∷ []) (tile Cast 40 (codes "float)") ∷ [])) (sym kind) (law f.b f.a))))
+    (subst (λ (x : Kind). IsRewrittenTo false (any_stops (tile x f.b f.a ∷ [])) code code (tile x f.b f.a ∷ []) (tile Cast 40 (codes "float)") ∷ [])) (sym kind) (law f.b f.a))))
 
 -- ---- `(unset)`
 
@@ -111,15 +111,15 @@ null_row law h t v o n s below depth tiles more cast variable new l first k seco
   clean_lead = l.clean;
   clean = refl;
   lead = l.row;
-  row = subst (λ (x : TokenKind). Becomes false true code (mode_of (leaves_html x))
+  row = subst (λ (x : TokenKind). IsRewrittenTo false true code (mode_of (leaves_html x))
       (tile Cast l.b l.a ∷ k.xs ++ tile Variable k.b k.a ∷ []) (between 40 41 (tile Word 110 (codes "ull") ∷ [])))
       (sym variable)
       (law l.b k.b l.a k.a k.xs k.plain);
 }
 
-pub null_turns : Means → CastsBecomeNull → (h : Bool) (t v : Token) (o n s : NewToken) → t.kind ≡ token.Cast
-    → v.kind ≡ token.Variable → IsNull t o n s → Turns h false (t ∷ v ∷ []) (o ∷ n ∷ s ∷ [])
-null_turns means law h t v o n s cast variable new below depth tiles more m steps same =
+pub null_written_as : Means → CastsBecomeNull → (h : Bool) (t v : Token) (o n s : NewToken) → t.kind ≡ token.Cast
+    → v.kind ≡ token.Variable → IsNull t o n s → WrittenAs h false (t ∷ v ∷ []) (o ∷ n ∷ s ∷ [])
+null_written_as means law h t v o n s cast variable new below depth tiles more m steps same =
     let l : Last h t tiles (lexeme v ∷ more) below depth = last_of means below depth h t tiles (lexeme v ∷ more) (cast_edge t cast) refl steps same in
     let first : l.kind ≡ Cast = cast_tile l.kind (l.b ∷ l.a) t.kind cast l.is in
     let at : Steps V74 (stack_of code below depth) (tile Cast l.b l.a ∷ l.rest) =

@@ -3,7 +3,7 @@ use Rattle.php_spellings.specs.Bytes.{label_len}
 use Rattle.php_lexer.specs.Modes.{label_place, label_of}
 use Rattle.php_lexer.specs.Views.{cut}
 use Rattle.php_lexer.proofs.Labels.{label_is, start_is}
-use Rattle.php_lexer.proofs.modes.heredoc_turned.Goals as goal
+use Rattle.php_lexer.proofs.modes.heredoc_stepped.Goals as goal
 
 pub returns : goal.returns
 returns c =

@@ -9,8 +9,8 @@ use Rattle.php_spellings.specs.declared.table.Kind.TheVariants.{Comment, Variabl
 use Rattle.php_spellings.specs.declared.table.Mark.{Mark}
 use Rattle.php_spellings.specs.Bytes.{is_letter, begins}
 use Rattle.php_spellings.specs.Words.{token_of}
-use Rattle.php_lexer.specs.Modes.{Mode, quoted, offset, property, Turn, stay, enter, part_turn}
-use Rattle.php_lexer.specs.Lexed.{Lexeme, Stack, lexeme, turned_by}
+use Rattle.php_lexer.specs.Modes.{Mode, quoted, offset, property, ModeStep, stay, enter, part_mode_step}
+use Rattle.php_lexer.specs.Lexed.{Lexeme, Stack, lexeme, stepped_by}
 use Rattle.php_relexing.specs.Tiles.{Tile, tile, joined}
 use Rattle.php_relexing.specs.Spelled.{Steps, spelled}
 use Rattle.tracked_changes.specs.Draft.{NewToken}
@@ -25,11 +25,11 @@ use Rattle.written_tokens.proofs.texts.Units.{alone_source}
 use Rattle.written_tokens.specs.names.Fronts.{FrontOfRow}
 use Rattle.rewritten_shapes.specs.paired.Tokens.{is_op, IsMark}
 use Rattle.written_reading.specs.edited.Rows.{is_clean, all_clean}
-use Rattle.written_reading.proofs.edited.Turns.{has_more, more_behind}
+use Rattle.written_reading.proofs.edited.WrittenAs.{has_more, more_behind}
 use Rattle.written_reading.proofs.edited.TileKinds.{token_like, told, op_tile}
 use Rattle.written_reading.proofs.edited.Between.{tile_same, mark_tile}
 use Rattle.written_reading.proofs.edited.QuotedTiles.{tile_by, quoted_bare, offset_bare, property_bare, behind_bare, Next, next_of, next_spells, key_tile, offset_stays, label_tile}
-use Rattle.written_reading.proofs.edited.TextTurns.{TextTurn, TextTurns, as_tile, as_kind}
+use Rattle.written_reading.proofs.edited.TextWrittenAs.{TextStep, TextWrittenAs, as_tile, as_kind}
 
 abbrev pub is_unit_token : TokenKind → Bool
 is_unit_token token.Variable = true
@@ -54,7 +54,7 @@ pub record Named (mark : Mark) (label : List ℕ) (fresh : Bool) (over : List Mo
   pub next : Next v tiles more
   pub kind : next.kind ≡ Variable
   pub at : Steps V74 (stack_of (quoted mark label fresh) over depth) (tile Variable next.b next.a ∷ next.rest)
-  pub behind : Steps V74 (turned_by (part_turn V74 (quoted mark label false) (joined next.rest)) (stack_of (quoted mark label fresh) over depth)) next.rest
+  pub behind : Steps V74 (stepped_by (part_mode_step V74 (quoted mark label false) (joined next.rest)) (stack_of (quoted mark label fresh) over depth)) next.rest
 
 module _ (front : FrontOfRow) (mark : Mark) (label : List ℕ) (fresh : Bool) (over : List Mode) (depth : ℕ) where
   named : (v : Token) (tiles : List Tile) (more : List Lexeme) → v.kind ≡ token.Variable → has_more more ≡ true
@@ -72,7 +72,7 @@ module _ (front : FrontOfRow) (mark : Mark) (label : List ℕ) (fresh : Bool) (o
   behind_named : (v o : Token) (tiles : List Tile) (more : List Lexeme) → has_more more ≡ true
       → (n : Named mark label fresh over depth v tiles (lexeme o ∷ more)) → Next o n.next.rest more
   behind_named v o tiles more m n =
-      next_of front (turned_by (part_turn V74 (quoted mark label false) (joined n.next.rest)) (stack_of (quoted mark label fresh) over depth))
+      next_of front (stepped_by (part_mode_step V74 (quoted mark label false) (joined n.next.rest)) (stack_of (quoted mark label fresh) over depth))
       (behind_bare mark label (stack_of (quoted mark label fresh) over depth) (joined n.next.rest)) o n.next.rest more m n.behind n.next.tokens
 
   -- the steps from the variable on, where the next tile is given
@@ -86,10 +86,10 @@ module _ (front : FrontOfRow) (mark : Mark) (label : List ℕ) (fresh : Bool) (o
 
 -- ---- alone
 
-pub alone_turns : FrontOfRow → (starts : Bool) (v s : Token) (ss : List Token) (ts : List NewToken)
-    → v.kind ≡ token.Variable → is_unit_token s.kind ≡ true → TextTurns starts (s ∷ ss) ts
-    → TextTurns false (v ∷ s ∷ ss) (hash_comment v ∷ ts)
-alone_turns front starts v s ss ts is unit turns mark label fresh over depth tiles more m steps same =
+pub alone_written_as : FrontOfRow → (starts : Bool) (v s : Token) (ss : List Token) (ts : List NewToken)
+    → v.kind ≡ token.Variable → is_unit_token s.kind ≡ true → TextWrittenAs starts (s ∷ ss) ts
+    → TextWrittenAs false (v ∷ s ∷ ss) (hash_comment v ∷ ts)
+alone_written_as front starts v s ss ts is unit written_as mark label fresh over depth tiles more m steps same =
     let n : Named mark label fresh over depth v tiles (map lexeme (s ∷ ss) ++ more) =
     named front mark label fresh over depth v tiles (map lexeme (s ∷ ss) ++ more) is refl steps same in
     let k : Next s n.next.rest (map lexeme ss ++ more) = behind_named front mark label fresh over depth v s tiles (map lexeme ss ++ more) (more_behind ss more m) n in
@@ -102,7 +102,7 @@ alone_turns front starts v s ss ts is unit turns mark label fresh over depth til
       unit = unit_like k.kind (sym (told is_unit_token refl refl k.kind (k.b ∷ k.a) s.kind k.is) ∙ unit);
     } in
     let behind = (alone_source mark label fresh over depth n.next.b n.next.a n.next.rest head n.at).more in
-    let r : TextTurn ts starts n.next.rest more = turns mark label false over depth n.next.rest more m behind n.next.tokens in
+    let r : TextStep ts starts n.next.rest more = written_as mark label false over depth n.next.rest more m behind n.next.tokens in
     let p : Next v tiles (map lexeme (s ∷ ss) ++ more) = as_kind Variable v tiles (map lexeme (s ∷ ss) ++ more) n.next n.kind in
     record {
       xs = tile Variable n.next.b n.next.a ∷ r.xs;
@@ -162,7 +162,7 @@ module _ (front : FrontOfRow) (mark : Mark) (label : List ℕ) (over : List Mode
       let plain : row.is_op n.kind ≡ false = key_tile n.kind (key_no_op (token_like n.kind) like) in
       let at : Steps V74 Off (tile n.kind n.b n.a ∷ n.rest) = subst (λ (l : List Tile). Steps V74 Off l) n.whole steps in
       let inside : Steps V74 Off n.rest =
-      subst (λ (t : Turn). Steps V74 (turned_by t Off) n.rest) (offset_stays n.kind (n.b ∷ n.a) (joined n.rest) plain) (first Off n.kind n.b n.a n.rest at).more in
+      subst (λ (t : ModeStep). Steps V74 (stepped_by t Off) n.rest) (offset_stays n.kind (n.b ∷ n.a) (joined n.rest) plain) (first Off n.kind n.b n.a n.rest at).more in
       let s : Next u n.rest more = next_of front Off offset_bare u n.rest more m inside n.tokens in
       let shut : tile s.kind s.b s.a ≡ tile Op 93 [] = mark_tile u 93 mu s.kind s.b s.a s.is s.text in
       let last : Steps V74 Off (tile Op 93 [] ∷ s.rest) =
@@ -178,17 +178,17 @@ module _ (front : FrontOfRow) (mark : Mark) (label : List ℕ) (over : List Mode
       (first (stack_of (quoted mark label fresh) over depth) Variable n.next.b n.next.a (tile Op 91 [] ∷ k.rest)
       (from_named front mark label fresh over depth v o tiles more Op 91 [] n k (mark_tile o 91 mo k.kind k.b k.a k.is k.text))).more).more
 
-pub offset_turns : FrontOfRow → (starts : Bool) (v o k u : Token) (ss : List Token) (ts : List NewToken)
-    → v.kind ≡ token.Variable → IsMark 91 o → is_key_token k.kind ≡ true → IsMark 93 u → TextTurns starts ss ts
-    → TextTurns false (v ∷ o ∷ k ∷ u ∷ ss) (hash_comment v ∷ hash_comment o ∷ hash_comment k ∷ hash_comment u ∷ ts)
-offset_turns front starts v o k u ss ts is mo key mu turns mark label fresh over depth tiles more m steps same =
+pub offset_written_as : FrontOfRow → (starts : Bool) (v o k u : Token) (ss : List Token) (ts : List NewToken)
+    → v.kind ≡ token.Variable → IsMark 91 o → is_key_token k.kind ≡ true → IsMark 93 u → TextWrittenAs starts ss ts
+    → TextWrittenAs false (v ∷ o ∷ k ∷ u ∷ ss) (hash_comment v ∷ hash_comment o ∷ hash_comment k ∷ hash_comment u ∷ ts)
+offset_written_as front starts v o k u ss ts is mo key mu written_as mark label fresh over depth tiles more m steps same =
     let left = map lexeme ss ++ more in
     let n : Named mark label fresh over depth v tiles (lexeme o ∷ lexeme k ∷ lexeme u ∷ left) =
     named front mark label fresh over depth v tiles (lexeme o ∷ lexeme k ∷ lexeme u ∷ left) is refl steps same in
     let q : Next o n.next.rest (lexeme k ∷ lexeme u ∷ left) = behind_named front mark label fresh over depth v o tiles (lexeme k ∷ lexeme u ∷ left) refl n in
     let inside = opened front mark label over depth fresh v o tiles (lexeme k ∷ lexeme u ∷ left) mo n q in
     let d : Keyed mark label over depth k u q.rest left = keyed front mark label over depth k u q.rest left key mu (more_behind ss more m) inside q.tokens in
-    let r : TextTurn ts starts d.shut.rest more = turns mark label false over depth d.shut.rest more m d.behind d.shut.tokens in
+    let r : TextStep ts starts d.shut.rest more = written_as mark label false over depth d.shut.rest more m d.behind d.shut.tokens in
     let v1 : Next v tiles (lexeme o ∷ lexeme k ∷ lexeme u ∷ left) = as_kind Variable v tiles (lexeme o ∷ lexeme k ∷ lexeme u ∷ left) n.next n.kind in
     let o1 : Next o n.next.rest (lexeme k ∷ lexeme u ∷ left) = as_tile Op 91 [] o n.next.rest (lexeme k ∷ lexeme u ∷ left) q (mark_tile o 91 mo q.kind q.b q.a q.is q.text) in
     let u1 : Next u d.key.rest left = as_tile Op 93 [] u d.key.rest left d.shut d.same in
@@ -218,11 +218,11 @@ offset_turns front starts v o k u ss ts is mo key mu turns mark label fresh over
     }
 
 -- the same with `-`
-pub minus_turns : FrontOfRow → (starts : Bool) (v o s k u : Token) (ss : List Token) (ts : List NewToken)
+pub minus_written_as : FrontOfRow → (starts : Bool) (v o s k u : Token) (ss : List Token) (ts : List NewToken)
     → v.kind ≡ token.Variable → IsMark 91 o → IsMark 45 s → is_key_token k.kind ≡ true → IsMark 93 u
-    → TextTurns starts ss ts → TextTurns false (v ∷ o ∷ s ∷ k ∷ u ∷ ss)
+    → TextWrittenAs starts ss ts → TextWrittenAs false (v ∷ o ∷ s ∷ k ∷ u ∷ ss)
     (hash_comment v ∷ hash_comment o ∷ hash_comment s ∷ hash_comment k ∷ hash_comment u ∷ ts)
-minus_turns front starts v o s k u ss ts is mo ms key mu turns mark label fresh over depth tiles more m steps same =
+minus_written_as front starts v o s k u ss ts is mo ms key mu written_as mark label fresh over depth tiles more m steps same =
     let left = map lexeme ss ++ more in
     let all = lexeme s ∷ lexeme k ∷ lexeme u ∷ left in
     let off = stack_of offset (quoted mark label false ∷ over) depth in
@@ -235,7 +235,7 @@ minus_turns front starts v o s k u ss ts is mo ms key mu turns mark label fresh 
     subst (λ (x : Tile). Steps V74 off (x ∷ w.rest)) minus (subst (λ (l : List Tile). Steps V74 off l) w.whole inside) in
     let d : Keyed mark label over depth k u w.rest left = keyed front mark label over depth k u w.rest left key mu
     (more_behind ss more m) (first off Op 45 [] w.rest at).more w.tokens in
-    let r : TextTurn ts starts d.shut.rest more = turns mark label false over depth d.shut.rest more m d.behind d.shut.tokens in
+    let r : TextStep ts starts d.shut.rest more = written_as mark label false over depth d.shut.rest more m d.behind d.shut.tokens in
     let v1 : Next v tiles (lexeme o ∷ all) = as_kind Variable v tiles (lexeme o ∷ all) n.next n.kind in
     let o1 : Next o n.next.rest all = as_tile Op 91 [] o n.next.rest all q (mark_tile o 91 mo q.kind q.b q.a q.is q.text) in
     let s1 : Next s q.rest (lexeme k ∷ lexeme u ∷ left) = as_tile Op 45 [] s q.rest (lexeme k ∷ lexeme u ∷ left) w minus in
@@ -269,7 +269,7 @@ minus_turns front starts v o s k u ss ts is mo ms key mu turns mark label fresh 
 -- ---- with a property
 
 in_property : (mark : Mark) (label : List ℕ) (fresh : Bool) (over : List Mode) (depth : ℕ) (rest : List Tile)
-    (t : Bool) → Steps V74 (turned_by (cond t (enter property (quoted mark label false))
+    (t : Bool) → Steps V74 (stepped_by (cond t (enter property (quoted mark label false))
     (stay (quoted mark label false))) (stack_of (quoted mark label fresh) over depth)) (tile Op 45 (62 ∷ []) ∷ rest)
     → Steps V74 (stack_of property (quoted mark label false ∷ over) depth) (tile Op 45 (62 ∷ []) ∷ rest)
 in_property mark label fresh over depth rest true h = h
@@ -282,11 +282,11 @@ arrow_tile : (o : Token) → o.kind ≡ token.Op → o.text ≡ 45 ∷ 62 ∷ []
 arrow_tile o is same kind b a k h =
     ap (λ (x : Kind). tile x b a) (op_tile kind (b ∷ a) o.kind is k) ∙ tile_same Op b a 45 (62 ∷ []) (h ∙ same)
 
-pub property_turns : FrontOfRow → (starts : Bool) (v o u : Token) (ss : List Token) (ts : List NewToken)
+pub property_written_as : FrontOfRow → (starts : Bool) (v o u : Token) (ss : List Token) (ts : List NewToken)
     → v.kind ≡ token.Variable → o.kind ≡ token.Op → o.text ≡ 45 ∷ 62 ∷ [] → u.kind ≡ token.Label
-    → TextTurns starts ss ts → TextTurns false (v ∷ o ∷ u ∷ ss)
+    → TextWrittenAs starts ss ts → TextWrittenAs false (v ∷ o ∷ u ∷ ss)
     (hash_comment v ∷ hash_comment o ∷ hash_comment u ∷ ts)
-property_turns front starts v o u ss ts is op arrow word turns mark label fresh over depth tiles more m steps same =
+property_written_as front starts v o u ss ts is op arrow word written_as mark label fresh over depth tiles more m steps same =
     let left = map lexeme ss ++ more in
     let prop = stack_of property (quoted mark label false ∷ over) depth in
     let n : Named mark label fresh over depth v tiles (lexeme o ∷ lexeme u ∷ left) =
@@ -301,7 +301,7 @@ property_turns front starts v o u ss ts is op arrow word turns mark label fresh 
     let at : Steps V74 prop (tile w.kind w.b w.a ∷ w.rest) = subst (λ (l : List Tile). Steps V74 prop l) w.whole next in
     let kind : w.kind ≡ Label = label_tile w.kind w.b w.a (joined w.rest) u.kind word w.is (first prop w.kind w.b w.a w.rest at).longest in
     let last : Steps V74 prop (tile Label w.b w.a ∷ w.rest) = subst (λ (x : Kind). Steps V74 prop (tile x w.b w.a ∷ w.rest)) kind at in
-    let r : TextTurn ts starts w.rest more = turns mark label false over depth w.rest more m (first prop Label w.b w.a w.rest last).more w.tokens in
+    let r : TextStep ts starts w.rest more = written_as mark label false over depth w.rest more m (first prop Label w.b w.a w.rest last).more w.tokens in
     let v1 : Next v tiles (lexeme o ∷ lexeme u ∷ left) = as_kind Variable v tiles (lexeme o ∷ lexeme u ∷ left) n.next n.kind in
     let o1 : Next o n.next.rest (lexeme u ∷ left) = as_tile Op 45 (62 ∷ []) o n.next.rest (lexeme u ∷ left) q mark_is in
     let u1 : Next u q.rest left = as_kind Label u q.rest left w kind in

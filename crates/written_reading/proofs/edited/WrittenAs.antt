@@ -12,8 +12,8 @@ use Rattle.tracked_changes.specs.Pieces.{after}
 use Rattle.tracked_changes.specs.Draft.{NewToken}
 use Rattle.written_tokens.specs.tokens.Written.{new_lexeme}
 use Rattle.written_tokens.specs.tokens.Levels.{stack_of}
-use Rattle.written_tokens.specs.tiles.Goes.{is_trivia}
-use Rattle.written_tokens.specs.tiles.Becomes.{gap_behind, Becomes, BecomesJoin}
+use Rattle.written_tokens.specs.tiles.ContinuesAs.{is_trivia}
+use Rattle.written_tokens.specs.tiles.IsRewrittenTo.{gap_behind, IsRewrittenTo, RewritingsJoin}
 use Rattle.written_tokens.specs.tiles.Going.{any_stops}
 use Rattle.written_tokens.specs.tiles.Edits.{all_trivia}
 use Rattle.written_reading.specs.edited.Rows.{all_clean}
@@ -57,8 +57,8 @@ pub record Filled (h stop : Bool) (s : Token) (ss : List Token) (ts : List NewTo
   pub clean_lead : all_clean spaced ≡ true
   pub clean : all_clean (tile k c e ∷ us) ≡ true
   -- the one becomes the other
-  pub lead : Becomes false (any_stops trivia) (mode_of h) (mode_of inner) trivia spaced
-  pub row : Becomes false (any_stops (tile kind b a ∷ body)) (mode_of inner) (mode_of (html_behind h (s ∷ ss))) (tile kind b a ∷ body) (tile k c e ∷ us)
+  pub lead : IsRewrittenTo false (any_stops trivia) (mode_of h) (mode_of inner) trivia spaced
+  pub row : IsRewrittenTo false (any_stops (tile kind b a ∷ body)) (mode_of inner) (mode_of (html_behind h (s ∷ ss))) (tile kind b a ∷ body) (tile k c e ∷ us)
 
 -- The same for any tokens. No tokens become none.
 abbrev pub Row : Bool → Bool → List Token → List NewToken → List Tile → List Lexeme → Type 0
@@ -69,10 +69,10 @@ abbrev pub has_more : List Lexeme → Bool
 has_more [] = false
 has_more (l ∷ ls) = true
 
--- Turns h stop ss ts: wherever the tokens ss stand in a row, from inline HTML or code on, their tiles become those of the
+-- WrittenAs h stop ss ts: wherever the tokens ss stand in a row, from inline HTML or code on, their tiles become those of the
 -- tokens ts; `stop` tells that one of their tiles can't stand in a cast.
-abbrev pub Turns : Bool → Bool → List Token → List NewToken → Type 0
-Turns h stop ss ts =
+abbrev pub WrittenAs : Bool → Bool → List Token → List NewToken → Type 0
+WrittenAs h stop ss ts =
     (below : List Mode) (depth : ℕ) (tiles : List Tile) (more : List Lexeme) →
     has_more more ≡ true →
     Steps V74 (stack_of (mode_of h) below depth) tiles →
@@ -117,12 +117,12 @@ either false true true d p q h = refl
 either false true false d p q h = q refl
 either false false c d p q h = absurd cc
 
-module _ (join : BecomesJoin) where
+module _ (join : RewritingsJoin) where
   -- rows that become others, one behind another
-  pub becomes_both : (m n p : Mode) (ts us ts' us' : List Tile) → Becomes false (any_stops ts) m n ts us
-      → Becomes false (any_stops ts') n p ts' us' → Becomes false (any_stops (ts ++ ts')) m p (ts ++ ts') (us ++ us')
+  pub becomes_both : (m n p : Mode) (ts us ts' us' : List Tile) → IsRewrittenTo false (any_stops ts) m n ts us
+      → IsRewrittenTo false (any_stops ts') n p ts' us' → IsRewrittenTo false (any_stops (ts ++ ts')) m p (ts ++ ts') (us ++ us')
   becomes_both m n p ts us ts' us' f g =
-      subst (λ (x : Bool). Becomes false x m p (ts ++ ts') (us ++ us')) (sym (stops_append ts ts'))
+      subst (λ (x : Bool). IsRewrittenTo false x m p (ts ++ ts') (us ++ us')) (sym (stops_append ts ts'))
       (join false (any_stops ts) false (any_stops ts') m n p ts us ts' us' f g)
 
   filled_join :
@@ -135,10 +135,10 @@ module _ (join : BecomesJoin) where
       let two = tile g.kind g.b g.a ∷ g.body in
       let new = tile f.k f.c f.e ∷ f.us in
       let newer = tile g.k g.c g.e ∷ g.us in
-      let behind : Becomes false (any_stops (g.trivia ++ two)) (mode_of (html_behind h (s ∷ ss)))
+      let behind : IsRewrittenTo false (any_stops (g.trivia ++ two)) (mode_of (html_behind h (s ∷ ss)))
       (mode_of (html_behind (html_behind h (s ∷ ss)) (t ∷ tt))) (g.trivia ++ two) (g.spaced ++ newer) =
       becomes_both (mode_of (html_behind h (s ∷ ss))) (mode_of g.inner) (mode_of (html_behind (html_behind h (s ∷ ss)) (t ∷ tt))) g.trivia g.spaced two newer g.lead g.row in
-      let all : Becomes false (any_stops (one ++ (g.trivia ++ two))) (mode_of f.inner)
+      let all : IsRewrittenTo false (any_stops (one ++ (g.trivia ++ two))) (mode_of f.inner)
       (mode_of (html_behind (html_behind h (s ∷ ss)) (t ∷ tt))) (one ++ (g.trivia ++ two))
       (new ++ (g.spaced ++ newer)) =
       becomes_both (mode_of f.inner) (mode_of (html_behind h (s ∷ ss)))
@@ -187,7 +187,7 @@ module _ (join : BecomesJoin) where
         clean_lead = f.clean_lead;
         clean = clean_append new (g.spaced ++ newer) f.clean (clean_append g.spaced newer g.clean_lead g.clean);
         lead = f.lead;
-        row = subst (λ (x : Bool). Becomes false (any_stops (one ++ (g.trivia ++ two))) (mode_of f.inner) (mode_of x) (one ++ (g.trivia ++ two)) (new ++ (g.spaced ++ newer)))
+        row = subst (λ (x : Bool). IsRewrittenTo false (any_stops (one ++ (g.trivia ++ two))) (mode_of f.inner) (mode_of x) (one ++ (g.trivia ++ two)) (new ++ (g.spaced ++ newer)))
             (sym (html_append (leaves_html s.kind) ss (t ∷ tt))) all;
       }
 
@@ -209,7 +209,7 @@ module _ (join : BecomesJoin) where
       Steps V74 (stack_of (mode_of h) below depth) tiles →
       spelled [] tiles ≡ map lexeme ss1 ++ (map lexeme ss2 ++ more) →
       Row h s1 ss1 ts1 tiles (map lexeme ss2 ++ more) →
-      Turns (html_behind h ss1) s2 ss2 ts2 →
+      WrittenAs (html_behind h ss1) s2 ss2 ts2 →
       Row h (s1 || s2) (ss1 ++ ss2) (ts1 ++ ts2) tiles more
   row_join h s1 s2 [] ss2 ts1 ts2 below depth tiles more m steps same r next =
       subst (λ (x : Bool). Row h (x || s2) ss2 (ts1 ++ ts2) tiles more) (sym r.0)
@@ -220,9 +220,9 @@ module _ (join : BecomesJoin) where
   row_join h s1 s2 (s ∷ ss1) (t ∷ ss2) ts1 ts2 below depth tiles more m steps same r next =
       filled_join h s1 s2 s t ss1 ss2 ts1 ts2 tiles more r (next below depth r.rest more m (steps_left r below depth steps) r.left)
 
-  pub turns_join : (h s1 s2 : Bool) (ss1 ss2 : List Token) (ts1 ts2 : List NewToken) → Turns h s1 ss1 ts1
-      → Turns (html_behind h ss1) s2 ss2 ts2 → Turns h (s1 || s2) (ss1 ++ ss2) (ts1 ++ ts2)
-  turns_join h s1 s2 ss1 ss2 ts1 ts2 p q below depth tiles more m steps same =
+  pub written_as_join : (h s1 s2 : Bool) (ss1 ss2 : List Token) (ts1 ts2 : List NewToken) → WrittenAs h s1 ss1 ts1
+      → WrittenAs (html_behind h ss1) s2 ss2 ts2 → WrittenAs h (s1 || s2) (ss1 ++ ss2) (ts1 ++ ts2)
+  written_as_join h s1 s2 ss1 ss2 ts1 ts2 p q below depth tiles more m steps same =
       let there : spelled [] tiles ≡ map lexeme ss1 ++ (map lexeme ss2 ++ more) = same ∙ parted_spelled ss1 ss2 more in
       row_join h s1 s2 ss1 ss2 ts1 ts2 below depth tiles more m steps there
       (p below depth tiles (map lexeme ss2 ++ more) (more_behind ss2 more m) steps there) q
@@ -264,6 +264,6 @@ unstopped_row h stop (s ∷ ss) ts tiles more r = record {
   row = r.row;
 }
 
-pub unstopped : (h stop : Bool) (ss : List Token) (ts : List NewToken) → Turns h stop ss ts → Turns h false ss ts
+pub unstopped : (h stop : Bool) (ss : List Token) (ts : List NewToken) → WrittenAs h stop ss ts → WrittenAs h false ss ts
 unstopped h stop ss ts p below depth tiles more m steps same =
     unstopped_row h stop ss ts tiles more (p below depth tiles more m steps same)

@@ -37,29 +37,29 @@ abbrev pub is_put : Bool → ℕ → Bool
 is_put tight c =
     nat_eq c 40 || nat_eq c 91 || nat_eq c 93 || nat_eq c 125 || nat_eq c 92 || nat_eq c 35 || (not tight && nat_eq c 41)
 
--- Goes tight gap ts us: the second tiles, which are written, go on as the first ones, which are the source's, up to the end
+-- ContinuesAs tight gap ts us: the second tiles, which are written, go on as the first ones, which are the source's, up to the end
 -- or what an edit puts in: an operator or a cast that begins with one of these bytes, `{$` for `${`, or a backslash before the
 -- last `$` of a piece of text. Where it is tight, no `)` is put in behind words and white space alone; in a gap, directly
 -- behind trivia, something is put in before a token alone.
-pub data Goes : Bool → Bool → List Tile → List Tile → Type 0 where
-  ended : {tight gap : Bool} → Goes tight gap [] []
+pub data ContinuesAs : Bool → Bool → List Tile → List Tile → Type 0 where
+  ended : {tight gap : Bool} → ContinuesAs tight gap [] []
   same :
       {tight gap : Bool} {ts us : List Tile} (kind : Kind) (b : ℕ) (a : List ℕ) →
-      Goes (tight && not (stops_cast kind)) (is_trivia kind) ts us →
-      Goes tight gap (tile kind b a ∷ ts) (tile kind b a ∷ us)
+      ContinuesAs (tight && not (stops_cast kind)) (is_trivia kind) ts us →
+      ContinuesAs tight gap (tile kind b a ∷ ts) (tile kind b a ∷ us)
   put :
       {tight gap : Bool} {ts us : List Tile} (kind : Kind) (c : ℕ) (e : List ℕ) →
       (is_mark kind && is_put tight c) ≡ true →
       (not gap || begins_token ts) ≡ true →
-      Goes tight gap ts (tile kind c e ∷ us)
+      ContinuesAs tight gap ts (tile kind c e ∷ us)
   hash :
       {tight gap : Bool} {ts us : List Tile} (a e : List ℕ) →
-      Goes tight gap (tile Comment 35 a ∷ ts) (tile Comment 35 e ∷ us)
+      ContinuesAs tight gap (tile Comment 35 a ∷ ts) (tile Comment 35 e ∷ us)
   brace :
       {tight gap : Bool} {ts us : List Tile} (kind : Kind) (e : List ℕ) →
-      Goes tight gap (tile DollarBrace 36 (123 ∷ []) ∷ ts) (tile CurlyOpen 123 [] ∷ tile kind 36 e ∷ us)
+      ContinuesAs tight gap (tile DollarBrace 36 (123 ∷ []) ∷ ts) (tile CurlyOpen 123 [] ∷ tile kind 36 e ∷ us)
   escaped :
       {tight gap : Bool} {ts us : List Tile} (b c : ℕ) (a e : List ℕ) →
       ends_dollar false (b ∷ a) ≡ true →
       escape_last (b ∷ a) ≡ c ∷ e →
-      Goes tight gap (tile Piece b a ∷ ts) (tile Piece c e ∷ us)
+      ContinuesAs tight gap (tile Piece b a ∷ ts) (tile Piece c e ∷ us)
