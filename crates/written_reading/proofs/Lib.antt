@@ -1,3 +1,4 @@
+pub mod drafts
 pub mod edited
 pub mod Rows
 pub mod Texts

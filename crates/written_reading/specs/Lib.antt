@@ -1,3 +1,4 @@
+pub mod drafts
 pub mod edited
 pub mod Spellings
 pub mod Laws

@@ -1,6 +1,7 @@
 //! What PHP 8.3 reads from the bytes of a file that the rules on syntax rewrote.
 #![tactic(auto)]
 
+pub mod draft_laws;
 pub mod row_laws;
 
 ghost use Rattle.written_reading.specs.Laws.{SourcesAreSpelled, NoNameIsNamespace, ShapedIsRead, RewrittenIsRead};

@@ -35,10 +35,10 @@ pub fn files_have_rows()
 {
     drafts_have_rows();
     written_tokens::token_laws::parts_have_texts();
-    written_tokens::draft_laws::names_are_within();
-    written_tokens::draft_laws::names_of_files_stay();
-    written_tokens::draft_laws::names_are_apart();
-    written_tokens::draft_laws::texts_are_safe();
+    crate::draft_laws::names_are_within();
+    crate::draft_laws::names_of_files_stay();
+    crate::draft_laws::names_are_apart();
+    crate::draft_laws::texts_are_safe();
     written_tokens::name_laws::names_are_put();
     written_tokens::name_laws::named_keeps();
     written_tokens::name_laws::rows_are_common();

@@ -1,5 +1,4 @@
 pub mod tokens
 pub mod tiles
 pub mod texts
-pub mod drafts
 pub mod names

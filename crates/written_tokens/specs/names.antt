@@ -1,3 +1,4 @@
+pub mod Neighbours
 pub mod Fronts
 pub mod Leads
 pub mod Named

@@ -2,7 +2,6 @@
 //! by text and name by name, then in 8.3. The definitions stand in `specs/`; the functions here carry their laws.
 #![tactic(auto)]
 
-pub mod draft_laws;
 pub mod name_laws;
 pub mod text_laws;
 pub mod tile_laws;

@@ -22,8 +22,9 @@ use Rattle.written_tokens.specs.names.NamesPut.{LeadsStay, NamesRow, NamesArePut
 use Rattle.written_tokens.specs.names.Apart.{are_apart, RowsAreCommon}
 use Rattle.written_tokens.proofs.names.LeadsKept.{leads_of_files_stay}
 use Rattle.rewritten_shapes.specs.paired.Traits.{PlainTraits}
-use Rattle.written_tokens.specs.drafts.Apart.{is_labelled, is_parted, is_safe, names_apart, NamesAreApart, texts_apart, TextsAreSafe}
-use Rattle.written_tokens.specs.drafts.Laws.{NamesAreWithin, NamesOfFilesStay}
+use Rattle.written_reading.specs.drafts.Apart.{names_apart, NamesAreApart, texts_apart, TextsAreSafe}
+use Rattle.written_tokens.specs.names.Neighbours.{is_labelled, is_parted, is_safe}
+use Rattle.written_reading.specs.drafts.Laws.{NamesAreWithin, NamesOfFilesStay}
 use Rattle.written_reading.specs.Laws.{RewrittenIsRead}
 use Rattle.written_reading.specs.Parted.{HasRow, RowsAreLexed}
 use Rattle.written_reading.proofs.Whole.{spelled as source_spelled}

@@ -29,7 +29,7 @@ use Rattle.syntax_rules.specs.Rewritten.{patches}
 use Rattle.written_tokens.specs.tokens.Written.{draft_tokens}
 use Rattle.written_tokens.specs.tokens.Spaced.{nameless_draft}
 use Rattle.written_tokens.proofs.tokens.Tiling.{tokens_are_tiles}
-use Rattle.written_tokens.specs.drafts.Apart.{KeywordsHaveText}
+use Rattle.written_reading.specs.drafts.Apart.{KeywordsHaveText}
 
 abbrev HasText : NewToken → Type 0
 HasText t = is_keyword t.kind ≡ true → is_empty (before t.text) ≡ false

@@ -27,7 +27,7 @@ use Rattle.written_tokens.specs.tokens.Levels.{stack_of}
 use Rattle.written_tokens.specs.tokens.Names.{begins_nullsafe}
 use Rattle.written_tokens.specs.tokens.Written.{begins_question}
 use Rattle.written_tokens.proofs.tiles.Stepping.{longest_in}
-use Rattle.written_tokens.specs.drafts.Apart.{is_variable_kind, is_safe, is_labelled, is_parted}
+use Rattle.written_tokens.specs.names.Neighbours.{is_variable_kind, is_safe, is_labelled, is_parted}
 use Rattle.written_tokens.specs.names.Apart.{are_apart}
 
 -- ---- a piece that begins with `?` holds the arrow behind it

@@ -25,7 +25,7 @@ use Rattle.written_tokens.proofs.tiles.Behind.{keyword_first}
 use Rattle.written_tokens.proofs.tiles.Stepping.{longest_in, steps_behind}
 use Rattle.written_tokens.specs.names.Leads.{is_hash, none_hash}
 use Rattle.written_tokens.specs.names.Named.{all_space, is_dollar_brace, none_dollar}
-use Rattle.written_tokens.specs.drafts.Apart.{is_variable_kind}
+use Rattle.written_tokens.specs.names.Neighbours.{is_variable_kind}
 use Rattle.written_tokens.specs.names.Apart.{are_apart, RowsAreCommon}
 use Rattle.written_tokens.proofs.names.TriviaTexts as texts
 use Rattle.written_tokens.proofs.names.NamedModes.{mode_ok, modes_ok, stack_ok, behind_ok}

@@ -6,7 +6,7 @@ use Rattle.php_relexing.specs.Tiles.{Tile}
 use Rattle.php_relexing.specs.Spelled.{Steps, spelled}
 use Rattle.written_tokens.specs.tokens.Names.{all_common}
 use Rattle.written_tokens.specs.tokens.Whole.{all_apart}
-use Rattle.written_tokens.specs.drafts.Apart.{is_labelled, is_parted, is_safe}
+use Rattle.written_tokens.specs.names.Neighbours.{is_labelled, is_parted, is_safe}
 use Rattle.written_tokens.specs.names.Leads.{none_hash}
 use Rattle.written_tokens.specs.names.Named.{none_dollar}
 

@@ -1,5 +1,0 @@
-use Rattle.written_tokens.proofs.drafts.Stays.{names_of_files_stay}
-use Rattle.written_tokens.proofs.draft_laws.names_of_files_stay.Goals as goal
-
-pub returns : goal.returns
-returns c = names_of_files_stay
