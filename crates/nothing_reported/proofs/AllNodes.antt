@@ -1,5 +1,6 @@
 -- Every node of a file.
 use Rattle.std.proofs.Common.{◌≡◌, ℕ, zero, suc, Bool, true, false, not, ◌&&◌, if◌then◌else◌, List, [], ◌∷◌, ◌++◌, Option, refl, sym, ◌∙◌, subst}
+use Rattle.std.proofs.lemmas.Bool.{or_from}
 use Rattle.php_tree.specs.declared.kind.NodeKind.{NodeKind}
 use Rattle.php_tree.specs.declared.kind.NodeKind.TheVariants as kind
 use Rattle.php_tree.specs.declared.version.Version.TheVariants.{V74}
@@ -26,7 +27,6 @@ use Rattle.rewritten_shapes.specs.Laws.{AreSpelled, NoneReported}
 use Rattle.rewritten_shapes.specs.RefusedWords as words
 use Rattle.rewritten_shapes.specs.RefusedWords.{has_refused}
 use Rattle.nothing_reported.specs.Laws.{HasNoName}
-use Rattle.nothing_reported.proofs.Fronts.{or_none}
 use Rattle.nothing_reported.proofs.OwnWords.{none_anywhere, none_before, same_keyword, same_match}
 use Rattle.nothing_reported.proofs.ClassWords.{none_in_class}
 use Rattle.nothing_reported.proofs.UsedWords.{none_used}
@@ -65,7 +65,7 @@ none_refused kind.StaticProp c at s n e = before_colon kind.StaticProp (λ s x y
 none_refused kind.StaticCall c at s n e = before_colon kind.StaticCall (λ s x y. refl) c at e
 none_refused kind.TraitUse c at s n e =
     none_before kind.TraitUse words.is_brace refl refl (λ s. s.in_braces) (λ s x y. refl)
-    (λ s x o i. or_none s.in_braces (own.is_brace x) o (sym (same_brace x) ∙ i)) (λ s o. o) c at_first at refl e
+    (λ s x o i. or_from s.in_braces (own.is_brace x) o (sym (same_brace x) ∙ i)) (λ s o. o) c at_first at refl e
 none_refused kind.Class c at s n e = none_in_class kind.Class (λ s x y. refl) c at e
 none_refused kind.Interface c at s n e = none_in_class kind.Interface (λ s x y. refl) c at e
 none_refused kind.Trait c at s n e = none_in_class kind.Trait (λ s x y. refl) c at e

@@ -1,5 +1,6 @@
 -- Words that 8.3 refuses as names of classes.
 use Rattle.std.proofs.Common.{◌≡◌, ℕ, zero, suc, Bool, true, false, ◌&&◌, ◌||◌, if◌then◌else◌, [], refl, sym, ap, ◌∙◌}
+use Rattle.std.proofs.lemmas.Bool.{or_from}
 use Rattle.php_tree.specs.declared.kind.NodeKind.{NodeKind}
 use Rattle.php_tree.specs.Tree.{Forest, none, leaf, node}
 use Rattle.php_tree.specs.Places.{behind, end_of}
@@ -12,7 +13,7 @@ use Rattle.syntax_upgrade.specs.ReservedName.{Standing, at_first, class_by, is_l
 use Rattle.nothing_reported.proofs.WholeHeads.{skipped_zero}
 use Rattle.rewritten_shapes.specs.RefusedWords as words
 use Rattle.rewritten_shapes.specs.RefusedWords.{in_class, named}
-use Rattle.nothing_reported.proofs.Fronts.{left, front_token, front_is, same_test, empty_if, or_none}
+use Rattle.nothing_reported.proofs.Fronts.{left, front_token, front_is, same_test, empty_if}
 use Rattle.nothing_reported.proofs.OwnWords.{same_keyword, same_type, word_none}
 
 same_declares : (x : Terminal) → words.declares x ≡ own.declares x
@@ -60,7 +61,7 @@ module _ (kind : NodeKind) (refused : (s : Standing) (x y : Terminal) → refuse
       let d = words.declares s.before in
       let p = empty_if (is_last h.more && refuses kind s (terminal x) (next f)) at x (refused_tokens kind (past s k) h.more (behind at x) f) e in
       ap (in_class d) (front_is x f)
-      ∙ or_none (refused_word d (terminal (front_token x f))) (in_class (words.declares (terminal (front_token x f))) (left h.more f))
+      ∙ or_from (refused_word d (terminal (front_token x f))) (in_class (words.declares (terminal (front_token x f))) (left h.more f))
       (word_none (refused_word d) x f (refuses kind s (terminal x) (next f)) p.0
       (λ r. refused_is d (terminal x)
       (ap (λ (b : Bool). own.is_keyword_now (terminal x) || (b && own.is_type_now (terminal x))) (same_declares s.before)

@@ -1,6 +1,6 @@
 -- Files in which no form is reported: no `?->` directly behind a variable in a quoted text, and no use of traits.
 use Rattle.std.proofs.Common.{◌≡◌, ℕ, zero, suc, Bool, true, false, not, ◌&&◌, ◌||◌, if◌then◌else◌, List, [], ◌∷◌, ◌++◌, refl, sym, ap, ◌∙◌, nat_eq}
-use Rattle.std.proofs.lemmas.Bool.{false≢true}
+use Rattle.std.proofs.lemmas.Bool.{false≢true, or_parts}
 use Rattle.php_spellings.specs.Bytes.{is_letter}
 use Rattle.php_tree.specs.declared.kind.NodeKind.{NodeKind}
 use Rattle.php_tree.specs.declared.kind.NodeKind.TheVariants as kind
@@ -62,16 +62,12 @@ or_none : (b : Bool) → ((b && false) || false) ≡ false
 or_none true = refl
 or_none false = refl
 
-or_both : (p q : Bool) → (p || q) ≡ false → (p ≡ false) × (q ≡ false)
-or_both true q h = absurd (false≢true (sym h))
-or_both false q h = (refl, h)
-
 -- nothing stands so behind a variable, and nothing later
 pub no_nullsafe : (b : Bool) (f : Forest) → own.has_question b f ≡ false
     → ((b && written.piece_questions f) ≡ false) × (written.has_nullsafe f ≡ false)
 no_nullsafe b none h = (and_none b, refl)
 no_nullsafe b (leaf x f) h =
-    let p = or_both (b && own.is_question x) (own.has_question false f) h in
+    let p = or_parts (b && own.is_question x) (own.has_question false f) h in
     let q : (written.is_piece x.kind && written.begins_question x.text) ≡ own.is_question x = rw (piece_is x.kind, question_is x.text) refl in
     (rw q p.0, (no_nullsafe false f p.1).1)
 no_nullsafe b (node k c f) h =

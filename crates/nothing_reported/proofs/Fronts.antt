@@ -109,7 +109,3 @@ empty_if false at x ps e = (refl, e)
 pub alone_of : (m : ℕ) (b : Bool) → (is_last m && b) ≡ false → m ≡ zero → b ≡ false
 alone_of zero b e z = e
 alone_of (suc m) b e z = absurd cc
-
-pub or_none : (a b : Bool) → a ≡ false → b ≡ false → (a || b) ≡ false
-or_none true b e d = e
-or_none false b e d = d

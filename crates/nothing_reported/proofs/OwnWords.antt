@@ -1,5 +1,6 @@
 -- Words that 8.3 refuses wherever they stand in a node, or before another token of it.
 use Rattle.std.proofs.Common.{◌≡◌, ℕ, zero, suc, Bool, true, false, not, ◌&&◌, ◌||◌, if◌then◌else◌, inl, inr, [], refl, sym, ap, ◌∙◌}
+use Rattle.std.proofs.lemmas.Bool.{or_from}
 use Rattle.php_tree.specs.declared.token.Token.{Token}
 use Rattle.php_tree.specs.declared.kind.NodeKind.{NodeKind}
 use Rattle.php_tree.specs.Tree.{Forest, none, leaf, node}
@@ -13,7 +14,7 @@ use Rattle.syntax_upgrade.specs.ReservedName.{Standing, class_by, is_last, next,
 use Rattle.nothing_reported.proofs.WholeHeads.{skipped_zero}
 use Rattle.rewritten_shapes.specs.RefusedWords as words
 use Rattle.rewritten_shapes.specs.RefusedWords.{has, has_before, named}
-use Rattle.nothing_reported.proofs.Fronts.{left, Sort, sort, front_token, front_is, alone_class, name_class, same_test, empty_if, alone_of, or_none}
+use Rattle.nothing_reported.proofs.Fronts.{left, Sort, sort, front_token, front_is, alone_class, name_class, same_test, empty_if, alone_of}
 
 -- ---- the same tests
 
@@ -54,7 +55,7 @@ module _ (kind : NodeKind) (which : Terminal → Bool) (full : which t.FullName 
       let h = head_at x f in
       let p = empty_if (is_last h.more && refuses kind s (terminal x) (next f)) at x (refused_tokens kind (past s (class_by h.more (terminal x))) h.more (behind at x) f) e in
       ap (has which) (front_is x f)
-      ∙ or_none (which (terminal (front_token x f))) (has which (left h.more f))
+      ∙ or_from (which (terminal (front_token x f))) (has which (left h.more f))
       (word_none which x f (refuses kind s (terminal x) (next f)) p.0 (refused s (terminal x) (next f)) full relative qualified)
       (has_none f h.more (past s (class_by h.more (terminal x))) (behind at x) p.1)
   has_none (node j b f) m s at e =
@@ -67,7 +68,7 @@ module _ (kind : NodeKind) (which : Terminal → Bool) (full : which t.FullName 
 
 if_before : (b k r : Bool) → (b ≡ false → k ≡ false) → (b ≡ false → r ≡ false) → (if b then false else k || r) ≡ false
 if_before true k r h g = refl
-if_before false k r h g = or_none k r (h refl) (g refl)
+if_before false k r h g = or_from k r (h refl) (g refl)
 
 and_not : (a b : Bool) → (a && not b) ≡ false → b ≡ false → a ≡ false
 and_not a true e h = absurd cc

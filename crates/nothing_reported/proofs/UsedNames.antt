@@ -1,6 +1,7 @@
 -- One token or name of a use: whether it is a word that 8.3 refuses there.
 use Rattle.std.proofs.Common.{◌≡◌, ℕ, zero, suc, Bool, true, false, not, ◌&&◌, ◌||◌, nat_eq, nat_lt, inl, inr, codes, List, [], ◌∷◌, length, slice_index, refl, sym, ap, ◌∙◌, subst}
 use Rattle.std.specs.Char.{to_ascii_lowercase}
+use Rattle.std.proofs.lemmas.Bool.{and_right, or_from}
 use Rattle.php_tree.specs.declared.token.Token.{Token}
 use Rattle.php_tree.specs.declared.token.TokenKind.{TokenKind}
 use Rattle.php_tree.specs.declared.token.TokenKind.TheVariants as token
@@ -40,7 +41,7 @@ use Rattle.rewritten_shapes.specs.RefusedWords.{in_use, in_uses, is_renamed, is_
 use Rattle.rewritten_shapes.proofs.NameParts.{cond_not}
 use Rattle.rewritten_shapes.proofs.OperatorWords.{rows_not}
 use Rattle.nothing_reported.specs.Laws.{HasNoName}
-use Rattle.nothing_reported.proofs.Fronts.{left, Sort, sort, front_token, front_is, alone_class, name_class, same_test, empty_if, alone_of, or_none}
+use Rattle.nothing_reported.proofs.Fronts.{left, Sort, sort, front_token, front_is, alone_class, name_class, same_test, empty_if, alone_of}
 use Rattle.nothing_reported.proofs.OwnWords.{same_keyword, same_type, word_none}
 use Rattle.nothing_reported.proofs.NameEnds.{Ended, ended, refused_label}
 
@@ -148,10 +149,6 @@ stays_class later u false e = absurd cc
 
 -- ---- one token or name of a use
 
-and_off : (a b : Bool) → b ≡ false → (a && b) ≡ false
-and_off true b e = e
-and_off false b e = refl
-
 or_first : (a b : Bool) → (a || b) ≡ false → a ≡ false
 or_first true b e = absurd cc
 or_first false b e = refl
@@ -164,7 +161,7 @@ type_alone : (x : Token) (f : Forest) → is_name x.kind ≡ false → (head_at 
     → own.is_type_now (terminal x) ≡ false → is_type_name (front_token x f) ≡ false
 type_alone x f k e h =
     let shown = front_token x f in
-    or_none (words.is_type_now (terminal shown)) (is_whole_name (terminal shown) && names_refused shown.text)
+    or_from (words.is_type_now (terminal shown)) (is_whole_name (terminal shown) && names_refused shown.text)
     (ap words.is_type_now (alone_class x f e) ∙ same_type (terminal x) ∙ h)
     (ap (λ (b : Bool). b && names_refused shown.text) (ap is_whole_name (alone_class x f e) ∙ no_whole x.kind x.text k))
 
@@ -172,9 +169,9 @@ type_name : (x : Token) (f : Forest) (n : ℕ) (s : Standing) (at : ℕ) → Are
     → refused_tokens kind.Use s (suc n) at f ≡ [] → s.of_class ≡ true → is_renamed (left (suc n) f) ≡ false → is_type_name (front_token x f) ≡ false
 type_name x f n s at sp nn e k raw c r =
     let shown = front_token x f in
-    or_none (words.is_type_now (terminal shown)) (is_whole_name (terminal shown) && names_refused shown.text)
+    or_from (words.is_type_now (terminal shown)) (is_whole_name (terminal shown) && names_refused shown.text)
     (name_class words.is_type_now x f k refl refl)
-    (and_off (is_whole_name (terminal shown)) (names_refused shown.text) (go (names_refused shown.text) refl))
+    (and_right (is_whole_name (terminal shown)) (names_refused shown.text) (go (names_refused shown.text) refl))
   where
     ends : Ended n f (front_token x f).text
     ends = ended x f nn n e

@@ -1,6 +1,6 @@
 -- Operators with `/` and `<`, and `?>`.
 use Rattle.std.proofs.Common.{◌≡◌, ℕ, suc, Bool, true, false, not, ◌&&◌, ◌||◌, nat_eq, List, [], ◌∷◌, ◌++◌, length, inl, inr, refl, sym, ◌∙◌, subst}
-use Rattle.std.proofs.lemmas.Bool.{eqb-true}
+use Rattle.std.proofs.lemmas.Bool.{eqb-true, not-true}
 use Rattle.php_tree.specs.declared.version.Version.{Version}
 use Rattle.php_tree.specs.declared.version.Version.TheVariants.{V74, V83}
 use Rattle.php_spellings.specs.declared.table.Kind.TheVariants.{Op, Close}
@@ -13,7 +13,6 @@ use Rattle.php_lexer.specs.Modes.{code}
 use Rattle.php_lexer.specs.Scan.{scan}
 use Rattle.php_lexer.proofs.Dispatch.{other_head}
 use Rattle.php_relexing.specs.Angles.{slash_ends, SlashesStay, less_ends, AnglesStay, close_ends, ClosingTagsStay}
-use Rattle.php_relexing.proofs.Bools.{not_it}
 use Rattle.php_relexing.proofs.Operators.{OneOf, one_of, is_op, is_close}
 use Rattle.php_relexing.proofs.Picked.{picked, meets, longest_meets}
 use Rattle.php_relexing.proofs.Scanned.{found, longest_of}
@@ -86,8 +85,8 @@ less_alone V83 (c ∷ s) h =
 at_most : (w : Version) (s : List ℕ) → less_ends (61 ∷ []) s ≡ true → scan w code (60 ∷ 61 ∷ s) ≡ found Op 2
 at_most V74 [] h = refl
 at_most V83 [] h = refl
-at_most V74 (c ∷ s) h = rw (other_head 62 c refl (not_it (nat_eq c 62) h)) refl
-at_most V83 (c ∷ s) h = rw (other_head 62 c refl (not_it (nat_eq c 62) h)) refl
+at_most V74 (c ∷ s) h = rw (other_head 62 c refl (not-true (nat_eq c 62) h)) refl
+at_most V83 (c ∷ s) h = rw (other_head 62 c refl (not-true (nat_eq c 62) h)) refl
 
 spaceship : (w : Version) (s : List ℕ) → scan w code (60 ∷ 61 ∷ 62 ∷ s) ≡ found Op 3
 spaceship V74 s = refl
@@ -167,8 +166,8 @@ close_alone V83 (c ∷ s) h = let is = or_2 (nat_eq c 10) (nat_eq c 13) h in rw 
 close_return : (w : Version) (s : List ℕ) → close_ends (13 ∷ []) s ≡ true → scan w code (63 ∷ 62 ∷ 13 ∷ s) ≡ found Close 3
 close_return V74 [] h = refl
 close_return V83 [] h = refl
-close_return V74 (c ∷ s) h = rw (other_head 10 c refl (not_it (nat_eq c 10) h)) refl
-close_return V83 (c ∷ s) h = rw (other_head 10 c refl (not_it (nat_eq c 10) h)) refl
+close_return V74 (c ∷ s) h = rw (other_head 10 c refl (not-true (nat_eq c 10) h)) refl
+close_return V83 (c ∷ s) h = rw (other_head 10 c refl (not-true (nat_eq c 10) h)) refl
 
 close_feed : (w : Version) (s : List ℕ) → scan w code (63 ∷ 62 ∷ 10 ∷ s) ≡ found Close 3
 close_feed V74 s = refl

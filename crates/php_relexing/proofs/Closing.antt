@@ -1,6 +1,6 @@
 -- A text with a closing byte goes as far whatever follows it.
 use Rattle.std.proofs.Common.{◌≡◌, ℕ, suc, ◌+◌, ◌≤◌, Bool, true, false, cond, not, ◌&&◌, ◌||◌, nat_eq, List, [], ◌∷◌, ◌++◌, length, drop, Option, Some, None, refl, sym, ◌∙◌, arith}
-use Rattle.std.proofs.lemmas.Bool.{and_parts, eqb-true}
+use Rattle.std.proofs.lemmas.Bool.{and_parts, eqb-true, not-true}
 use Rattle.php_spellings.specs.declared.table.State.{State}
 use Rattle.php_spellings.specs.declared.table.State.TheVariants.{First, Plain, Escaped}
 use Rattle.php_spellings.specs.declared.table.Until.{Until}
@@ -10,7 +10,6 @@ use Rattle.php_lexer.specs.Heredocs.{no_label}
 use Rattle.php_lexer.specs.Tails.{begins_part, bars, closes, stepped, word_alone, begins_word, begins_type, cast_words}
 use Rattle.php_lexer.specs.Scan.{until_len, add_to}
 use Rattle.php_lexer.proofs.Counts.{some_eq}
-use Rattle.php_relexing.proofs.Bools.{not_it}
 use Rattle.php_relexing.proofs.Near.{has}
 
 -- ---- one step
@@ -136,7 +135,7 @@ alone_same w h [] v v' e = absurd cc
 alone_same [] h (x ∷ a) v v' e = refl
 alone_same (c ∷ w) h (x ∷ a) v v' e =
     let (first, more) = and_parts (not (nat_eq c 41)) (no_bracket w) h in
-    alone_by c w x a v v' (not_it (nat_eq c 41) first) (alone_same w more a v v') (nat_eq x 41) refl e
+    alone_by c w x a v v' (not-true (nat_eq c 41) first) (alone_same w more a v v') (nat_eq x 41) refl e
 
 abbrev all_without : List (List ℕ) → Bool
 all_without [] = true

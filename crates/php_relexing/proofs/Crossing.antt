@@ -1,6 +1,6 @@
 -- No near token of 7.4 goes over a break.
 use Rattle.std.proofs.Common.{◌≡◌, ℕ, Bool, true, false, not, nat_eq, ◌&&◌, ◌||◌, List, [], ◌∷◌, ◌++◌, ◌⊎◌, inl, inr, None, refl, arith}
-use Rattle.std.proofs.lemmas.Bool.{and_parts}
+use Rattle.std.proofs.lemmas.Bool.{and_parts, not-true}
 use Rattle.std.proofs.lemmas.Bool.Decides.{nat_tests}
 use Rattle.php_tree.specs.declared.version.Version.TheVariants.{V74}
 use Rattle.php_spellings.specs.declared.table.Kind.{Kind}
@@ -16,7 +16,7 @@ use Rattle.php_lexer.specs.Rules.{Row, rule, is_tail, kind_by}
 use Rattle.php_lexer.specs.RulesCode.{code_rows}
 use Rattle.php_relexing.specs.Tiles.{is_far, is_near}
 use Rattle.php_relexing.specs.Alike.{breaks, is_break, is_tight}
-use Rattle.php_relexing.proofs.Bools.{not_it, and_false}
+use Rattle.php_relexing.proofs.Bools.{and_false}
 use Rattle.php_relexing.proofs.Listed.{every_is}
 use Rattle.php_relexing.proofs.Near.{GoesOn, far_lower, has, is_lettered, row_lettered, some_cross, or_left, or_right}
 use Rattle.php_relexing.proofs.Numbers.{is_number, number_cross}
@@ -64,10 +64,10 @@ code_stops c h = every_is (stops_rows (code_rows V74)) breaks refl c h
 -- ---- breaks
 
 no_label_byte : (c : ℕ) → is_break c ≡ true → is_label_byte c ≡ false
-no_label_byte c h = not_it (is_label_byte c) (every_is (λ x. not (is_label_byte x)) breaks refl c h)
+no_label_byte c h = not-true (is_label_byte c) (every_is (λ x. not (is_label_byte x)) breaks refl c h)
 
 no_letter : (c : ℕ) → is_break c ≡ true → is_letter c ≡ false
-no_letter c h = not_it (is_letter c) (every_is (λ x. not (is_letter x)) breaks refl c h)
+no_letter c h = not-true (is_letter c) (every_is (λ x. not (is_letter x)) breaks refl c h)
 
 lower_break : (x c : ℕ) → is_letter c ≡ false → nat_eq x c ≡ false → nat_eq x (lower c) ≡ false
 lower_break x c e h = grind (arith, nat_tests)
@@ -165,7 +165,7 @@ open_by false false m e = (inl refl, refl)
 pub tight_is : (b : ℕ) (bs : List ℕ) → is_tight b bs ≡ true → IsTight b bs
 tight_is b bs h =
     let (near, other) = and_parts (is_near b bs) (not (is_space b || nat_eq b 63 && begins_by 62 bs)) h in
-    let (off, solid) = open_by (is_space b) (nat_eq b 63) (begins_by 62 bs) (not_it (is_space b || nat_eq b 63 && begins_by 62 bs) other) in
+    let (off, solid) = open_by (is_space b) (nat_eq b 63) (begins_by 62 bs) (not-true (is_space b || nat_eq b 63 && begins_by 62 bs) other) in
     record { near = near; open_ = off; solid = solid }
 
 -- the first bytes of a text, which are all that is asked of it
@@ -189,7 +189,7 @@ row_cross c kind (x ∷ w) tail e h b a more rest is = by_far (is_far x) refl (i
     by_far false p false q true r k = row_closing x w b (a ++ c ∷ more) tail rest r is.off
     by_far false p false q false r k =
         let (none, stops) = and_parts (not (has c w)) (stops_tail tail) k in
-        rw (led_cross c tail e stops w (not_it (has c w) none) a more rest) (and_false (nat_eq x (lower b)))
+        rw (led_cross c tail e stops w (not-true (has c w) none) a more rest) (and_false (nat_eq x (lower b)))
 
 rows_cross : (c : ℕ) (rows : List Row) → is_break c ≡ true → stops_rows rows c ≡ true → (b : ℕ) (a more rest : List ℕ)
     → Starts b (a ++ c ∷ more) rest → kind_by [] rows (b ∷ a ++ c ∷ more) rest ≡ None

@@ -1,6 +1,6 @@
 -- The first line of a heredoc before other bytes.
 use Rattle.std.proofs.Common.{◌≡◌, ℕ, suc, ◌+◌, Bool, true, false, cond, not, ◌&&◌, ◌||◌, nat_eq, nat_lt, List, [], ◌∷◌, ◌++◌, length, Some, refl, sym, ap, ◌∙◌, subst, arith}
-use Rattle.std.proofs.lemmas.Bool.{and_parts, eqb-true}
+use Rattle.std.proofs.lemmas.Bool.{and_parts, eqb-true, not-true}
 use Rattle.std.proofs.lemmas.Bool.Decides.{nat_tests}
 use Rattle.php_tree.specs.declared.version.Version.{Version}
 use Rattle.php_tree.specs.declared.version.Version.TheVariants.{V74, V83}
@@ -36,7 +36,6 @@ use Rattle.php_lexer.specs.Shapes.{step, may_end, is_stuck, has_shape}
 use Rattle.php_lexer.specs.Modes.{code, IsLongest}
 use Rattle.php_lexer.specs.Scan.{scan, shape_len, longer}
 use Rattle.php_relexing.specs.HeredocEnds.{ends_feed, HeredocStartsStay}
-use Rattle.php_relexing.proofs.Bools.{not_it}
 use Rattle.php_relexing.proofs.HeredocFronts.{skip_by}
 use Rattle.php_relexing.proofs.Picked.{longest_meets}
 use Rattle.php_relexing.proofs.Scanned.{found, longest_of}
@@ -112,7 +111,7 @@ line_len : (spot : Spot) (fed : Bool) (a s : List ℕ) → (fed ≡ true → spo
 line_len spot fed [] s f h e = end_by spot fed s f h e
 line_len spot fed (b ∷ a) s f h e =
     let (goes, more) = and_parts (not (is_stuck (step shape.HeredocLine spot b))) (has_shape shape.HeredocLine (step shape.HeredocLine spot b) a) h in
-    let go = not_it (is_stuck (step shape.HeredocLine spot b)) goes in
+    let go = not-true (is_stuck (step shape.HeredocLine spot b)) goes in
     let one : 1 + length a ≡ suc (length a) = omega arith in
     rw (go, line_len (step shape.HeredocLine spot b) (nat_eq b 10) a s (fed_by spot b go) more e, one) refl
 

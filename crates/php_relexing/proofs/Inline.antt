@@ -28,7 +28,7 @@ use Rattle.std.proofs.Common.{
   subst,
   arith,
 }
-use Rattle.std.proofs.lemmas.Bool.{and_parts, eqb-true}
+use Rattle.std.proofs.lemmas.Bool.{and_parts, eqb-true, or_parts, not-true}
 use Rattle.std.proofs.lemmas.Bool.Decides.{nat_tests}
 use Rattle.php_tree.specs.declared.version.Version.{Version}
 use Rattle.php_spellings.specs.declared.table.Kind.{Kind}
@@ -42,7 +42,6 @@ use Rattle.php_lexer.specs.Modes.{html, IsLongest}
 use Rattle.php_lexer.specs.Scan.{scan, run_len, some_len, add_to, longer}
 use Rattle.php_lexer.proofs.Dispatch.{other_head}
 use Rattle.php_relexing.specs.Inline.{HtmlStays}
-use Rattle.php_relexing.proofs.Bools.{not_it}
 use Rattle.php_relexing.proofs.Picked.{longest_meets}
 use Rattle.php_relexing.proofs.Scanned.{found, longest_of}
 
@@ -103,11 +102,6 @@ starts_more [] c bs = refl
 starts_more (x ∷ w) c [] = refl
 starts_more (x ∷ w) c (b ∷ bs) = more_by (nat_eq x (lower b)) (starts_word (w ++ c ∷ []) bs) (starts_word w bs) (starts_word (c ∷ []) (drop (length w) bs)) (starts_more w c bs)
 
-or_false : (x y : Bool) → (x || y) ≡ false → (x ≡ false) × (y ≡ false)
-or_false true y h = absurd cc
-or_false false true h = absurd cc
-or_false false false h = (refl, refl)
-
 -- what an opening tag begins with: none of the rows of tags meets the bytes
 pub record NoTag (bs : List ℕ) : Type 0 where
   pub echo : starts_word (codes "?=") bs ≡ false
@@ -133,11 +127,11 @@ last_by bs false e f = refl
 last_by bs true e f = rw (f refl) refl
 
 behind_by : (t x y : Bool) → (t && (x || y)) ≡ false → t ≡ true → (x ≡ false) × (y ≡ false)
-behind_by t x y h e = or_false x y (rw e at h)
+behind_by t x y h e = or_parts x y (rw e at h)
 
 no_tag : (bs : List ℕ) → begins_tag bs ≡ false → NoTag bs
 no_tag bs h =
-    let (echo, php) = or_false (starts_word (codes "?=") bs) (starts_word (codes "?php") bs && (is_empty (drop 4 bs) || begins is_space (drop 4 bs))) h in
+    let (echo, php) = or_parts (starts_word (codes "?=") bs) (starts_word (codes "?php") bs && (is_empty (drop 4 bs) || begins is_space (drop 4 bs))) h in
     let behind = behind_by (starts_word (codes "?php") bs) (is_empty (drop 4 bs)) (begins is_space (drop 4 bs)) php in
     let return = one_more (codes "?php") 13 bs (starts_word (codes "?php") bs) refl (λ e. no_byte 13 (drop 4 bs) refl (behind e).1) in
     record {
@@ -175,7 +169,7 @@ inline_by : (v : Version) (b : ℕ) (bs : List ℕ) (n : ℕ) (t : Bool) → nat
 inline_by v b bs n true p h e =
     let same = eqb-true b 60 p in
     subst (λ (x : ℕ). scan v html (x ∷ bs) ≡ found InlineHtml (suc n)) (sym same)
-    (at_less v bs n (not_it (begins_tag bs) h) (subst (λ (x : ℕ). run_len Html [] First (x ∷ bs) ≡ suc n) same e))
+    (at_less v bs n (not-true (begins_tag bs) h) (subst (λ (x : ℕ). run_len Html [] First (x ∷ bs) ≡ suc n) same e))
 inline_by v b bs n false p h e = at_other v b bs n p e
 
 abbrev is_inline : Kind → Bool

@@ -34,7 +34,7 @@ use Rattle.std.proofs.Common.{
   append_assoc,
   arith,
 }
-use Rattle.std.proofs.lemmas.Bool.{cases_lt, eqb-true}
+use Rattle.std.proofs.lemmas.Bool.{cases_lt, eqb-true, not-true}
 use Rattle.std.proofs.lemmas.List.{take-append-le, length-append}
 use Rattle.std.proofs.Math.Seq.{take-append-add}
 use Rattle.php_tree.specs.declared.version.Version.{Version}
@@ -71,10 +71,6 @@ code_stops v c h = stops_by v c (bracket_is c (nat_eq c 40) (nat_eq c 41) (nat_e
 
 -- ---- a token stays where a bracket comes in further on
 
-not_not : (x : Bool) → not x ≡ true → x ≡ false
-not_not true e = absurd cc
-not_not false e = refl
-
 fst : (x y : Bool) → (x && y) ≡ true → x ≡ true
 fst true y e = refl
 fst false y e = absurd cc
@@ -84,7 +80,7 @@ snd true y e = e
 snd false y e = absurd cc
 
 near_not_far : (b : ℕ) (s : List ℕ) → is_near b s ≡ true → is_far b ≡ false
-near_not_far b s h = not_not (is_far b) (fst (not (is_far b)) (not (begins_words b) || begins (leaves_words b) s) h)
+near_not_far b s h = not-true (is_far b) (fst (not (is_far b)) (not (begins_words b) || begins (leaves_words b) s) h)
 
 -- the text of the first bytes goes on as the whole does
 goes_on : (b : ℕ) (s r : List ℕ) (k : ℕ) → is_near b s ≡ true → k ≤ length s → GoesOn b (take k (s ++ r)) (drop k (s ++ r))

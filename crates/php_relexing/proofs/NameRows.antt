@@ -27,7 +27,7 @@ use Rattle.std.proofs.Common.{
   ◌∙◌,
   arith,
 }
-use Rattle.std.proofs.lemmas.Bool.{and_parts}
+use Rattle.std.proofs.lemmas.Bool.{and_parts, not-true}
 use Rattle.std.proofs.lemmas.Bool.Decides.{nat_tests}
 use Rattle.php_spellings.specs.declared.table.Kind.TheVariants.{Word}
 use Rattle.php_spellings.specs.declared.table.State.TheVariants.{First, Plain}
@@ -64,7 +64,6 @@ use Rattle.php_lexer.specs.Scan.{scan_by, run_len, until_len, shape_len, add_to,
 use Rattle.php_lexer.specs.Letters.{letter_rows}
 use Rattle.php_lexer.proofs.Dispatch.{letter_scan}
 use Rattle.php_relexing.specs.Newer.{ends_name}
-use Rattle.php_relexing.proofs.Bools.{not_it}
 use Rattle.php_relexing.proofs.Newer.{backslash_none}
 
 -- ---- how far a name goes
@@ -72,7 +71,7 @@ use Rattle.php_relexing.proofs.Newer.{backslash_none}
 end_by : (c : ℕ) (cs : List ℕ) (x y : Bool) → is_label_byte c ≡ x → nat_eq c 92 ≡ y
     → (not x && not (y && begins is_letter cs)) ≡ true → shape_len shape.Name LaterLabel (c ∷ cs) ≡ Some 0
 end_by c cs true y p q h = absurd cc
-end_by c cs false true p q h = rw (p, q, backslash_none cs (not_it (begins is_letter cs) h)) refl
+end_by c cs false true p q h = rw (p, q, backslash_none cs (not-true (begins is_letter cs) h)) refl
 end_by c cs false false p q h = rw (p, q) refl
 
 later_end : (s : List ℕ) → ends_name s ≡ true → shape_len shape.Name LaterLabel s ≡ Some 0
@@ -106,7 +105,7 @@ name_len spot [] s h e = name_end spot s h e
 name_len spot (b ∷ t) s h e =
     let (goes, more) = and_parts (not (is_stuck (step shape.Name spot b))) (has_shape shape.Name (step shape.Name spot b) t) h in
     let one : 1 + length t ≡ suc (length t) = omega arith in
-    rw (not_it (is_stuck (step shape.Name spot b)) goes, name_len (step shape.Name spot b) t s more e, one) refl
+    rw (not-true (is_stuck (step shape.Name spot b)) goes, name_len (step shape.Name spot b) t s more e, one) refl
 
 -- ---- the rows that a letter may begin
 

@@ -1,6 +1,7 @@
 -- No token that looks near goes over a bracket, or asks what follows one.
 use Rattle.std.proofs.Common.{◌≡◌, ℕ, Bool, true, false, not, nat_eq, ◌&&◌, ◌||◌, List, [], ◌∷◌, ◌++◌, ◌⊎◌, inl, inr, None, refl, sym, ap, ◌∙◌, arith}
 use Rattle.std.proofs.lemmas.Bool.Decides.{nat_tests}
+use Rattle.std.proofs.lemmas.Bool.{not-true}
 use Rattle.php_spellings.specs.declared.table.Kind.{Kind}
 use Rattle.php_spellings.specs.declared.table.State.{State}
 use Rattle.php_spellings.specs.declared.table.State.TheVariants.{First, Plain, Escaped}
@@ -69,10 +70,6 @@ fst false y e = absurd cc
 snd : (x y : Bool) → (x && y) ≡ true → y ≡ true
 snd true y e = e
 snd false y e = absurd cc
-
-not_not : (x : Bool) → not x ≡ true → x ≡ false
-not_not true e = absurd cc
-not_not false e = refl
 
 pub or_left : (x y : Bool) → (x || y) ≡ false → x ≡ false
 or_left true y e = absurd cc
@@ -184,11 +181,11 @@ row_cross label c kind (x ∷ w) tail e h b a near more rest = by_far (is_far x)
     by_far : (t : Bool) → is_far x ≡ t → (l : Bool) → is_lettered (x ∷ w) ≡ l
         → (t || (l || not (has c w) && stops_tail tail && not (is_word_tail tail))) ≡ true
         → led lower (x ∷ w) (is_tail label tail) (b ∷ a ++ c ∷ more) rest ≡ false
-    by_far true p l q k = rw (far_lower x b p (not_not (is_far b) (fst (not (is_far b)) (not (begins_words b) || begins (leaves_words b) a) near))) refl
+    by_far true p l q k = rw (far_lower x b p (not-true (is_far b) (fst (not (is_far b)) (not (begins_words b) || begins (leaves_words b) a) near))) refl
     by_far false p true q k = row_lettered label tail x w b (a ++ c ∷ more) rest q (spread b a c more rest near)
     by_far false p false q k = rw (led_cross label c tail e (snd (not (has c w)) (stops_tail tail)
         (fst (not (has c w) && stops_tail tail) (not (is_word_tail tail)) k)) w
-        (not_not (has c w) (fst (not (has c w)) (stops_tail tail)
+        (not-true (has c w) (fst (not (has c w)) (stops_tail tail)
         (fst (not (has c w) && stops_tail tail) (not (is_word_tail tail)) k))) a more rest)
         (and_false (nat_eq x (lower b)))
 
@@ -289,7 +286,7 @@ row_blind label c kind (x ∷ w) tail h b q t u v g k = by_far (is_far x) refl (
     by_far false p false m n =
         led_blind label tail (snd (not (has c w)) (stops_tail tail)
         (fst (not (has c w) && stops_tail tail) (not (is_word_tail tail)) n))
-        (not_not (is_word_tail tail) (snd (not (has c w) && stops_tail tail) (not (is_word_tail tail)) n)) (x ∷ w)
+        (not-true (is_word_tail tail) (snd (not (has c w) && stops_tail tail) (not (is_word_tail tail)) n)) (x ∷ w)
         (b ∷ t) u v
 
 -- A text that looks near is a token or none whatever follows it.

@@ -32,7 +32,7 @@ use Rattle.std.proofs.Common.{
   subst,
   arith,
 }
-use Rattle.std.proofs.lemmas.Bool.{cases_lt, and_parts}
+use Rattle.std.proofs.lemmas.Bool.{cases_lt, and_parts, not-true}
 use Rattle.std.proofs.lemmas.List.{take-append-le, length-append}
 use Rattle.std.proofs.Math.Seq.{take-append-add}
 use Rattle.php_tree.specs.declared.version.Version.{Version}
@@ -44,7 +44,7 @@ use Rattle.php_lexer.specs.Rules.{Row, rule, is_tail, kind_by}
 use Rattle.php_lexer.specs.RulesQuoted.{offset_rows}
 use Rattle.php_lexer.specs.Modes.{offset, kind_of, IsLongest}
 use Rattle.php_relexing.specs.Offsets.{OffsetsStay}
-use Rattle.php_relexing.proofs.Bools.{not_it, and_false}
+use Rattle.php_relexing.proofs.Bools.{and_false}
 use Rattle.php_relexing.proofs.Near.{has, stops_tail, is_word_tail, tail_cross, led_cross, led_blind}
 
 -- rows that neither go over `]` behind their first byte nor ask what follows
@@ -60,11 +60,11 @@ row_blind : (kind : Kind) (w : List ℕ) (tail : Tail) → fits (rule kind w tai
     → led lower w (is_tail [] tail) text u ≡ led lower w (is_tail [] tail) text v
 row_blind kind [] tail h text u v =
     let (stops, plain) = and_parts (stops_tail tail) (not (is_word_tail tail)) h in
-    led_blind [] tail stops (not_it (is_word_tail tail) plain) [] text u v
+    led_blind [] tail stops (not-true (is_word_tail tail) plain) [] text u v
 row_blind kind (x ∷ w) tail h text u v =
     let (out, more) = and_parts (not (has 93 w)) (stops_tail tail && not (is_word_tail tail)) h in
     let (stops, plain) = and_parts (stops_tail tail) (not (is_word_tail tail)) more in
-    led_blind [] tail stops (not_it (is_word_tail tail) plain) (x ∷ w) text u v
+    led_blind [] tail stops (not-true (is_word_tail tail) plain) (x ∷ w) text u v
 
 rows_blind : (rows : List Row) → all_fit rows ≡ true → (text u v : List ℕ) → kind_by [] rows text u ≡ kind_by [] rows text v
 rows_blind [] h text u v = refl
@@ -80,7 +80,7 @@ row_cross kind [] tail h b a more rest =
 row_cross kind (x ∷ w) tail h b a more rest =
     let (out, others) = and_parts (not (has 93 w)) (stops_tail tail && not (is_word_tail tail)) h in
     let (stops, plain) = and_parts (stops_tail tail) (not (is_word_tail tail)) others in
-    rw (led_cross [] 93 tail refl stops w (not_it (has 93 w) out) a more rest) (and_false (nat_eq x (lower b)))
+    rw (led_cross [] 93 tail refl stops w (not-true (has 93 w) out) a more rest) (and_false (nat_eq x (lower b)))
 
 rows_cross : (rows : List Row) → all_fit rows ≡ true → (b : ℕ) (a more rest : List ℕ) → kind_by [] rows (b ∷ a ++ 93 ∷ more) rest ≡ None
 rows_cross [] h b a more rest = refl

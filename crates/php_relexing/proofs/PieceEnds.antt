@@ -1,6 +1,6 @@
 -- Pieces of quoted texts stay before the closing byte, and with a backslash before their last `$`.
 use Rattle.std.proofs.Common.{◌≡◌, ℕ, Bool, true, false, not, ◌&&◌, nat_eq, List, [], ◌∷◌, ◌++◌, length, refl, sym, ap, ◌∙◌, subst, append_assoc}
-use Rattle.std.proofs.lemmas.Bool.{and_parts, eqb-true}
+use Rattle.std.proofs.lemmas.Bool.{and_parts, eqb-true, not-true}
 use Rattle.php_spellings.specs.declared.table.Kind.TheVariants.{Piece}
 use Rattle.php_spellings.specs.declared.table.Mark.{Mark}
 use Rattle.php_spellings.specs.declared.table.Mark.TheVariants.{Double, Back, Here}
@@ -14,7 +14,7 @@ use Rattle.php_lexer.specs.RulesQuoted.{from_line}
 use Rattle.php_lexer.specs.Modes.{quoted, IsLongest}
 use Rattle.php_relexing.specs.Labels.{all_label, is_label}
 use Rattle.php_relexing.specs.Pieces.{part_begins, ends_dollar, escape_last, is_labelled, is_heredoc, closing, EscapedPiecesStay, PiecesStayBeforeEnds}
-use Rattle.php_relexing.proofs.Bools.{not_it, and_false}
+use Rattle.php_relexing.proofs.Bools.{and_false}
 use Rattle.php_relexing.proofs.PieceRuns.{piece_len}
 use Rattle.php_relexing.proofs.HeredocFronts.{each_end, ends_same, dollar_stops, backslash_stops, stopper_ends}
 use Rattle.php_relexing.proofs.Pieces.{state_behind, IsPiece, piece_of, piece_is, piece_some, SameEnds, LastFits, over}
@@ -74,7 +74,7 @@ bare_one : (mark : Mark) (s : State) (b : ℕ) → (not (is_escaped s) && nat_eq
 bare_one mark s b h =
     let (out, dollar) = and_parts (not (is_escaped s)) (nat_eq b 36) h in
     let is : b ≡ 36 = eqb-true b 36 dollar in
-    record { front = []; same = ap (λ (x : ℕ). x ∷ []) is; escaped = ap (λ (x : ℕ). 92 ∷ x ∷ []) is; open_ = not_it (is_escaped s) out }
+    record { front = []; same = ap (λ (x : ℕ). x ∷ []) is; escaped = ap (λ (x : ℕ). 92 ∷ x ∷ []) is; open_ = not-true (is_escaped s) out }
 
 bare_more : (mark : Mark) (s : State) (b c : ℕ) (x : List ℕ) → BareEnd mark (moved (Body mark) s b) (c ∷ x) → BareEnd mark s (b ∷ c ∷ x)
 bare_more mark s b c x is = record { front = b ∷ is.front; same = ap (λ (u : List ℕ). b ∷ u) is.same; escaped = ap (λ (u : List ℕ). b ∷ u) is.escaped; open_ = is.open_ }

@@ -1,6 +1,6 @@
 -- Pieces of quoted texts stay before parts and before the end.
 use Rattle.std.proofs.Common.{◌≡◌, ℕ, Bool, true, false, cond, not, ◌&&◌, ◌||◌, nat_eq, List, [], ◌∷◌, ◌++◌, refl, sym, ◌∙◌, subst, arith}
-use Rattle.std.proofs.lemmas.Bool.{and_parts, eqb-true}
+use Rattle.std.proofs.lemmas.Bool.{and_parts, eqb-true, not-true}
 use Rattle.std.proofs.lemmas.Bool.Decides.{nat_tests}
 use Rattle.php_spellings.specs.declared.table.Mark.{Mark}
 use Rattle.php_spellings.specs.declared.table.Mark.TheVariants.{Double, Back, Here}
@@ -13,7 +13,7 @@ use Rattle.php_lexer.specs.Tails.{begins_part, in_piece, escape, moved}
 use Rattle.php_lexer.specs.RulesQuoted.{from_line}
 use Rattle.php_relexing.specs.Labels.{all_label, is_label}
 use Rattle.php_relexing.specs.Pieces.{part_begins, ends_dollar, is_labelled, fronts, PiecesStayBeforeParts}
-use Rattle.php_relexing.proofs.Bools.{not_it, and_false}
+use Rattle.php_relexing.proofs.Bools.{and_false}
 use Rattle.php_relexing.proofs.PieceRuns.{piece_len}
 use Rattle.php_relexing.proofs.HeredocFronts.{each_end, Stopper, ends_same, dollar_stops, brace_stops}
 use Rattle.php_relexing.proofs.Pieces.{state_behind, piece_of, piece_is, piece_some, SameEnds, LastFits, over}
@@ -81,12 +81,12 @@ pub in_by : (mark : Mark) (label : List ℕ) (s : State) (b : ℕ) (u v : List �
     → (is_escaped s ≡ false → begins_part b u ≡ false → begins_part b v ≡ false) → in_piece mark label s b u ≡ true
     → in_piece mark label s b v ≡ true
 in_by mark label Escaped b u v e f h = refl
-in_by Double label First b u v e f h = let (x, y) = and_parts (not (nat_eq b 34)) (not (begins_part b u)) h in rw (x, f refl (not_it (begins_part b u) y)) refl
-in_by Double label Plain b u v e f h = let (x, y) = and_parts (not (nat_eq b 34)) (not (begins_part b u)) h in rw (x, f refl (not_it (begins_part b u) y)) refl
-in_by Back label First b u v e f h = let (x, y) = and_parts (not (nat_eq b 96)) (not (begins_part b u)) h in rw (x, f refl (not_it (begins_part b u) y)) refl
-in_by Back label Plain b u v e f h = let (x, y) = and_parts (not (nat_eq b 96)) (not (begins_part b u)) h in rw (x, f refl (not_it (begins_part b u) y)) refl
-in_by Here label First b u v e f h = let (x, y) = and_parts (not (ends_heredoc label (b ∷ u))) (not (begins_part b u)) h in rw (sym e, x, f refl (not_it (begins_part b u) y)) refl
-in_by Here label Plain b u v e f h = rw (f refl (not_it (begins_part b u) h)) refl
+in_by Double label First b u v e f h = let (x, y) = and_parts (not (nat_eq b 34)) (not (begins_part b u)) h in rw (x, f refl (not-true (begins_part b u) y)) refl
+in_by Double label Plain b u v e f h = let (x, y) = and_parts (not (nat_eq b 34)) (not (begins_part b u)) h in rw (x, f refl (not-true (begins_part b u) y)) refl
+in_by Back label First b u v e f h = let (x, y) = and_parts (not (nat_eq b 96)) (not (begins_part b u)) h in rw (x, f refl (not-true (begins_part b u) y)) refl
+in_by Back label Plain b u v e f h = let (x, y) = and_parts (not (nat_eq b 96)) (not (begins_part b u)) h in rw (x, f refl (not-true (begins_part b u) y)) refl
+in_by Here label First b u v e f h = let (x, y) = and_parts (not (ends_heredoc label (b ∷ u))) (not (begins_part b u)) h in rw (sym e, x, f refl (not-true (begins_part b u) y)) refl
+in_by Here label Plain b u v e f h = rw (f refl (not-true (begins_part b u) h)) refl
 
 -- the part behind a byte begins with `$` in both texts, or with `{` in the second
 dollar_fits : (b : ℕ) (u v : List ℕ) → begins_part b (36 ∷ u) ≡ begins_part b (36 ∷ v)

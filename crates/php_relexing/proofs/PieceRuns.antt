@@ -1,6 +1,6 @@
 -- How far a piece of a quoted text goes.
 use Rattle.std.proofs.Common.{◌≡◌, ℕ, ◌+◌, Bool, true, false, not, ◌&&◌, ◌||◌, nat_eq, List, [], ◌∷◌, length, drop, codes, Option, None, refl, sym, ap, ◌∙◌, subst, arith}
-use Rattle.std.proofs.lemmas.Bool.{eqb-true}
+use Rattle.std.proofs.lemmas.Bool.{eqb-true, or_parts, not-true}
 use Rattle.std.proofs.lemmas.Bool.Decides.{nat_tests}
 use Rattle.php_tree.specs.declared.version.Version.{Version}
 use Rattle.php_spellings.specs.declared.table.Kind.{Kind}
@@ -21,18 +21,12 @@ use Rattle.php_lexer.specs.Modes.{quoted}
 use Rattle.php_lexer.specs.Scan.{scan, scan_by, behind, tail_len, run_len, end_line_len, last_label_len, add_to, some_len, longer}
 use Rattle.php_lexer.proofs.Dispatch.{other_head}
 use Rattle.php_lexer.proofs.Steps.{end_line_is}
-use Rattle.php_relexing.proofs.Bools.{not_it}
 use Rattle.php_relexing.proofs.Scanned.{found}
 
 abbrev pub piece_len : Mark → List ℕ → State → List ℕ → ℕ
 piece_len mark label s bs = run_len (Body mark) label s bs
 
 -- ---- no other row begins where a piece does
-
-or_false : (x y : Bool) → (x || y) ≡ false → (x ≡ false) × (y ≡ false)
-or_false true y h = absurd cc
-or_false false true h = absurd cc
-or_false false false h = (refl, refl)
 
 -- the tokens of parts, and another one
 others : List ℕ → Option (Kind × ℕ) → Option (Kind × ℕ)
@@ -45,7 +39,7 @@ at_dollar : (bs : List ℕ) (o : Option (Kind × ℕ)) → begins (λ c. is_lett
 unfolding others
 at_dollar [] o h = refl
 at_dollar (c ∷ bs) o h =
-    let is = or_false (is_letter c) (nat_eq c 123) h in
+    let is = or_parts (is_letter c) (nat_eq c 123) h in
     rw (is.0, other_head 123 c refl is.1) refl
 
 at_brace : (bs : List ℕ) (o : Option (Kind × ℕ)) → begins_by 36 bs ≡ false → others (123 ∷ bs) o ≡ o
@@ -59,7 +53,7 @@ at_other b bs o p q = rw (other_head 36 b refl p, other_head 123 b refl q) refl
 others_by : (b : ℕ) (bs : List ℕ) (o : Option (Kind × ℕ)) (x y : Bool) → nat_eq b 36 ≡ x → nat_eq b 123 ≡ y
     → (x && begins (λ c. is_letter c || nat_eq c 123) bs || y && begins_by 36 bs) ≡ false → others (b ∷ bs) o ≡ o
 others_by b bs o true y p q h = subst (λ (x : ℕ). others (x ∷ bs) o ≡ o) (sym (eqb-true b 36 p))
-    (at_dollar bs o (or_false (begins (λ c. is_letter c || nat_eq c 123) bs) (y && begins_by 36 bs) h).0)
+    (at_dollar bs o (or_parts (begins (λ c. is_letter c || nat_eq c 123) bs) (y && begins_by 36 bs) h).0)
 others_by b bs o false true p q h = subst (λ (x : ℕ). others (x ∷ bs) o ≡ o) (sym (eqb-true b 123 q)) (at_brace bs o h)
 others_by b bs o false false p q h = at_other b bs o p q
 
@@ -93,7 +87,7 @@ in_piece_is Back label true b bs h = let is = not_two (nat_eq b 96) (begins_part
 in_piece_is Back label false b bs h = let is = not_two (nat_eq b 96) (begins_part b bs) h in record { plain = is.1; inside = rw (other_head 96 b refl is.0) refl }
 in_piece_is Here label true b bs h = let is = not_two (ends_heredoc label (b ∷ bs)) (begins_part b bs) h
     in record { plain = is.1; inside = rw (no_end_line label (b ∷ bs) is.0) refl }
-in_piece_is Here label false b bs h = record { plain = not_it (begins_part b bs) h; inside = refl }
+in_piece_is Here label false b bs h = record { plain = not-true (begins_part b bs) h; inside = refl }
 
 -- ---- what is scanned
 

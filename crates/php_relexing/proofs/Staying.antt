@@ -33,7 +33,7 @@ use Rattle.std.proofs.Common.{
   append-nil,
   arith,
 }
-use Rattle.std.proofs.lemmas.Bool.{cases_lt, and_parts}
+use Rattle.std.proofs.lemmas.Bool.{cases_lt, and_parts, not-true}
 use Rattle.std.proofs.lemmas.List.{take-append-le, length-append}
 use Rattle.std.proofs.Math.Seq.{take-append-add}
 use Rattle.php_tree.specs.declared.version.Version.TheVariants.{V74}
@@ -44,7 +44,6 @@ use Rattle.php_lexer.specs.Modes.{code, kind_of, IsLongest}
 use Rattle.php_relexing.specs.Tiles.{is_far, begins_words, leaves_words, is_near}
 use Rattle.php_relexing.specs.Alike.{is_break, Alike, ended, broken, same, is_tight, NearTokensStay}
 use Rattle.php_relexing.proofs.Near.{GoesOn, rows_blind}
-use Rattle.php_relexing.proofs.Bools.{not_it}
 use Rattle.php_relexing.proofs.Crossing.{IsTight, tight_is, code_cross, same_start}
 
 words_or : (b z : ℕ) (t : Bool) → begins_words b ≡ t → (not t || leaves_words b z) ≡ true → (begins_words b ≡ false) ⊎ (leaves_words b z ≡ true)
@@ -59,7 +58,7 @@ near_words : (b : ℕ) (bs : List ℕ) → is_near b bs ≡ true → (not (begin
 near_words b bs h = (and_parts (not (is_far b)) (not (begins_words b) || begins (leaves_words b) bs) h).1
 
 near_far : (b : ℕ) (bs : List ℕ) → is_near b bs ≡ true → is_far b ≡ false
-near_far b bs h = not_it (is_far b) (and_parts (not (is_far b)) (not (begins_words b) || begins (leaves_words b) bs) h).0
+near_far b bs h = not-true (is_far b) (and_parts (not (is_far b)) (not (begins_words b) || begins (leaves_words b) bs) h).0
 
 -- the text of the first bytes goes on as the whole does
 goes_on : (b : ℕ) (bs : List ℕ) (k : ℕ) → is_near b bs ≡ true → GoesOn b (take k bs) (drop k bs)

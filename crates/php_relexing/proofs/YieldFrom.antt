@@ -30,7 +30,7 @@ use Rattle.std.proofs.Common.{
   ◌∙◌,
   arith,
 }
-use Rattle.std.proofs.lemmas.Bool.{and_parts}
+use Rattle.std.proofs.lemmas.Bool.{and_parts, not-true}
 use Rattle.std.proofs.lemmas.Bool.Decides.{nat_tests}
 use Rattle.php_tree.specs.declared.version.Version.TheVariants.{V74}
 use Rattle.php_spellings.specs.declared.table.Kind.{Kind}
@@ -48,7 +48,6 @@ use Rattle.php_lexer.specs.Scan.{until_len, add_to, behind, run_len, some_len, w
 use Rattle.php_lexer.proofs.Dispatch.{letter_scan, older_scan}
 use Rattle.php_lexer.proofs.Counts.{some_eq}
 use Rattle.php_relexing.specs.Words.{YieldFromStays}
-use Rattle.php_relexing.proofs.Bools.{not_it}
 use Rattle.php_relexing.proofs.Picked.{longest_meets}
 use Rattle.php_relexing.proofs.Words.{rows_are, letter_hash}
 use Rattle.php_relexing.proofs.Scanned.{found, longest_of}
@@ -125,7 +124,7 @@ from_len [] r s e st h = absurd cc
 from_len (b ∷ t) r s e First h =
     let (space, more) = and_parts (not (not (is_space b))) (is_until From Plain t r) h in
     let one : 1 + length t ≡ suc (length t) = omega arith in
-    let blank : not (is_space b) ≡ false = not_it (not (is_space b)) space in
+    let blank : not (is_space b) ≡ false = not-true (not (is_space b)) space in
     rw (blank, from_len t r s e Plain more, one) refl
 from_len (b ∷ t) r s e Plain h = from_plain b t r s e (from_len t r s e) (is_space b) (word_alone (codes "from") (b ∷ t ++ r)) refl refl h
 from_len (b ∷ t) r s e Escaped h = from_escaped b t r s (from_len t r s e Escaped) (nat_eq (lower b) 109) refl h
@@ -166,7 +165,7 @@ led_run : (w t r s : List ℕ) → led lower w (is_until From First) t r ≡ tru
 led_run [] [] r s h = absurd cc
 led_run [] (b ∷ t) r s h =
     let (space, more) = and_parts (not (not (is_space b))) (is_until From Plain t r) h in
-    let blank : not (is_space b) ≡ false = not_it (not (is_space b)) space in
+    let blank : not (is_space b) ≡ false = not-true (not (is_space b)) space in
     rw (space_label b (space_is b blank)) (omega arith)
 led_run (x ∷ w) [] r s h = absurd cc
 led_run (x ∷ w) (b ∷ t) r s h =

@@ -1,6 +1,7 @@
 -- How nodes of each sort go on: as their kind's form says.
 use Rattle.std.proofs.Common.{◌≡◌, ℕ, Bool, true, false, not, ◌&&◌, ◌||◌, List, ◌++◌, drop, Option, Some, None, refl, sym, ap, ◌∙◌, subst}
 use Rattle.std.specs.Prelude.{IfSome}
+use Rattle.std.proofs.lemmas.Bool.{or_right}
 use Rattle.php_tree.specs.declared.kind.NodeKind.{NodeKind}
 use Rattle.php_tree.specs.declared.kind.NodeKind.TheVariants as k
 use Rattle.php_tree.specs.declared.token.Token.{Token}
@@ -255,10 +256,6 @@ postfixed_quiet k.Text e = false_is e
 postfixed_quiet k.Quoted e = false_is e
 postfixed_quiet _ e = refl
 
-or_second : (a b : Bool) → b ≡ true → (a || b) ≡ true
-or_second true b e = refl
-or_second false b e = e
-
 as_embedded : (v : Version) (j : NodeKind) (b : Forest) (ts : List Token) → begins_with_variable (node j b none) ≡ true → (fm : Form) → Adds v j b fm
     → Postfixed fm → GoesOn v s.Embedded j b ts fm
 as_embedded v j b ts w fm a p = record {
@@ -266,7 +263,7 @@ as_embedded v j b ts w fm a p = record {
       let x = a.adds f rest m in (
         (
           record { fits = x.fits; fine = quiet_fine fm.0 (node j b f) (postfixed_quiet fm.0 p) },
-          or_second (is_variable fm.0) _ (ap (λ (y : Bool). y && begins_with_variable (node j b none)) p ∙ w),
+          or_right (is_variable fm.0) _ (ap (λ (y : Bool). y && begins_with_variable (node j b none)) p ∙ w),
         ),
         x.shut,
       );

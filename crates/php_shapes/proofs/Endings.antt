@@ -1,5 +1,6 @@
 -- How nodes of each sort end: as those that may stand there.
 use Rattle.std.proofs.Common.{◌≡◌, ℕ, Bool, true, false, not, cond, ◌&&◌, ◌||◌, List, Option, Some, None, refl, sym, ap, ◌∙◌, subst}
+use Rattle.std.proofs.lemmas.Bool.{not-true, or_left, or_right}
 use Rattle.php_tree.specs.declared.kind.NodeKind.{NodeKind}
 use Rattle.php_tree.specs.declared.kind.NodeKind.TheVariants as k
 use Rattle.php_tree.specs.declared.token.Token.{Token}
@@ -41,10 +42,6 @@ pub test_holds : (b : Bool) → ta.refused_unless b ≡ None → b ≡ true
 test_holds true e = refl
 test_holds false e = absurd cc
 
-pub not_true : (b : Bool) → not b ≡ true → b ≡ false
-not_true true e = false_is e
-not_true false e = refl
-
 pub list_quiet : (j : NodeKind) → is_list j ≡ true → is_quiet j ≡ true
 list_quiet k.List e = refl
 list_quiet k.If e = false_is e
@@ -65,19 +62,11 @@ target_ends v j b ts p near e =
     let a = cond_none (is_misindented (j, b)) (or_else (ta.postfix_tail v j ts) (ta.refused_unless (is_target j))) e in
     is_place (test_holds (is_target j) (or_none (ta.postfix_tail v j ts) (ta.refused_unless (is_target j)) a.1)) (is_node p near a.0)
 
-pub or_true_left : (b c : Bool) → b ≡ true → (b || c) ≡ true
-or_true_left true c e = refl
-or_true_left false c e = false_is e
-
-pub or_true_right : (b c : Bool) → c ≡ true → (b || c) ≡ true
-or_true_right true c e = refl
-or_true_right false c e = e
-
 pub target_or_list : (v : Version) (j : NodeKind) (b : Forest) → Fits v (place Target) (node j b none) → Fits v (place TargetOrList) (node j b none)
-target_or_list v j b (is_place w n) = is_place (or_true_left (is_target j) (is_list j) w) n
+target_or_list v j b (is_place w n) = is_place (or_left (is_target j) (is_list j) w) n
 
 pub list_or_target : (v : Version) (j : NodeKind) (b : Forest) → Fits v (form v j) b → is_nearest b ≡ true → is_list j ≡ true → Fits v (place TargetOrList) (node j b none)
-list_or_target v j b p near e = is_place (or_true_right (is_target j) (is_list j) e) (is_node p near (quiet_fine j b (list_quiet j e)))
+list_or_target v j b p near e = is_place (or_right (is_target j) (is_list j) e) (is_node p near (quiet_fine j b (list_quiet j e)))
 
 pub any_target_ends : (v : Version) (j : NodeKind) (b : Forest) (ts : List Token) → Fits v (form v j) b
     → is_nearest b ≡ true → ta.target_tail v (j, b) ts ≡ None → Fits v (place TargetOrList) (node j b none)
@@ -96,7 +85,7 @@ entry_ends v j b ts p near o tight e =
   where
     go : is_misindented (j, b) ≡ false → (l : Bool) → cond l (ta.refused_unless (not (is_list j)))
         (ta.refused_unless (is_target j || is_list j)) ≡ None → Fits v (entry_rule l) (node j b none)
-    go fine true d = operand_ends v 24 j b p near o tight fine (not_true (is_list j) (test_holds (not (is_list j)) d))
+    go fine true d = operand_ends v 24 j b p near o tight fine (not-true (is_list j) (test_holds (not (is_list j)) d))
     go fine false d = is_place (test_holds (is_target j || is_list j) d) (is_node p near fine)
 
 pub kind_ends : (v : Version) (i j : NodeKind) (b : Forest) → Made v j b → is_nearest b ≡ true → j ≡ i → Fits v (kind i) (node j b none)
@@ -127,7 +116,7 @@ ends_good v s.ListItem j b ts p near e = subst (λ (l : NodeKind). Fits v at.lis
 ends_good v (s.Operand limit) j b ts p near e =
     let a = cond_none (is_misindented (j, b)) (or_else (ta.operand_tail v limit (j, b) ts) (ta.refused_unless (not (is_list j)))) e in
     operand_ends v limit j b p.0 near p.1 p.2 a.0
-    (not_true (is_list j) (test_holds (not (is_list j)) (or_none (ta.operand_tail v limit (j, b) ts) (ta.refused_unless (not (is_list j))) a.1)))
+    (not-true (is_list j) (test_holds (not (is_list j)) (or_none (ta.operand_tail v limit (j, b) ts) (ta.refused_unless (not (is_list j))) a.1)))
 ends_good v s.Entry j b ts p near e = entry_ends v j b ts p.0 near p.1 p.2 e
 ends_good v s.Target j b ts p near e = any_target_ends v j b ts p near e
 ends_good v s.Place j b ts p near e = target_ends v j b ts p near e

@@ -1,5 +1,6 @@
 -- No token that a node could have taken stands behind it.
 use Rattle.std.proofs.Common.{◌≡◌, Bool, true, false, not, ◌&&◌, ◌||◌, List, ◌++◌, refl, sym, ap, ◌∙◌}
+use Rattle.std.proofs.lemmas.Bool.{and_from}
 use Rattle.php_tree.specs.declared.kind.NodeKind.{NodeKind}
 use Rattle.php_tree.specs.declared.token.Token.{Token}
 use Rattle.php_tree.specs.Tree.{Forest, none, leaf, node, ◌+++◌, leaves}
@@ -18,11 +19,6 @@ false_is e = absurd cc
 pub or_either : {A : Type 0} (b c : Bool) → (b ≡ true → A) → (c ≡ true → A) → (b || c) ≡ true → A
 or_either true c f g e = f refl
 or_either false c f g e = g e
-
-and_both : (b c : Bool) → b ≡ true → c ≡ true → (b && c) ≡ true
-and_both true true p q = refl
-and_both true false p q = false_is q
-and_both false c p q = false_is p
 
 -- ---- for nodes that are open, and tokens that they take
 
@@ -57,7 +53,7 @@ module _ (opens : NodeKind → Forest → Bool) (takes : Terminal → Bool) wher
   pub follows_leaf : (x : Token) (f : Forest) (rest : List Token) → Follows f rest → Follows (leaf x f) rest
   follows_leaf x f rest ih = record {
     ends = λ before shut. ih.ends false (λ e. false_is e);
-    near = λ before shut. and_both (not (before && takes (terminal x))) (are_nearest false f) (not_taken before (takes (terminal x)) shut) (ih.near false (λ e. false_is e));
+    near = λ before shut. and_from (not (before && takes (terminal x))) (are_nearest false f) (not_taken before (takes (terminal x)) shut) (ih.near false (λ e. false_is e));
   }
 
   pub follows_node : (j : NodeKind) (b f : Forest) (rest : List Token) → Shut (opens j b || ends_in false b) (leaves f ++ rest) → Follows f rest → Follows (node j b f) rest
@@ -90,7 +86,7 @@ module _ (opens : NodeKind → Forest → Bool) (takes : Terminal → Bool) wher
         ends = λ before shut e. q.ends (ends_in before h) (p.ends before (part before shut)) (sym (ends_append h f before) ∙ e);
         near = λ before shut.
             near_append h f before
-            ∙ and_both (are_nearest before h) (are_nearest (ends_in before h) f) (p.near before (part before shut)) (q.near (ends_in before h) (p.ends before (part before shut)));
+            ∙ and_from (are_nearest before h) (are_nearest (ends_in before h) f) (p.near before (part before shut)) (q.near (ends_in before h) (p.ends before (part before shut)));
       }
 
   pub follows_flat : (h : Forest) (rest : List Token) → IsFlat h → Follows h rest
@@ -137,6 +133,6 @@ arrows_same (node j b f) before =
 -- each `else` and `=>` belongs to the nearest
 pub nearest : (f : Forest) (rest : List Token) → Ifs f rest → Yields f rest → is_nearest f ≡ true
 nearest f rest p q =
-    and_both (elses_are_nearest false f) (arrows_are_nearest false f)
+    and_from (elses_are_nearest false f) (arrows_are_nearest false f)
     (elses_same f false ∙ p.near false (λ e. false_is e))
     (arrows_same f false ∙ q.near false (λ e. false_is e))

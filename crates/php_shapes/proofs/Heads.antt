@@ -1,6 +1,6 @@
 -- Heads of expressions: prefixes, casts, closures and `yield`.
 use Rattle.std.proofs.Common.{◌≡◌, ℕ, Bool, true, false, ◌||◌, nat_le, List, [], ◌∷◌, refl, sym, ap, ◌∙◌, subst, arith}
-use Rattle.std.proofs.lemmas.Bool.{le-leb}
+use Rattle.std.proofs.lemmas.Bool.{le-leb, or_right}
 use Rattle.php_tree.specs.declared.kind.NodeKind.{NodeKind}
 use Rattle.php_tree.specs.declared.kind.NodeKind.TheVariants as k
 use Rattle.php_tree.specs.declared.token.Token.{Token}
@@ -47,10 +47,6 @@ zero_tight n limit b e = ap (λ (m : ℕ). nat_le m limit || b) e ∙ go limit b
     go : (limit : ℕ) (b : Bool) → (nat_le 0 limit || b) ≡ true
     go limit b = ap (λ (y : Bool). y || b) (le-leb 0 limit (omega arith))
 
-pub or_true : (b c : Bool) → c ≡ true → (b || c) ≡ true
-or_true true c e = refl
-or_true false c e = e
-
 -- an expression without an operator of its own
 pub atom : (v : Version) (k : NodeKind) (is : List Item) → is_operand k ≡ true → is_closed k ≡ true
     → ((c : Forest) → level v (k, c) ≡ 0) → Gives v (entries v is) (form v k) → Heads v (k, is)
@@ -71,7 +67,7 @@ before v k is o q b p = record {
       record {
         fits = p c rest m;
         operand = o;
-        tight = λ limit. or_true (nat_le (level v (k, c)) limit) (is_prefix k) b;
+        tight = λ limit. or_right (nat_le (level v (k, c)) limit) (is_prefix k) b;
         shut = closed k c rest q;
       };
 }
@@ -143,7 +139,7 @@ yield_headed v c rest m =
     record {
       fits = go m.0 m.1 m.2 m.4 (subst (Fits v (maybe (place (Operand 20) ~ maybe (word t.DoubleArrow ~ place (Operand 20))))) (sym same) a.2.0);
       operand = refl;
-      tight = λ limit. or_true (nat_le (level v (k.Yield, c)) limit) true refl;
+      tight = λ limit. or_right (nat_le (level v (k.Yield, c)) limit) true refl;
       shut = (
         λ e. false_is e,
         λ e. ap is_to (sym (first_none a.1 rest a.3)) ∙ a.2.1 (ap is_one_node (sym same) ∙ behind_yield v t.Yield m.0 m.1 m.2 (ap is_value_alone (sym m.4) ∙ e)),
@@ -161,7 +157,7 @@ pub yield_from_headed : (v : Version) (c : Forest) (rest : List Token) → Meet 
 yield_from_headed v c rest m = record {
   fits = is_second (is_second (whole v (word t.YieldFrom ~ place (Operand 20)) c rest m));
   operand = refl;
-  tight = λ limit. or_true (nat_le (level v (k.Yield, c)) limit) true refl;
+  tight = λ limit. or_right (nat_le (level v (k.Yield, c)) limit) true refl;
   shut = (λ e. false_is e, λ e. false_is (from_shut v m.0 m.1 m.2 (ap is_value_alone (sym m.4) ∙ e)));
 }
 

@@ -1,5 +1,6 @@
 -- The node that parts begin with.
 use Rattle.std.proofs.Common.{◌≡◌, Bool, true, false, not, ◌&&◌, ◌||◌, refl, sym, ap, ◌∙◌, subst}
+use Rattle.std.proofs.lemmas.Bool.{and_parts}
 use Rattle.php_tree.specs.declared.kind.NodeKind.{NodeKind}
 use Rattle.php_tree.specs.declared.kind.NodeKind.TheVariants as k
 use Rattle.php_tree.specs.declared.token.Token.{Token}
@@ -25,7 +26,6 @@ use Rattle.php_shapes.specs.Shapes.{
   once_more,
   is_tokens,
 }
-use Rattle.php_shapes.proofs.ReadClasses.{both}
 use Rattle.php_shapes.proofs.ReadFirst.{nullable, rule_begins}
 use Rattle.php_shapes.proofs.ReadMatch.{false_true}
 
@@ -61,14 +61,14 @@ front_node v (is_word a) h i b f e = absurd cc
 front_node v (is_kind {k = j} {c = d} x) h i b f e = same_node v j i d b none f e x
 front_node v (is_place {k = j} {c = d} m x) h i b f e = same_node v j i d b none f e x
 front_node v (is_inside x near) h i b f e = absurd (false_true h)
-front_node v (is_first {r = r} {s = q} x) h i b f e = front_node v x ((both (has_plain_front r) (has_plain_front q) h).0) i b f e
-front_node v (is_second {r = r} {s = q} x) h i b f e = front_node v x ((both (has_plain_front r) (has_plain_front q) h).1) i b f e
+front_node v (is_first {r = r} {s = q} x) h i b f e = front_node v x ((and_parts (has_plain_front r) (has_plain_front q) h).0) i b f e
+front_node v (is_second {r = r} {s = q} x) h i b f e = front_node v x ((and_parts (has_plain_front r) (has_plain_front q) h).1) i b f e
 front_node v (is_both {r = r} {s = q} {g = none} {h = d} x y at) h i b f e =
-    front_node v y (second_plain (nullable r) (has_plain_front q) (rule_begins v x) ((both (has_plain_front r) (not (nullable r) || has_plain_front q) h).1)) i b f (sym at ∙ e)
+    front_node v y (second_plain (nullable r) (has_plain_front q) (rule_begins v x) ((and_parts (has_plain_front r) (not (nullable r) || has_plain_front q) h).1)) i b f (sym at ∙ e)
 front_node v (is_both {g = leaf z g} {h = d} x y at) h i b f e = absurd (no_leaf z (g +++ d) i b f (sym at ∙ e))
 front_node v (is_both {r = r} {s = q} {g = node j a g} {h = d} x y at) h i b f e =
     same_node v j i a b (g +++ d) f (sym at ∙ e)
-    (front_node v x ((both (has_plain_front r) (not (nullable r) || has_plain_front q) h).0) j a g refl)
+    (front_node v x ((and_parts (has_plain_front r) (not (nullable r) || has_plain_front q) h).0) j a g refl)
 front_node v no_more h i b f e = absurd cc
 front_node v (once_more {r = r} {g = none} {h = d} x y at) h i b f e = front_node v y h i b f (sym at ∙ e)
 front_node v (once_more {g = leaf z g} {h = d} x y at) h i b f e = absurd (no_leaf z (g +++ d) i b f (sym at ∙ e))

@@ -2,6 +2,7 @@
 use Rattle.std.proofs.Common.{◌≡◌, ℕ, Bool, true, false, not, cond, ◌&&◌, ◌||◌, nat_eq, nat_lt, List, [], ◌∷◌, length, refl}
 use Rattle.std.specs.Prelude.{codes, slice_index}
 use Rattle.std.specs.Char.{to_ascii_lowercase}
+use Rattle.std.proofs.lemmas.Bool.{not-true}
 use Rattle.php_tree.specs.declared.token.TokenKind.{TokenKind}
 use Rattle.php_tree.specs.declared.token.TokenKind.TheVariants as kind
 use Rattle.php_tree.specs.declared.version.Version.{Version}
@@ -27,10 +28,6 @@ either_class : (b : Bool) (x y : Terminal) → is_never x ≡ false → is_never
 either_class true x y p q = p
 either_class false x y p q = q
 
-not_true : (b : Bool) → not b ≡ true → b ≡ false
-not_true true e = absurd cc
-not_true false e = refl
-
 and_first : (b c : Bool) → (b && c) ≡ true → b ≡ true
 and_first true c e = refl
 and_first false c e = absurd cc
@@ -43,7 +40,7 @@ found : (other : Terminal) (rows : List (List ℕ × Terminal)) (text : List ℕ
 found other [] text p q = p
 found other (r ∷ rs) text p q =
     either_class (is_word r.0 text) r.1 (find_row other rs text)
-    (not_true (is_never r.1) (and_first (not (is_never r.1)) (none_never rs) q))
+    (not-true (is_never r.1) (and_first (not (is_never r.1)) (none_never rs) q))
     (found other rs text p (and_second (not (is_never r.1)) (none_never rs) q))
 
 keywords_fine : none_never keywords ≡ true

@@ -1,7 +1,7 @@
 -- Operators behind an operand: each form of the tables is that of its kind, where the operand's edge is tight enough.
 use Rattle.std.proofs.Common.{◌≡◌, ℕ, ◌≤◌, Bool, true, false, cond, ◌&&◌, ◌||◌, nat_le, nat_lt, List, ◌++◌, refl, sym, ap, ◌∙◌, subst, arith}
 use Rattle.std.specs.Prelude.{IfSome}
-use Rattle.std.proofs.lemmas.Bool.{leb-true}
+use Rattle.std.proofs.lemmas.Bool.{leb-true, or_left, or_right}
 use Rattle.php_tree.specs.declared.kind.NodeKind.{NodeKind}
 use Rattle.php_tree.specs.declared.kind.NodeKind.TheVariants as k
 use Rattle.php_tree.specs.declared.token.Token.{Token}
@@ -29,7 +29,7 @@ use Rattle.php_shapes.proofs.Entries.{Meet, entries}
 use Rattle.php_shapes.proofs.Sequences.{Gives, whole}
 use Rattle.php_shapes.proofs.Follows.{false_is}
 use Rattle.php_shapes.proofs.Standing.{Closed, closed, is_closed, is_operand, is_tight, or_else_form, when_form}
-use Rattle.php_shapes.proofs.Heads.{or_true, zero_tight}
+use Rattle.php_shapes.proofs.Heads.{zero_tight}
 
 -- An expression of a level that has grown.
 pub record Grown (v : Version) (limit : ℕ) (k : NodeKind) (c : Forest) (rest : List Token) : Type 0 where
@@ -49,10 +49,6 @@ and_left false c e = false_is e
 pub and_right : (b c : Bool) → (b && c) ≡ true → c ≡ true
 and_right true c e = e
 and_right false c e = false_is e
-
-pub or_left_true : (b c : Bool) → b ≡ true → (b || c) ≡ true
-or_left_true true c e = refl
-or_left_true false c e = false_is e
 
 -- an operand that is no list form is an expression
 pub is_no_list : (b c : Bool) → (b || c) ≡ true → c ≡ false → b ≡ true
@@ -87,7 +83,7 @@ module _ (v : Version) (limit : ℕ) (j : NodeKind) (b : Forest) (n : IsNode v j
         record {
           fits = into (node j b f) (is_both (is_place w n) (gives f rest m) refl);
           operand = q;
-          tight = or_true (nat_le (level v (k, node j b f)) limit) (is_prefix k) d;
+          tight = or_right (nat_le (level v (k, node j b f)) limit) (is_prefix k) d;
           shut = closed k (node j b f) rest e;
         };
   }
@@ -124,7 +120,7 @@ module _ (v : Version) (limit : ℕ) (j : NodeKind) (b : Forest) (n : IsNode v j
         record {
           fits = into (node j b f) (is_both w (gives f rest m) refl);
           operand = q;
-          tight = or_left_true (nat_le (level v (k, node j b f)) limit) (is_prefix k) (d f);
+          tight = or_left (nat_le (level v (k, node j b f)) limit) (is_prefix k) (d f);
           shut = closed k (node j b f) rest e;
         };
   }
@@ -213,7 +209,7 @@ module _ (v : Version) (limit : ℕ) (j : NodeKind) (b : Forest) (n : IsNode v j
         record {
           fits = into (node j b f) (is_both (is_place (edge_fits v j b o l le left) n) q.0 refl);
           operand = refl;
-          tight = or_left_true (nat_le (level v (k.Binary, node j b f)) limit) false (ap (λ (y : ℕ). nat_le y limit) (sym q.1) ∙ low);
+          tight = or_left (nat_le (level v (k.Binary, node j b f)) limit) false (ap (λ (y : ℕ). nat_le y limit) (sym q.1) ∙ low);
           shut = closed k.Binary (node j b f) rest refl;
         };
   }

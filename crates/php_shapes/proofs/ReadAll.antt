@@ -18,11 +18,10 @@ use Rattle.php_shapes.specs.Nearest.{ends_in_yield, is_open_yield, is_to}
 use Rattle.php_shapes.specs.Notation.{Rule, nothing, word, kind, place, inside, ◌~◌, ◌|||◌, many}
 use Rattle.php_shapes.specs.Places.{Place, Operand, may_stand}
 use Rattle.php_shapes.specs.Shapes.{Fits, is_both, is_first, is_second, is_kind, IsNode, is_node}
-use Rattle.php_shapes.proofs.ReadClasses.{both}
 use Rattle.php_shapes.proofs.ReadEnds.{Behind, Below, closes_expression, closes_item, Ends, is_open_for_arrow}
 use Rattle.php_shapes.proofs.ReadMatch.{false_true}
 use Rattle.php_shapes.proofs.ReadOperands.{Before}
-use Rattle.std.proofs.lemmas.Bool.{leb-true, eqb-true}
+use Rattle.std.proofs.lemmas.Bool.{leb-true, eqb-true, or_left, and_parts}
 use Rattle.php_tree.specs.declared.token.TokenKind.{TokenKind}
 use Rattle.php_tree.specs.declared.token.TokenKind.TheVariants as kind_
 use Rattle.php_tree.specs.Tree.{File, depth, file_leaves}
@@ -40,7 +39,7 @@ use Rattle.php_shapes.specs.Shapes.{is_inside, is_word}
 use Rattle.php_shapes.proofs.ReadEnds.{behind_level, closes_embedded, closes_target, goes_behind, reads_kind, Stopped, suits}
 use Rattle.php_shapes.proofs.ReadOperands.{FitsLevel, Grown, number_grows, float_grows, text_grows, paren_grows, isset_grows, empty_test_grows, eval_test_grows, exit_grows}
 use Rattle.php_shapes.proofs.ReadPrefixes.{casts_grow, include__grows, prefixes_grow, print__grows}
-use Rattle.php_shapes.proofs.ReadInfix.{binaries_grow, not_list, or_list}
+use Rattle.php_shapes.proofs.ReadInfix.{binaries_grow, not_list}
 use Rattle.php_shapes.proofs.ReadPostfixes.{base_expression, base_level, braces_grow, methods_grow, offsets_grow, props_grow, target_offset}
 use Rattle.php_shapes.proofs.ReadNames.{all_calls_grow, class_constants_grow, constants_grow, static_calls_grow, static_props_grow}
 use Rattle.php_shapes.proofs.ReadAssigns.{assigns_grow, compounds_grow, postfixes_grow, refs_grow, shorts_grow, ternaries_grow}
@@ -91,8 +90,8 @@ mutual
   rule_quiet v (is_kind {k = k.Variable} x) h = λ b. variable_quiet v x false
   rule_quiet v (is_inside {k = k.Variable} x near) h = λ b. rule_quiet v x h false
   rule_quiet v (is_both {f = f} {g = g1} {h = g2} x y e) h = quiet_both f g1 g2 e (rule_quiet v y h)
-  rule_quiet v (is_first {r = r} {s = q} x) h = rule_quiet v x ((both (calm r) (calm q) h).0)
-  rule_quiet v (is_second {r = r} {s = q} x) h = rule_quiet v x ((both (calm r) (calm q) h).1)
+  rule_quiet v (is_first {r = r} {s = q} x) h = rule_quiet v x ((and_parts (calm r) (calm q) h).0)
+  rule_quiet v (is_second {r = r} {s = q} x) h = rule_quiet v x ((and_parts (calm r) (calm q) h).1)
   rule_quiet v is_nothing h = absurd (false_true h)
   rule_quiet v (is_place m x) h = absurd (false_true h)
   rule_quiet v no_more h = absurd (false_true h)
@@ -482,9 +481,9 @@ module _ (v : Version) (made : Created v) where
       → count c ≤ n → may_stand v (Operand m) (j, c) ≡ true → IsNode v j c → Ends v m (j, c) (first_of rest)
       → Spells (php v) (s.Operand m) (j, c) rest
   operand_read n below grown m j c rest le st x e =
-      let q : (is_expression j ≡ true) × ((nat_le (level v (j, c)) m || is_prefix j) ≡ true) = both (is_expression j) (nat_le (level v (j, c)) m || is_prefix j) st in
+      let q : (is_expression j ≡ true) × ((nat_le (level v (j, c)) m || is_prefix j) ≡ true) = and_parts (is_expression j) (nat_le (level v (j, c)) m || is_prefix j) st in
       let nl : is_list j ≡ false = not_list j q.0 in (
-        grows n below grown m j c rest le (or_list (is_expression j) (is_list j) q.0) (level_of m (j, c) q.1) x
+        grows n below grown m j c rest le (or_left (is_expression j) (is_list j) q.0) (level_of m (j, c) q.1) x
             (inl (nl, behind_of m (j, c) (first_of rest) e)),
         ends_here v m (j, c) rest (straight v j c x) nl e,
       )
@@ -493,7 +492,7 @@ module _ (v : Version) (made : Created v) where
   any_grows : (n : ℕ) → Below v n → Grown v n → (j : NodeKind) (c : Forest) (rest : List Token) → count c ≤ n
       → is_expression j ≡ true → FitsLevel v 24 (j, c) → IsNode v j c → Behind v (j, c) (first_of rest)
       → Grows (php v) (s.Operand 24) j c rest
-  any_grows n below grown j c rest le h f x b = grows n below grown 24 j c rest le (or_list (is_expression j) (is_list j) h) f x (inl (not_list j h, b))
+  any_grows n below grown j c rest le h f x b = grows n below grown 24 j c rest le (or_left (is_expression j) (is_list j) h) f x (inl (not_list j h, b))
 
   target_grows : (n : ℕ) → Below v n → Grown v n → (j : NodeKind) (c : Forest) (rest : List Token) → count c ≤ n
       → is_target j ≡ true → IsNode v j c → Behind v (j, c) (first_of rest) → Grows (php v) (s.Operand 24) j c rest
@@ -543,7 +542,7 @@ module _ (v : Version) (made : Created v) where
       → may_stand v (Operand 24) (j, c) ≡ true → IsNode v j c → Stopped v s.Entry (j, c) rest
       → Spells (php v) s.Entry (j, c) rest
   operand_entry n below grown j c rest le st x h =
-      let q : (is_expression j ≡ true) × ((nat_le (level v (j, c)) 24 || is_prefix j) ≡ true) = both (is_expression j) (nat_le (level v (j, c)) 24 || is_prefix j) st in
+      let q : (is_expression j ≡ true) × ((nat_le (level v (j, c)) 24 || is_prefix j) ≡ true) = and_parts (is_expression j) (nat_le (level v (j, c)) 24 || is_prefix j) st in
       elim h [
         | inl w ↦ entry_read n below grown j c rest le w.1 x w.0
         | inr w ↦ key_read n below grown j c rest le q.0 (level_of 24 (j, c) q.1) x w.0 w.2
@@ -553,7 +552,7 @@ module _ (v : Version) (made : Created v) where
       → may_stand v Embedded (j, c) ≡ true → IsNode v j c → closes_embedded (first_of rest) ≡ true
       → Grows (php v) (s.Operand 24) j c rest
   embedded_grows n below grown j c rest le st x h =
-      let base : is_offset_base j ≡ true = variable_offset (role_of j) ((both (is_variable_expression j) (begins_with_variable (node j c none)) st).0) in
+      let base : is_offset_base j ≡ true = variable_offset (role_of j) ((and_parts (is_variable_expression j) (begins_with_variable (node j c none)) st).0) in
       any_grows n below grown j c rest le (base_expression j base) (inl (low_level 24 (level v (j, c)) (base_level v j c base))) x
       (inl (embedded_closes (first_of rest) h))
 

@@ -1,6 +1,6 @@
 -- Assignments, `++` and `--` behind what is written, `instanceof`'s left side, and ternaries.
 use Rattle.std.proofs.Common.{◌≡◌, ℕ, ◌<◌, ◌≤◌, Bool, true, false, ◌&&◌, ◌||◌, List, [], ◌∷◌, ◌++◌, inl, inr, Some, None, refl, sym, ap, ◌∙◌, subst, nat_eq, nat_le, arith}
-use Rattle.std.proofs.lemmas.Bool.{leb-true}
+use Rattle.std.proofs.lemmas.Bool.{leb-true, or_right, and_from, or_left, and_parts}
 use Rattle.php_tree.specs.declared.kind.NodeKind.{NodeKind}
 use Rattle.php_tree.specs.declared.kind.NodeKind.TheVariants as k
 use Rattle.php_tree.specs.declared.token.Token.{Token}
@@ -25,12 +25,12 @@ use Rattle.php_shapes.specs.Notation.{Rule, word, place, ◌~◌, expr}
 use Rattle.php_shapes.specs.Operators.{assign, assign_ref, before_ternary, compound_assign, postfix, short_ternary, ternary}
 use Rattle.php_shapes.specs.Places.{Place, Left, LeftShort, Operand, Target, TargetOrList, is_expression, is_prefix, may_stand}
 use Rattle.php_shapes.specs.Shapes.{Fits, is_both, is_first, is_second, IsNode}
-use Rattle.php_shapes.proofs.ReadClasses.{both, for_all, or_is}
+use Rattle.php_shapes.proofs.ReadClasses.{for_all, or_is}
 use Rattle.php_shapes.proofs.ReadFirst.{begins_expression, nullable, starts}
 use Rattle.php_shapes.proofs.ReadEnds.{Behind, behind_level, behind_limit, Below, closes_expression, goes_behind}
 use Rattle.php_shapes.proofs.ReadMatch.{both_is, false_true, nodes_count, place_is, word_is}
 use Rattle.php_shapes.proofs.ReadOperands.{Before, ends_its_chain, first_is, FitsLevel, Grown, last_operand, only_behind, only_class, second_starts}
-use Rattle.php_shapes.proofs.ReadInfix.{left_edge_is, left_of, not_list, or_list, second_tail, tail_is}
+use Rattle.php_shapes.proofs.ReadInfix.{left_edge_is, left_of, not_list, second_tail, tail_is}
 use Rattle.php_shapes.proofs.ReadPostfixes.{base_expression, base_level, split_word, target_offset}
 use Rattle.php_shapes.proofs.ReadStops.{le_trans3, le_true, level_of_node, looser}
 
@@ -56,10 +56,6 @@ on_left v n grown m P j q items c rest ok tail walk x le =
 
 -- ---- what is written
 
-pub or_right : (a b : Bool) → b ≡ true → (a || b) ≡ true
-or_right true b h = refl
-or_right false b h = h
-
 list_level : (v : Version) (i : NodeKind) (b : Forest) → is_list i ≡ true → level v (i, b) ≡ 0
 list_level v k.List b e = refl
 list_level v other b e = absurd (false_true e)
@@ -69,7 +65,7 @@ low m l e = omega arith
 
 target_ok : (v : Version) (m : ℕ) (i : NodeKind) (b : Forest) → (is_target i || is_list i) ≡ true → ((is_expression i || is_list i) ≡ true) × FitsLevel v m (i, b)
 target_ok v m i b h = elim (or_is (is_target i) (is_list i) h) [
-  | inl e ↦ (or_list (is_expression i) (is_list i) (base_expression i (target_offset (role_of i) e)), inl (low m (level v (i, b)) (base_level v i b (target_offset (role_of i) e))))
+  | inl e ↦ (or_left (is_expression i) (is_list i) (base_expression i (target_offset (role_of i) e)), inl (low m (level v (i, b)) (base_level v i b (target_offset (role_of i) e))))
   | inr e ↦ (or_right (is_expression i) (is_list i) e, inl (low m (level v (i, b)) (list_level v i b e)))
 ]
 
@@ -102,7 +98,7 @@ pub postfixes_grow : (v : Version) (n : ℕ) → Below v n → Grown v n → (m 
 postfixes_grow v n below grown m c rest x le h =
     on_left v n grown m Target k.Postfix (word t.Step) (Word t.Step ∷ []) c rest
     (λ i b f at st y. let q : ((is_expression i || is_list i) ≡ true)
-    × FitsLevel v m (i, b) = target_ok v m i b (or_list (is_target i) (is_list i) st)
+    × FitsLevel v m (i, b) = target_ok v m i b (or_left (is_target i) (is_list i) st)
     in (
       q.0,
       q.1,
@@ -227,13 +223,13 @@ pub refs_grow : (v : Version) (n : ℕ) → Below v n → Grown v n → (m : ℕ
 refs_grow v n below grown m c rest x le h =
     on_left v n grown m Target k.AssignRef (word t.Assign ~ word t.Ampersand ~ place (Operand 19)) (Word t.Assign ∷ Word t.Ampersand ∷ Node (s.Operand 19) ∷ []) c rest
     (λ i b f at st y. let q : ((is_expression i || is_list i) ≡ true)
-    × FitsLevel v m (i, b) = target_ok v m i b (or_list (is_target i) (is_list i) st)
+    × FitsLevel v m (i, b) = target_ok v m i b (or_left (is_target i) (is_list i) st)
     in (
       q.0,
       q.1,
       inr (goes_assign v i (first_of (leaves f ++ rest))
           (first_is v (word t.Assign ~ word t.Ampersand ~ place (Operand 19)) t.Assign f rest ((assign_first v).1) refl
-          y) (or_list (is_target i) (is_list i) st)),
+          y) (or_left (is_target i) (is_list i) st)),
     ))
     (λ i b f at st y. ref_tail_is v m i b (leaves f ++ rest)
     (first_is v (word t.Assign ~ word t.Ampersand ~ place (Operand 19)) t.Assign f rest ((assign_first v).1) refl
@@ -258,7 +254,7 @@ pub compounds_grow : (v : Version) (n : ℕ) → Below v n → Grown v n → (m 
 compounds_grow v n below grown m c rest x le h =
     on_left v n grown m Target k.CompoundAssign (word t.CompoundAssign ~ place (Operand 19)) (Word t.CompoundAssign ∷ Node (s.Operand 19) ∷ []) c rest
     (λ i b f at st y. let q : ((is_expression i || is_list i) ≡ true)
-    × FitsLevel v m (i, b) = target_ok v m i b (or_list (is_target i) (is_list i) st)
+    × FitsLevel v m (i, b) = target_ok v m i b (or_left (is_target i) (is_list i) st)
     in (
       q.0,
       q.1,
@@ -332,7 +328,7 @@ left_question : (v : Version) (m : ℕ) (i : NodeKind) (b : Forest) (c : Termina
     → is_expression i ≡ true → edge v (i, b) ≤ 18 → 18 ≤ m → ((is_expression i || is_list i) ≡ true)
     × FitsLevel v m (i, b) × Before v (i, b) c
 left_question v m i b c e x le a = (
-  or_list (is_expression i) (is_list i) x,
+  or_left (is_expression i) (is_list i) x,
   inl (le_trans3 (level v (i, b)) (edge v (i, b)) m (level_of_node v (i, b)) (le_trans3 (edge v (i, b)) 18 m le a)),
   inl (not_list i x, inr (inr (subst (λ (z : Terminal). edge v (i, b) ≤ behind_limit v z) (sym e) le, subst (λ (z : Terminal). 0 < behind_level v z) (sym e) some))),
 )
@@ -434,7 +430,7 @@ short_left v i b st =
     let q : (is_expression i ≡ true) × (edge v (i, b) ≤ before_ternary v) = left_of v (before_ternary v) i b st in (
       q.0,
       le_trans3 (edge v (i, b)) (before_ternary v) 18 q.1 (before_18 v),
-      or_list (left_fits v (edge v (i, b))) (nat_le (edge v (i, b)) 18 && is_short_ternary i)
+      or_left (left_fits v (edge v (i, b))) (nat_le (edge v (i, b)) 18 && is_short_ternary i)
           (left_fits_is v (edge v (i, b)) q.1),
     )
 
@@ -442,18 +438,14 @@ pub short_is_expression : (i : NodeKind) → is_short_ternary i ≡ true → is_
 short_is_expression k.ShortTernary e = refl
 short_is_expression other e = absurd (false_true e)
 
-and_is : (a b : Bool) → a ≡ true → b ≡ true → (a && b) ≡ true
-and_is true b h g = g
-and_is false b h g = absurd (false_true h)
-
 short_short : (v : Version) (i : NodeKind) (b : Forest) → may_stand v LeftShort (i, b) ≡ true
     → (is_expression i ≡ true) × (edge v (i, b) ≤ 18) × (short_left_fits v (edge v (i, b)) i ≡ true)
 short_short v i b st =
-    let q : (is_short_ternary i ≡ true) × (nat_le (edge v (i, b)) 18 ≡ true) = both (is_short_ternary i) (nat_le (edge v (i, b)) 18) st in (
+    let q : (is_short_ternary i ≡ true) × (nat_le (edge v (i, b)) 18 ≡ true) = and_parts (is_short_ternary i) (nat_le (edge v (i, b)) 18) st in (
       short_is_expression i q.0,
       leb-true (edge v (i, b)) 18 q.1,
       or_right (left_fits v (edge v (i, b))) (nat_le (edge v (i, b)) 18 && is_short_ternary i)
-          (and_is (nat_le (edge v (i, b)) 18) (is_short_ternary i) q.1 q.0),
+          (and_from (nat_le (edge v (i, b)) 18) (is_short_ternary i) q.1 q.0),
     )
 
 pub shorts_grow : (v : Version) (n : ℕ) → Below v n → Grown v n → (m : ℕ) (c : Forest) (rest : List Token)

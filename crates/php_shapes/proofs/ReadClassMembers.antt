@@ -1,6 +1,7 @@
 -- Members, and nodes that stand by their kinds, are read as they were.
 use Rattle.std.proofs.Common.{◌≡◌, ℕ, suc, ◌+◌, ◌≤◌, Bool, true, false, not, ◌&&◌, List, [], ◌∷◌, ◌++◌, Option, Some, None, ◌⊎◌, inl, inr, refl, sym, ap, ◌∙◌, subst, arith}
 use Rattle.std.specs.List.{prefix_len}
+use Rattle.std.proofs.lemmas.Bool.{and_parts, not-true}
 use Rattle.php_tree.specs.declared.kind.NodeKind.{NodeKind}
 use Rattle.php_tree.specs.declared.kind.NodeKind.TheVariants as k
 use Rattle.php_tree.specs.declared.token.Token.{Token}
@@ -28,10 +29,10 @@ use Rattle.php_shapes.specs.Forms.{form}
 use Rattle.php_shapes.specs.Notation.{Rule, word, kind, ◌~◌, ◌|||◌, many, maybe, commas, expr}
 use Rattle.php_shapes.specs.Shapes.{Fits, is_both, no_more, once_more, IsNode}
 use Rattle.php_shapes.specs.Statements.{declared_variable, statements}
-use Rattle.php_shapes.proofs.ReadClasses.{accepted, both, for_all}
+use Rattle.php_shapes.proofs.ReadClasses.{accepted, for_all}
 use Rattle.php_shapes.proofs.ReadFirst.{first, nullable, starts}
 use Rattle.php_shapes.proofs.ReadEnds.{Below, closes_case, closes_item, closes_type, stops}
-use Rattle.php_shapes.proofs.ReadMatch.{both_is, either_is, false_true, first_class, fits_alone, leaves_before, matched, matches, not_true, where_is, where_it, word_is}
+use Rattle.php_shapes.proofs.ReadMatch.{both_is, either_is, false_true, first_class, fits_alone, leaves_before, matched, matches, where_is, where_it, word_is}
 use Rattle.php_shapes.proofs.ReadNearest.{shaped}
 use Rattle.php_shapes.proofs.ReadStatements.{begins_with, begun, first_in, grows_by}
 
@@ -80,18 +81,18 @@ member_chosen : (v : Version) (r : Rule) (f m : Forest) (rest : List Token) → 
 member_chosen v r f m rest u h x y =
     let z : (for_all (λ c. where_it (starts v r c) (not (is_modifier c))) ≡ true)
     × (for_all (λ c. where_it (first v (many (word t.Modifier) ∷ r ∷ []) any_class c) (not (is_use c))) ≡ true) =
-    both (for_all (λ c. where_it (starts v r c) (not (is_modifier c))))
+    and_parts (for_all (λ c. where_it (starts v r c) (not (is_modifier c))))
     (for_all (λ c. where_it (first v (many (word t.Modifier) ∷ r ∷ []) any_class c) (not (is_use c)))) h in
     let no : trait_use_form (first_of (leaves (f +++ m) ++ rest)) ≡ None =
     no_use (first_of (leaves (f +++ m) ++ rest))
-    (not_true (is_use (first_of (leaves (f +++ m) ++ rest)))
+    (not-true (is_use (first_of (leaves (f +++ m) ++ rest)))
     (where_is (first v (many (word t.Modifier) ∷ r ∷ []) any_class) (λ c. not (is_use c))
     (first_of (leaves (f +++ m) ++ rest)) z.1
     (first_class v (many (word t.Modifier) ∷ r ∷ []) any_class (f +++ m) rest (f, m, x, fits_alone v r m y, refl)
     refl))) in
     let behind : behind_modifiers (leaves (f +++ m) ++ rest) ≡ first_of (leaves m ++ rest) =
     ap behind_modifiers (leaves_before f m rest) ∙ past_modifiers v f (leaves m ++ rest) x
-    (not_true (is_modifier (first_of (leaves m ++ rest)))
+    (not-true (is_modifier (first_of (leaves m ++ rest)))
     (where_is (starts v r) (λ c. not (is_modifier c)) (first_of (leaves m ++ rest)) z.0
     (first_in v r m rest y u))) in
     ap (λ (o : Option Form). or_else o (Some (modified_form (behind_modifiers (leaves (f +++ m) ++ rest))))) no ∙ ap (λ (c : Terminal). Some (modified_form c)) behind

@@ -1,5 +1,6 @@
 -- Expressions that name a class are read as they were.
 use Rattle.std.proofs.Common.{◌≡◌, ℕ, zero, suc, ◌<◌, ◌≤◌, Bool, true, false, List, [], ◌∷◌, ◌++◌, Some, None, ◌⊎◌, inl, inr, refl, sym, ap, ◌∙◌, subst, append_assoc, arith}
+use Rattle.std.proofs.lemmas.Bool.{and_parts}
 use Rattle.php_tree.specs.declared.kind.NodeKind.{NodeKind}
 use Rattle.php_tree.specs.declared.kind.NodeKind.TheVariants as k
 use Rattle.php_tree.specs.declared.token.Token.{Token}
@@ -30,7 +31,7 @@ use Rattle.php_shapes.specs.Places.{Place, OffsetBase, MemberBase, ClassBase, Cl
 use Rattle.php_shapes.specs.Postfixes.{class_before, member, static_member}
 use Rattle.php_shapes.specs.Atoms.{variable}
 use Rattle.php_shapes.specs.Shapes.{Fits, is_both, is_first, is_second, IsNode}
-use Rattle.php_shapes.proofs.ReadClasses.{accepted, both, could, for_all, pinned, whenever}
+use Rattle.php_shapes.proofs.ReadClasses.{accepted, could, for_all, pinned, whenever}
 use Rattle.php_shapes.proofs.ReadFirst.{nullable, starts}
 use Rattle.php_shapes.proofs.ReadEnds.{behind_level, Below, closes_expression, Stopped}
 use Rattle.php_shapes.proofs.ReadMatch.{both_is, false_true, fits_alone, leaves_before, left_le, matched, matches, place_is, right_le, where_is, where_it, word_is}
@@ -201,7 +202,7 @@ module _ (v : Version) (n : ℕ) (below : Below v n) where
       let a : (i : NodeKind) × (b : Forest) × (p.0 ≡ node i b none) × (may_stand v P (i, b) ≡ true) × IsNode v i b = place_is v P p.0 p.2 in
       let at : c ≡ node a.0 a.1 p.1 = p.4 ∙ ap (λ (z : Forest). z +++ p.1) a.2 in
       let names : (is_class_name a.0 ≡ true) × (begins_with_class_name a.1 ≡ true) =
-      both (is_class_name a.0) (begins_with_class_name a.1)
+      and_parts (is_class_name a.0) (begins_with_class_name a.1)
       (subst (λ (z : Forest). begins_with_class_name z ≡ true) at h) in
       let less : (count a.1 < m) × (count p.1 ≤ m) = node_counts a.0 a.1 p.1 m (subst (λ (z : Forest). count z ≤ m) at lm) in
       let two : (count a.1 < n) × (count p.1 ≤ n) = node_counts a.0 a.1 p.1 n (subst (λ (z : Forest). count z ≤ n) at le) in
@@ -315,7 +316,7 @@ pub class_refs_begin : (v : Version) (n : ℕ) → Below v n → (j : NodeKind) 
     → count c ≤ n → may_stand v ClassName (j, c) ≡ true → IsNode v j c → Grows (php v) s.ClassRef j c rest
     × BeginsClass (leaves c ++ rest)
 class_refs_begin v n below j c rest le st x =
-    let q : (is_class_name j ≡ true) × (begins_with_class_name c ≡ true) = both (is_class_name j) (begins_with_class_name c) st in
+    let q : (is_class_name j ≡ true) × (begins_with_class_name c ≡ true) = and_parts (is_class_name j) (begins_with_class_name c) st in
     grows_to v n below (suc (count c)) j c rest (self_less (count c)) le q.0 q.1 x
 
 pub class_refs_read : (v : Version) (n : ℕ) → Below v n → (j : NodeKind) (c : Forest) (rest : List Token)

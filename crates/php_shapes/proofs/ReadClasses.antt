@@ -28,7 +28,7 @@ use Rattle.std.proofs.Common.{
   ◌∙◌,
   subst,
 }
-use Rattle.std.proofs.lemmas.Bool.{eqb-true}
+use Rattle.std.proofs.lemmas.Bool.{eqb-true, and_parts}
 use Rattle.std.specs.Prelude.{slice_index}
 use Rattle.std.specs.Char.{to_ascii_lowercase}
 use Rattle.php_tree.specs.declared.token.Token.{Token}
@@ -215,17 +215,13 @@ nth n [] = None
 nth zero (c ∷ cs) = Some c
 nth (suc n) (c ∷ cs) = nth n cs
 
-pub both : (a b : Bool) → (a && b) ≡ true → (a ≡ true) × (b ≡ true)
-both true b h = (refl, h)
-both false b h = absurd cc
-
 some_is : (a b : Terminal) → Some a ≡ Some b → a ≡ b
 some_is a b e = cc
 
 holds_at : (P : Terminal → Bool) (n : ℕ) (cs : List Terminal) (c : Terminal) → all_of P cs ≡ true → nth n cs ≡ Some c → P c ≡ true
 holds_at P n [] c h e = absurd cc
-holds_at P zero (d ∷ cs) c h e = subst (λ (x : Terminal). P x ≡ true) (some_is d c e) ((both (P d) (all_of P cs) h).0)
-holds_at P (suc n) (d ∷ cs) c h e = holds_at P n cs c ((both (P d) (all_of P cs) h).1) e
+holds_at P zero (d ∷ cs) c h e = subst (λ (x : Terminal). P x ≡ true) (some_is d c e) ((and_parts (P d) (all_of P cs) h).0)
+holds_at P (suc n) (d ∷ cs) c h e = holds_at P n cs c ((and_parts (P d) (all_of P cs) h).1) e
 
 nth_code : (c : Terminal) → nth (code c) all_classes ≡ Some c
 nth_code t.InlineHtml = refl
@@ -268,7 +264,7 @@ found_in : (P : Terminal → Bool) (other : Terminal) (rows : List (List ℕ × 
     → rows_all P rows ≡ true → P (find_row other rows text) ≡ true
 found_in P other [] text h a = h
 found_in P other (r ∷ rs) text h a =
-    let two : (P r.1 ≡ true) × (rows_all P rs ≡ true) = both (P r.1) (rows_all P rs) a in
+    let two : (P r.1 ≡ true) × (rows_all P rs ≡ true) = and_parts (P r.1) (rows_all P rs) a in
     either_holds P (is_word r.0 text) r.1 (find_row other rs text) two.0 (found_in P other rs text h two.1)
 
 label_in : (P : Terminal → Bool) (text : List ℕ) → P t.Label ≡ true → rows_all P labels ≡ true → P (label text) ≡ true
@@ -399,14 +395,6 @@ pub or_is : (a b : Bool) → (a || b) ≡ true → (a ≡ true) ⊎ (b ≡ true)
 or_is true b h = inl refl
 or_is false b h = inr h
 
-or_left : (a b : Bool) → a ≡ true → (a || b) ≡ true
-or_left true b h = refl
-or_left false b h = absurd cc
-
-or_right : (a b : Bool) → b ≡ true → (a || b) ≡ true
-or_right true b h = refl
-or_right false b h = h
-
 and_left : (a b c : Bool) → (a || b && c) ≡ true → (a || b) ≡ true
 and_left true b c h = refl
 and_left false true c h = refl
@@ -453,7 +441,7 @@ may_be v t.GroupedClass own x e r = of_set t.GroupedClass own (in_set v t.Groupe
 may_be v t.AttributeName own x e r = of_set t.AttributeName own _ _ r refl (λ h. subst (λ (c : Terminal). is_whole_name c ≡ true) e (attribute_by x.kind x.text h))
 may_be v t.AnyWord own x e r = of_set t.AnyWord own _ _ r refl (λ h. subst (λ (c : Terminal). is_word_class c ≡ true) e (word_by x.kind x.text h))
 may_be v t.ConstantWord own x e r = of_set t.ConstantWord own _ _ r refl
-    (λ h. subst (λ (c : Terminal). is_word_class c ≡ true) e (word_by x.kind x.text ((both (is_word_token x) _ h).0)))
+    (λ h. subst (λ (c : Terminal). is_word_class c ≡ true) e (word_by x.kind x.text ((and_parts (is_word_token x) _ h).0)))
 may_be v asked own x e r = λ h. h
 
 pub accepted : (v : Version) (asked : Terminal) (x : Token) → accepts v asked x ≡ true → could v asked (terminal x) ≡ true

@@ -1,5 +1,6 @@
 -- Variable expressions in quoted texts are read as they were.
 use Rattle.std.proofs.Common.{◌≡◌, ℕ, zero, suc, ◌<◌, Bool, true, false, ◌&&◌, ◌||◌, List, ◌++◌, Some, None, refl, ap, ◌∙◌, append_assoc, arith}
+use Rattle.std.proofs.lemmas.Bool.{and_parts}
 use Rattle.php_tree.specs.declared.kind.NodeKind.{NodeKind}
 use Rattle.php_tree.specs.declared.kind.NodeKind.TheVariants as k
 use Rattle.php_tree.specs.declared.token.Token.{Token}
@@ -23,7 +24,7 @@ use Rattle.php_shapes.specs.Atoms.{variable}
 use Rattle.php_shapes.specs.Forms.{form as shape_of}
 use Rattle.php_shapes.specs.Places.{Embedded, begins_with_variable, is_postfixed, may_stand}
 use Rattle.php_shapes.specs.Shapes.{Fits, IsNode, is_node}
-use Rattle.php_shapes.proofs.ReadClasses.{both, for_all}
+use Rattle.php_shapes.proofs.ReadClasses.{for_all}
 use Rattle.php_shapes.proofs.Leftmost.{front_node, postfixed_forms}
 use Rattle.php_shapes.proofs.ReadFirst.{starts}
 use Rattle.php_shapes.proofs.ReadEnds.{closes_embedded, closes_expression}
@@ -73,7 +74,7 @@ starts_by : (v : Version) (n : ℕ) → Starting v n → (j : NodeKind) (c : For
     → is_variable_start (first_of (leaves c ++ us)) ≡ true
 starts_by v n ih j c us lt true a w x = by_variable v j c us a x
 starts_by v n ih j c us lt false a w x =
-    let q : (is_postfixed j ≡ true) × (begins_with_variable c ≡ true) = both (is_postfixed j) (begins_with_variable c) w in
+    let q : (is_postfixed j ≡ true) × (begins_with_variable c ≡ true) = and_parts (is_postfixed j) (begins_with_variable c) w in
     by_left v n ih j c us lt q.0 q.1 x
 
 embedded_starts : (v : Version) (n : ℕ) → Starting v n
@@ -129,7 +130,7 @@ pub embedded_read : (v : Version) (j : NodeKind) (c : Forest) (rest : List Token
     → Spells (php v) s.Embedded (j, c) rest
 embedded_read v j c rest gr st x h =
     let q : (is_variable_expression j ≡ true) × (begins_with_variable (node j c none) ≡ true) =
-    both (is_variable_expression j) (begins_with_variable (node j c none)) st in (
+    and_parts (is_variable_expression j) (begins_with_variable (node j c none)) st in (
       as_embedded v j c rest gr (variable_offset (role_of j) q.0) q.1 x,
       embedded_none v j rest (closed_postfix v j (first_of rest) rest (closes_all (first_of rest) h)) q.0,
     )

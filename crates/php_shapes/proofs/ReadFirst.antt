@@ -1,5 +1,6 @@
 -- With which classes of tokens nodes begin.
 use Rattle.std.proofs.Common.{◌≡◌, Bool, true, false, cond, ◌&&◌, ◌||◌, List, [], ◌∷◌, ◌++◌, inl, inr, refl, sym, ◌∙◌, subst, append-nil}
+use Rattle.std.proofs.lemmas.Bool.{or_left, or_right, and_parts}
 use Rattle.php_tree.specs.declared.kind.NodeKind.{NodeKind}
 use Rattle.php_tree.specs.declared.kind.NodeKind.TheVariants as k
 use Rattle.php_tree.specs.declared.token.Token.{Token}
@@ -36,7 +37,7 @@ use Rattle.php_shapes.specs.Places.{
   is_class_name,
 }
 use Rattle.php_shapes.specs.Shapes.{Fits, is_nothing, is_word, is_kind, is_place, is_inside, is_both, is_first, is_second, no_more, once_more, is_tokens, IsNode, is_node}
-use Rattle.php_shapes.proofs.ReadClasses.{for_all, both, could, accepted, everywhere, whenever, or_is}
+use Rattle.php_shapes.proofs.ReadClasses.{for_all, could, accepted, everywhere, whenever, or_is}
 
 -- what an expression or a list form begins with
 abbrev pub begins_expression : Terminal → Bool
@@ -344,9 +345,9 @@ pub at_place : (v : Version) (p : Place) (j : NodeKind) (c : Forest) → may_sta
 unfolding for_all
 at_place v Statement j c h d b = stand is_statement begins_statement j (at_statement j) h d b
 at_place v Member j c h d b = stand is_member begins_member j (at_member j) h d b
-at_place v (Operand n) j c h d b = stand is_expression begins_expression j (at_expression j) ((both (is_expression j) _ h).0) d b
-at_place v (Left n) j c h d b = stand is_expression begins_expression j (at_expression j) ((both (is_expression j) _ h).0) d b
-at_place v LeftShort j c h d b = stand is_short_ternary begins_expression j (at_short j) ((both (is_short_ternary j) _ h).0) d b
+at_place v (Operand n) j c h d b = stand is_expression begins_expression j (at_expression j) ((and_parts (is_expression j) _ h).0) d b
+at_place v (Left n) j c h d b = stand is_expression begins_expression j (at_expression j) ((and_parts (is_expression j) _ h).0) d b
+at_place v LeftShort j c h d b = stand is_short_ternary begins_expression j (at_short j) ((and_parts (is_short_ternary j) _ h).0) d b
 at_place v OffsetBase j c h d b = stand is_offset_base begins_place j (at_offset_base j) h d b
 at_place v MemberBase j c h d b = stand is_member_base begins_place j (at_member_base j) h d b
 at_place v ClassBase j c h d b = stand is_class_base begins_place j (at_class_base j) h d b
@@ -357,18 +358,10 @@ at_place v TargetOrList j c h d b = elim (or_is (is_target j) (is_list j) h) [
   | inr e
       ↦ stand is_list begins_expression j (at_list j) e d b
 ]
-at_place v ClassName j c h d b = stand is_class_name begins_expression j (at_class_name j) ((both (is_class_name j) _ h).0) d b
-at_place v Embedded j c h d b = stand is_variable_expression begins_place j (at_variable_expression j) ((both (is_variable_expression j) _ h).0) d b
+at_place v ClassName j c h d b = stand is_class_name begins_expression j (at_class_name j) ((and_parts (is_class_name j) _ h).0) d b
+at_place v Embedded j c h d b = stand is_variable_expression begins_place j (at_variable_expression j) ((and_parts (is_variable_expression j) _ h).0) d b
 
 -- ---- trees
-
-or_left : (a b : Bool) → a ≡ true → (a || b) ≡ true
-or_left true b h = refl
-or_left false b h = absurd cc
-
-or_right : (a b : Bool) → b ≡ true → (a || b) ≡ true
-or_right true b h = refl
-or_right false b h = h
 
 Begins-weaken : (P Q : Terminal → Bool) (b c : Bool) (ts : List Token) → ((d : Terminal) → P d ≡ true → Q d ≡ true) → (b ≡ true → c ≡ true) → Begins P b ts → Begins Q c ts
 Begins-weaken P Q b c [] f g h = g h
@@ -445,5 +438,5 @@ mutual
   pub node_begins : (v : Version) {j : NodeKind} {c : Forest} → IsNode v j c → Begins (begins j) (may_be_empty j) (leaves c)
   node_begins v (is_node {k = j} {c = c} x near straight) =
       Begins-weaken (starts v (form v j)) (begins j) (nullable (form v j)) (may_be_empty j) (leaves c)
-      (there (starts v (form v j)) (begins j) ((both _ _ (kinds_are_sound v j)).0))
-      (λ e. when_true _ _ e ((both _ _ (kinds_are_sound v j)).1)) (rule_begins v x)
+      (there (starts v (form v j)) (begins j) ((and_parts _ _ (kinds_are_sound v j)).0))
+      (λ e. when_true _ _ e ((and_parts _ _ (kinds_are_sound v j)).1)) (rule_begins v x)

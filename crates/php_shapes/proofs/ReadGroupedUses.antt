@@ -1,5 +1,6 @@
 -- One name of a use of classes in braces is read as it was.
 use Rattle.std.proofs.Common.{◌≡◌, ℕ, ◌≤◌, Bool, true, false, not, List, [], ◌∷◌, ◌++◌, refl, sym, ap, ◌∙◌, subst}
+use Rattle.std.proofs.lemmas.Bool.{not-true}
 use Rattle.php_tree.specs.declared.token.Token.{Token}
 use Rattle.php_tree.specs.declared.version.Version.{Version}
 use Rattle.php_tree.specs.declared.version.Version.TheVariants.{V74, V83}
@@ -20,7 +21,7 @@ use Rattle.php_shapes.specs.Shapes.{Fits, is_first, is_second}
 use Rattle.php_shapes.proofs.ReadClasses.{for_all}
 use Rattle.php_shapes.proofs.ReadFirst.{nullable, starts}
 use Rattle.php_shapes.proofs.ReadEnds.{Below}
-use Rattle.php_shapes.proofs.ReadMatch.{before_none, both_is, false_true, fits_alone, matched, matches, not_true, where_is, where_it}
+use Rattle.php_shapes.proofs.ReadMatch.{before_none, both_is, false_true, fits_alone, matched, matches, where_is, where_it}
 use Rattle.php_shapes.proofs.ReadBodies.{group_alone, walks_on}
 use Rattle.php_shapes.proofs.ReadStatements.{begins_with, begun, first_in}
 use Rattle.php_shapes.proofs.ReadImports.{grouped_kept_walks, grouped_renamed_walks, renames_grouped}
@@ -70,7 +71,7 @@ kind_matches V83 = (refl, refl, refl, refl)
 no_kind : (v : Version) (r : Rule) (f : Forest) (us : List Token)
     → for_all (λ c. where_it (starts v r c) (not (tells_kind c))) ≡ true → nullable r ≡ false → Fits v r f
     → tells_kind (first_of (leaves f ++ us)) ≡ false
-no_kind v r f us b u x = not_true (tells_kind (first_of (leaves f ++ us))) (where_is (starts v r) (λ c. not (tells_kind c)) (first_of (leaves f ++ us)) b (first_in v r f us x u))
+no_kind v r f us b u x = not-true (tells_kind (first_of (leaves f ++ us))) (where_is (starts v r) (λ c. not (tells_kind c)) (first_of (leaves f ++ us)) b (first_in v r f us x u))
 
 group_by : (v : Version) (f : Forest) (us : List Token) (is : List Item)
     → class_grouped (first_of (leaves f ++ us)) ≡ is → Walks (php v) is f us

@@ -1,5 +1,6 @@
 -- `if` statements are read as they were.
 use Rattle.std.proofs.Common.{◌≡◌, ℕ, ◌≤◌, Bool, true, false, not, ◌&&◌, ◌||◌, List, [], ◌∷◌, ◌++◌, Some, inl, inr, refl, sym, ap, ◌∙◌, subst}
+use Rattle.std.proofs.lemmas.Bool.{not-true, and_parts}
 use Rattle.php_tree.specs.declared.kind.NodeKind.TheVariants as k
 use Rattle.php_tree.specs.declared.token.Token.{Token}
 use Rattle.php_tree.specs.declared.version.Version.{Version}
@@ -24,7 +25,7 @@ use Rattle.php_shapes.specs.Nearest.{elses_are_nearest, ends_in_if, has_else, is
 use Rattle.php_shapes.specs.Notation.{Rule, nothing, word, kind, place, inside, ◌~◌, ◌|||◌, many, tokens, maybe, expr}
 use Rattle.php_shapes.specs.Shapes.{Fits, is_nothing, is_word, is_kind, is_place, is_inside, is_both, is_first, is_second, no_more, once_more, IsNode}
 use Rattle.php_shapes.specs.Statements.{condition, statement}
-use Rattle.php_shapes.proofs.ReadClasses.{accepted, both, could, for_all, pinned, whenever}
+use Rattle.php_shapes.proofs.ReadClasses.{accepted, could, for_all, pinned, whenever}
 use Rattle.php_shapes.proofs.ReadFirst.{begins_statement, there}
 use Rattle.php_shapes.proofs.ReadEnds.{Below, closes_statement, EndsStatement}
 use Rattle.php_shapes.proofs.ReadMatch.{before_none, both_is, false_true, fits_alone, Last, leaves_before, left_le, matched, matches, nothing_is, right_le, word_is}
@@ -180,10 +181,6 @@ first_false : (a b : Bool) → (a || b) ≡ false → a ≡ false
 first_false true b h = absurd (false_true (sym h))
 first_false false b h = refl
 
-not_false : (b : Bool) → not b ≡ true → b ≡ false
-not_false true h = absurd (false_true h)
-not_false false h = refl
-
 no_else_in : (g h : Forest) → has_else g ≡ false → has_else h ≡ false → has_else (g +++ h) ≡ false
 no_else_in none h a b = b
 no_else_in (leaf x g) h a b = rw (first_false (is_else (terminal x)) (has_else g) a) (no_else_in g h (right_false (is_else (terminal x)) (has_else g) a) b)
@@ -191,15 +188,15 @@ no_else_in (node j c g) h a b = no_else_in g h a b
 
 no_else : (v : Version) (r : Rule) (f : Forest) → lacks_else v r ≡ true → Fits v r f → has_else f ≡ false
 no_else v nothing f l is_nothing = refl
-no_else v (word w) f l (is_word {x = x} a) = rw (not_false (is_else (terminal x)) (there (could v w) (λ c. not (is_else c)) l (terminal x) (accepted v w x a))) refl
+no_else v (word w) f l (is_word {x = x} a) = rw (not-true (is_else (terminal x)) (there (could v w) (λ c. not (is_else c)) l (terminal x) (accepted v w x a))) refl
 no_else v (kind j) f l (is_kind x) = refl
 no_else v (place p) f l (is_place m x) = refl
 no_else v (inside j r) f l (is_inside x y) = refl
 no_else v (r ~ q) f l (is_both {g = g} {h = h} x y e) =
-    let z : (lacks_else v r ≡ true) × (lacks_else v q ≡ true) = both (lacks_else v r) (lacks_else v q) l in
+    let z : (lacks_else v r ≡ true) × (lacks_else v q ≡ true) = and_parts (lacks_else v r) (lacks_else v q) l in
     ap has_else e ∙ no_else_in g h (no_else v r g z.0 x) (no_else v q h z.1 y)
-no_else v (r ||| q) f l (is_first x) = no_else v r f ((both (lacks_else v r) (lacks_else v q) l).0) x
-no_else v (r ||| q) f l (is_second x) = no_else v q f ((both (lacks_else v r) (lacks_else v q) l).1) x
+no_else v (r ||| q) f l (is_first x) = no_else v r f ((and_parts (lacks_else v r) (lacks_else v q) l).0) x
+no_else v (r ||| q) f l (is_second x) = no_else v q f ((and_parts (lacks_else v r) (lacks_else v q) l).1) x
 no_else v (many r) f l no_more = refl
 no_else v (many r) f l (once_more {g = g} {h = h} x y e) = ap has_else e ∙ no_else_in g h (no_else v r g l x) (no_else v (many r) h l y)
 no_else v tokens f l x = absurd (false_true l)

@@ -27,7 +27,7 @@ use Rattle.std.proofs.Common.{
   nat_lt,
   arith,
 }
-use Rattle.std.proofs.lemmas.Bool.{leb-true, lt-ltb}
+use Rattle.std.proofs.lemmas.Bool.{leb-true, lt-ltb, or_left, and_parts}
 use Rattle.php_tree.specs.declared.kind.NodeKind.{NodeKind}
 use Rattle.php_tree.specs.declared.kind.NodeKind.TheVariants as k
 use Rattle.php_tree.specs.declared.token.Token.{Token}
@@ -52,7 +52,7 @@ use Rattle.php_shapes.specs.Notation.{word, place, ◌~◌}
 use Rattle.php_shapes.specs.Operators.{binary}
 use Rattle.php_shapes.specs.Places.{Operand, Left, is_expression, is_prefix, may_stand}
 use Rattle.php_shapes.specs.Shapes.{Fits, is_first, is_second, IsNode}
-use Rattle.php_shapes.proofs.ReadClasses.{both, could, for_all, pinned, whenever}
+use Rattle.php_shapes.proofs.ReadClasses.{could, for_all, pinned, whenever}
 use Rattle.php_shapes.proofs.ReadEnds.{behind_level, behind_limit, Below}
 use Rattle.php_shapes.proofs.ReadMatch.{both_is, false_true, nodes_count, place_is, word_is}
 use Rattle.php_shapes.proofs.ReadOperands.{Before, ends_its_chain, FitsLevel, Grown, last_operand, only_behind}
@@ -110,11 +110,7 @@ fits_binary v m p x j e h = elim h [ inl le ↦ subst (λ (z : ℕ). z ≤ m) e 
 
 pub left_of : (v : Version) (l : ℕ) (i : NodeKind) (b : Forest) → may_stand v (Left l) (i, b) ≡ true → (is_expression i ≡ true) × (edge v (i, b) ≤ l)
 left_of v l i b h = let q : (is_expression i ≡ true) × (nat_le (edge v (i, b)) l ≡ true) =
-    both (is_expression i) (nat_le (edge v (i, b)) l) h in (q.0, leb-true (edge v (i, b)) l q.1)
-
-pub or_list : (a b : Bool) → a ≡ true → (a || b) ≡ true
-or_list true b h = refl
-or_list false b h = absurd (false_true h)
+    and_parts (is_expression i) (nat_le (edge v (i, b)) l) h in (q.0, leb-true (edge v (i, b)) l q.1)
 
 pub left_edge_is : (v : Version) (i : NodeKind) (b : Forest) → is_list i ≡ false → left_edge v (i, b) ≡ edge v (i, b)
 left_edge_is v i b e = rw e refl
@@ -135,7 +131,7 @@ infix_at v n below grown m op l p q is i b x i' b' c rest at st nd acc st' nd' l
     let pm : p ≤ m = fits_binary v m p (k.Binary, node i b f) refl lp (subst (λ (z : Forest). FitsLevel v m (k.Binary, z)) at fl) in
     let two : (count b < n) × (count f ≤ n) = nodes_count i b f n (subst (λ (z : Forest). count z ≤ n) at le) in
     let left : Grows (php v) (s.Operand m) i b ts = grown.operand m i b ts two.0
-    (or_list (is_expression i) (is_list i) lq.0)
+    (or_left (is_expression i) (is_list i) lq.0)
     (inl (le_trans3 (level v (i, b)) (edge v (i, b)) m (level_of_node v (i, b))
     (le_trans3 (edge v (i, b)) l m lq.1 (le_trans3 l p m is.low pm)))) nd
     (inl (

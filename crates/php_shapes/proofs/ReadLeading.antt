@@ -1,5 +1,6 @@
 -- What stands behind the bracket that leads an expression.
 use Rattle.std.proofs.Common.{◌≡◌, ℕ, zero, suc, ◌<◌, Bool, true, false, not, ◌&&◌, ◌||◌, List, ◌++◌, ◌⊎◌, inl, inr, Some, refl, sym, ap, ◌∙◌, subst, nat_le, append_assoc, arith}
+use Rattle.std.proofs.lemmas.Bool.{or_left, and_parts, or_right, not-true}
 use Rattle.php_tree.specs.declared.kind.NodeKind.{NodeKind}
 use Rattle.php_tree.specs.declared.kind.NodeKind.TheVariants as k
 use Rattle.php_tree.specs.declared.token.Token.{Token}
@@ -13,7 +14,7 @@ use Rattle.php_shapes.specs.Forms.{form as shape_of}
 use Rattle.php_shapes.specs.Notation.{Rule, nothing, word, kind, place, inside, ◌~◌, ◌|||◌, many, maybe, parens}
 use Rattle.php_shapes.specs.Places.{Place, Operand, may_stand}
 use Rattle.php_shapes.specs.Shapes.{Fits, is_both, is_first, is_second, IsNode, is_node}
-use Rattle.php_shapes.proofs.ReadClasses.{both, for_all}
+use Rattle.php_shapes.proofs.ReadClasses.{for_all}
 use Rattle.php_shapes.proofs.ReadFirst.{Begins, nullable, rule_begins, starts}
 use Rattle.php_shapes.proofs.ReadEnds.{closes_item}
 use Rattle.php_shapes.proofs.ReadMatch.{begins_there, both_is, false_true, place_is, where_is, where_it}
@@ -31,10 +32,8 @@ use Rattle.php_grammar.specs.Edges.{edge}
 use Rattle.php_shapes.specs.Atoms.{list_item}
 use Rattle.php_shapes.specs.Notation.{commas}
 use Rattle.php_shapes.specs.Places.{ClassName, Embedded, Member, Statement}
-use Rattle.php_shapes.proofs.ReadAssigns.{or_right, short_is_expression}
+use Rattle.php_shapes.proofs.ReadAssigns.{short_is_expression}
 use Rattle.php_shapes.proofs.ReadClasses.{or_is}
-use Rattle.php_shapes.proofs.ReadInfix.{or_list}
-use Rattle.php_shapes.proofs.ReadMatch.{not_true}
 
 -- ---- what stands behind the bracket that leads a node
 
@@ -91,19 +90,19 @@ no_bracket : (v : Version) (L : Place → Bool) (K : Terminal → Bool) (r : Rul
     → first_of (leaves c ++ us) ≡ t.OpenBracket → LedBy v L K c us
 no_bracket v L K r c us h x e =
     let q : (for_all (λ d. where_it (starts v r d) (is_no_bracket d)) ≡ true)
-    × (not (nullable r) ≡ true) = both (for_all (λ d. where_it (starts v r d) (is_no_bracket d)))
+    × (not (nullable r) ≡ true) = and_parts (for_all (λ d. where_it (starts v r d) (is_no_bracket d)))
     (not (nullable r)) h in
     absurd (false_true (ap is_no_bracket (sym e) ∙ where_is (starts v r) is_no_bracket (first_of (leaves c ++ us)) q.0
     (begins_there (starts v r) (leaves c) us
-    (subst (λ (z : Bool). Begins (starts v r) z (leaves c)) (not_true (nullable r) q.1) (rule_begins v x)))))
+    (subst (λ (z : Bool). Begins (starts v r) z (leaves c)) (not-true (nullable r) q.1) (rule_begins v x)))))
 
 place_led : (v : Version) (L : Place → Bool) (K : Terminal → Bool) (p : Place) (z : Rule) (c : Forest)
     (us : List Token) → (L p && (not (nullable z) && for_all (λ d. where_it (starts v z d) (K d)))) ≡ true
     → Fits v (place p ~ z) c → LedBy v L K c us
 place_led v L K p z c us h x =
     let q : (L p ≡ true) × ((not (nullable z) && for_all (λ d. where_it (starts v z d) (K d))) ≡ true) =
-    both (L p) (not (nullable z) && for_all (λ d. where_it (starts v z d) (K d))) h in
-    let q2 : (not (nullable z) ≡ true) × (for_all (λ d. where_it (starts v z d) (K d)) ≡ true) = both (not (nullable z)) (for_all (λ d. where_it (starts v z d) (K d))) q.1 in
+    and_parts (L p) (not (nullable z) && for_all (λ d. where_it (starts v z d) (K d))) h in
+    let q2 : (not (nullable z) ≡ true) × (for_all (λ d. where_it (starts v z d) (K d)) ≡ true) = and_parts (not (nullable z)) (for_all (λ d. where_it (starts v z d) (K d))) q.1 in
     let o : (g1 : Forest) × (g2 : Forest) × Fits v (place p) g1 × Fits v z g2 × (c ≡ g1 +++ g2) = both_is v (place p) z c x in
     let w : (i : NodeKind) × (b : Forest) × (o.0 ≡ node i b none) × (may_stand v p (i, b) ≡ true) × IsNode v i b = place_is v p o.0 o.2 in
     record {
@@ -118,14 +117,14 @@ place_led v L K p z c us h x =
           ∙ ap (λ (m : Forest). m +++ o.1) w.2;
       next = where_is (starts v z) K (first_of (leaves o.1 ++ us)) q2.1
           (begins_there (starts v z) (leaves o.1) us
-          (subst (λ (m : Bool). Begins (starts v z) m (leaves o.1)) (not_true (nullable z) q2.0) (rule_begins v o.3)));
+          (subst (λ (m : Bool). Begins (starts v z) m (leaves o.1)) (not-true (nullable z) q2.0) (rule_begins v o.3)));
     }
 
 front_by : (v : Version) (L : Place → Bool) (K : Terminal → Bool) (r z : Rule) (c g h : Forest) (us : List Token)
     → led_front v L K r z ≡ true → Fits v r g → Fits v z h → c ≡ g +++ h → first_of (leaves c ++ us) ≡ t.OpenBracket
     → LedBy v L K c us
-front_by v L K (r ||| q) z c g h us l (is_first x) y e m = front_by v L K r z c g h us ((both (led_front v L K r z) (led_front v L K q z) l).0) x y e m
-front_by v L K (r ||| q) z c g h us l (is_second x) y e m = front_by v L K q z c g h us ((both (led_front v L K r z) (led_front v L K q z) l).1) x y e m
+front_by v L K (r ||| q) z c g h us l (is_first x) y e m = front_by v L K r z c g h us ((and_parts (led_front v L K r z) (led_front v L K q z) l).0) x y e m
+front_by v L K (r ||| q) z c g h us l (is_second x) y e m = front_by v L K q z c g h us ((and_parts (led_front v L K r z) (led_front v L K q z) l).1) x y e m
 front_by v L K (place p) z c g h us l x y e m = place_led v L K p z c us l (is_both x y e)
 front_by v L K nothing z c g h us l x y e m = no_bracket v L K (nothing ~ z) c us l (is_both x y e) m
 front_by v L K (word w) z c g h us l x y e m = no_bracket v L K ((word w) ~ z) c us l (is_both x y e) m
@@ -138,8 +137,8 @@ front_by v L K tokens z c g h us l x y e m = no_bracket v L K (tokens ~ z) c us 
 pub led_by : (v : Version) (L : Place → Bool) (K : Terminal → Bool) (r : Rule) (c : Forest) (us : List Token)
     → led v L K r ≡ true → Fits v r c → first_of (leaves c ++ us) ≡ t.OpenBracket → LedBy v L K c us
 led_by v L K (r ~ z) c us l (is_both {g = g} {h = h} x y e) m = front_by v L K r z c g h us l x y e m
-led_by v L K (r ||| q) c us h (is_first x) m = led_by v L K r c us ((both (led v L K r) (led v L K q) h).0) x m
-led_by v L K (r ||| q) c us h (is_second x) m = led_by v L K q c us ((both (led v L K r) (led v L K q) h).1) x m
+led_by v L K (r ||| q) c us h (is_first x) m = led_by v L K r c us ((and_parts (led v L K r) (led v L K q) h).0) x m
+led_by v L K (r ||| q) c us h (is_second x) m = led_by v L K q c us ((and_parts (led v L K r) (led v L K q) h).1) x m
 led_by v L K nothing c us h x m = no_bracket v L K nothing c us h x m
 led_by v L K (word w) c us h x m = no_bracket v L K (word w) c us h x m
 led_by v L K (kind j) c us h x m = no_bracket v L K (kind j) c us h x m
@@ -352,15 +351,15 @@ expression_left v Member i b l h = absurd (false_true l)
 expression_left v (Operand n) i b l h = absurd (false_true l)
 expression_left v ClassName i b l h = absurd (false_true l)
 expression_left v Embedded i b l h = absurd (false_true l)
-expression_left v (Left n) i b l h = or_list (is_expression i) (is_list i) ((both (is_expression i) (nat_le (edge v (i, b)) n) h).0)
-expression_left v LeftShort i b l h = or_list (is_expression i) (is_list i) (short_is_expression i ((both (is_short_ternary i) (nat_le (edge v (i, b)) 18) h).0))
-expression_left v OffsetBase i b l h = or_list (is_expression i) (is_list i) (base_expression i h)
-expression_left v MemberBase i b l h = or_list (is_expression i) (is_list i) (base_expression i (member_offset (role_of i) h))
-expression_left v ClassBase i b l h = or_list (is_expression i) (is_list i) (base_expression i (class_offset (role_of i) h))
-expression_left v Callee i b l h = or_list (is_expression i) (is_list i) (base_expression i (callee_offset (role_of i) h))
-expression_left v Target i b l h = or_list (is_expression i) (is_list i) (base_expression i (target_offset (role_of i) h))
+expression_left v (Left n) i b l h = or_left (is_expression i) (is_list i) ((and_parts (is_expression i) (nat_le (edge v (i, b)) n) h).0)
+expression_left v LeftShort i b l h = or_left (is_expression i) (is_list i) (short_is_expression i ((and_parts (is_short_ternary i) (nat_le (edge v (i, b)) 18) h).0))
+expression_left v OffsetBase i b l h = or_left (is_expression i) (is_list i) (base_expression i h)
+expression_left v MemberBase i b l h = or_left (is_expression i) (is_list i) (base_expression i (member_offset (role_of i) h))
+expression_left v ClassBase i b l h = or_left (is_expression i) (is_list i) (base_expression i (class_offset (role_of i) h))
+expression_left v Callee i b l h = or_left (is_expression i) (is_list i) (base_expression i (callee_offset (role_of i) h))
+expression_left v Target i b l h = or_left (is_expression i) (is_list i) (base_expression i (target_offset (role_of i) h))
 expression_left v TargetOrList i b l h = elim (or_is (is_target i) (is_list i) h) [
-  | inl e ↦ or_list (is_expression i) (is_list i) (base_expression i (target_offset (role_of i) e))
+  | inl e ↦ or_left (is_expression i) (is_list i) (base_expression i (target_offset (role_of i) e))
   | inr e
       ↦ or_right (is_expression i) (is_list i) e
 ]

@@ -1,5 +1,6 @@
 -- List forms.
 use Rattle.std.proofs.Common.{◌≡◌, ℕ, ◌<◌, ◌≤◌, Bool, true, false, not, ◌&&◌, List, [], ◌∷◌, ◌++◌, length, inl, inr, Some, refl, sym, ap, ◌∙◌, subst, append-nil, arith}
+use Rattle.std.proofs.lemmas.Bool.{and_parts}
 use Rattle.php_tree.specs.declared.kind.NodeKind.{NodeKind}
 use Rattle.php_tree.specs.declared.kind.NodeKind.TheVariants as k
 use Rattle.php_tree.specs.declared.token.Token.{Token}
@@ -23,7 +24,7 @@ use Rattle.php_shapes.specs.Nearest.{arrows_are_nearest, elses_are_nearest, is_n
 use Rattle.php_shapes.specs.Notation.{Rule, word, place, ◌~◌, ◌|||◌, many, maybe, expr, parens}
 use Rattle.php_shapes.specs.Places.{Operand, may_stand}
 use Rattle.php_shapes.specs.Shapes.{Fits, is_both, is_first, is_second, IsNode}
-use Rattle.php_shapes.proofs.ReadClasses.{both, for_all}
+use Rattle.php_shapes.proofs.ReadClasses.{for_all}
 use Rattle.php_shapes.proofs.ReadFirst.{Begins, rule_begins, starts}
 use Rattle.php_shapes.proofs.ReadEnds.{Below, closes_item, is_open_for_arrow}
 use Rattle.php_shapes.proofs.ReadMatch.{
@@ -147,7 +148,7 @@ list_item_grows v n below c rest (is_second (is_second (is_both {g = a} {h = f} 
     (subst (λ (z : Forest). Walks (php v) (Node s.Entry ∷ Part g.EntryValue ∷ []) z rest) (sym at)
     (entry_key v n below w.0 w.1 f rest w.3 w.4
     (subst (λ (z : Forest). arrows_are_nearest false z ≡ true) at
-    ((both (elses_are_nearest false c) (arrows_are_nearest false c) near).1)) y
+    ((and_parts (elses_are_nearest false c) (arrows_are_nearest false c) near).1)) y
     (subst (λ (z : Forest). count z ≤ n) at le) h))
 
 -- ---- an item that may be missing, and the others

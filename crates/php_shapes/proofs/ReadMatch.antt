@@ -29,6 +29,7 @@ use Rattle.std.proofs.Common.{
   append_assoc,
   arith,
 }
+use Rattle.std.proofs.lemmas.Bool.{not-true, and_parts}
 use Rattle.php_tree.specs.declared.kind.NodeKind.{NodeKind}
 use Rattle.php_tree.specs.declared.token.Token.{Token}
 use Rattle.php_tree.specs.declared.version.Version.{Version}
@@ -48,7 +49,7 @@ use Rattle.php_exprs.proofs.Forests.{leaves_append, forest_assoc}
 use Rattle.php_shapes.specs.Notation.{Rule, nothing, word, kind, place, inside, ◌~◌, ◌|||◌, many, tokens}
 use Rattle.php_shapes.specs.Places.{Place, may_stand}
 use Rattle.php_shapes.specs.Shapes.{Fits, is_nothing, is_word, is_kind, is_place, is_both, is_first, is_second, no_more, once_more, IsNode}
-use Rattle.php_shapes.proofs.ReadClasses.{accepted, for_all, both, could, everywhere, or_is, same_is}
+use Rattle.php_shapes.proofs.ReadClasses.{accepted, for_all, could, everywhere, or_is, same_is}
 use Rattle.php_shapes.proofs.ReadFirst.{Begins, first, nullable, rule_begins, starts}
 use Rattle.php_shapes.proofs.ReadParts.{is_fixed, looks_once, looks_twice, parts_are, parts_are_two, parts_by, parts_by_two}
 use Rattle.php_shapes.proofs.ReadEnds.{Below, EndsStatement, Stopped, reads_kind, stopped, stops, suits}
@@ -313,8 +314,8 @@ empty_is (i ∷ is) e = absurd cc
 one_of : (v : Version) (check : Rule → Terminal → Bool) (F : Terminal → Bool) (r : Rule) (g : Forest)
     (us : List Token) → alternatives v check F r ≡ true → Fits v r g → F (first_of us) ≡ true → (a : Rule)
     × Fits v a g × (check a (first_of (leaves g ++ us)) ≡ true)
-one_of v check F (r ||| q) g us h (is_first x) f = one_of v check F r g us ((both (alternatives v check F r) (alternatives v check F q) h).0) x f
-one_of v check F (r ||| q) g us h (is_second x) f = one_of v check F q g us ((both (alternatives v check F r) (alternatives v check F q) h).1) x f
+one_of v check F (r ||| q) g us h (is_first x) f = one_of v check F r g us ((and_parts (alternatives v check F r) (alternatives v check F q) h).0) x f
+one_of v check F (r ||| q) g us h (is_second x) f = one_of v check F q g us ((and_parts (alternatives v check F r) (alternatives v check F q) h).1) x f
 one_of v check F nothing g us h x f = (
   nothing,
   x,
@@ -428,10 +429,6 @@ some_items : (is : List Item) → not (is_empty is) ≡ true → (i : Item) × (
 some_items [] h = absurd (false_true h)
 some_items (i ∷ is) h = (i, is, refl)
 
-pub not_true : (b : Bool) → not b ≡ true → b ≡ false
-not_true true h = absurd (false_true h)
-not_true false h = refl
-
 five : (a b c d e : Bool) → (a && (b && (c && (d && e)))) ≡ true → (a ≡ true) × (b ≡ true) × (c ≡ true) × (d ≡ true) × (e ≡ true)
 five true true true true e h = (refl, refl, refl, refl, h)
 five true true true false e h = absurd (false_true h)
@@ -470,10 +467,10 @@ module _ (v : Version) (n : ℕ) (below : Below v n) (go : Check) (holds : Holds
       × Walks (php v) is f rest
   skip_holds repeats fin rs group is F f rest c x le h l =
       let one : (looks_once group ≡ true) × ((for_all (λ d. where_it (first v rs F d) (is_empty (parts_by v group d)))
-      && go fin rs is F) ≡ true) = both (looks_once group)
+      && go fin rs is F) ≡ true) = and_parts (looks_once group)
       (for_all (λ d. where_it (first v rs F d) (is_empty (parts_by v group d))) && go fin rs is F) c in
       let two : (for_all (λ d. where_it (first v rs F d) (is_empty (parts_by v group d))) ≡ true)
-      × (go fin rs is F ≡ true) = both (for_all (λ d. where_it (first v rs F d) (is_empty (parts_by v group d))))
+      × (go fin rs is F ≡ true) = and_parts (for_all (λ d. where_it (first v rs F d) (is_empty (parts_by v group d))))
       (go fin rs is F) one.1 in
       (empty_here v group (first v rs F) (leaves f ++ rest) one.0 two.0 (first_class v rs F f rest x h), holds fin rs is F f rest two.1 x le h l)
 
@@ -573,8 +570,8 @@ module _ (v : Version) (n : ℕ) (below : Below v n) (go : Check) (holds : Holds
   aligned_holds fin r rs group is F g h rest c x y le f l =
       let check : Rule → Terminal → Bool = λ a d. go (fin && is_last rs) (a ∷ []) (parts_by v group d) (first v rs F) in
       let one : (looks_once group ≡ true) × ((alternatives v check (first v rs F) r && go fin rs is F) ≡ true) =
-      both (looks_once group) (alternatives v check (first v rs F) r && go fin rs is F) c in
-      let two : (alternatives v check (first v rs F) r ≡ true) × (go fin rs is F ≡ true) = both (alternatives v check (first v rs F) r) (go fin rs is F) one.1 in
+      and_parts (looks_once group) (alternatives v check (first v rs F) r && go fin rs is F) c in
+      let two : (alternatives v check (first v rs F) r ≡ true) × (go fin rs is F ≡ true) = and_parts (alternatives v check (first v rs F) r) (go fin rs is F) one.1 in
       let at : first v rs F (first_of (leaves h ++ rest)) ≡ true = first_class v rs F h rest y f in
       let o : (a : Rule) × Fits v a g × (check a (first_of (leaves g ++ (leaves h ++ rest))) ≡ true) = one_of v check (first v rs F) r g (leaves h ++ rest) two.0 x at in
       part
@@ -601,7 +598,7 @@ module _ (v : Version) (n : ℕ) (below : Below v n) (go : Check) (holds : Holds
       let c : starts v a (first_of (leaves g1 ++ us)) ≡ true = begins_there (starts v a) (leaves g1) us begins in
       let q : (not (is_empty (parts_by v group (first_of (leaves g1 ++ us)))) ≡ true)
       × (go false (a ∷ []) (parts_by v group (first_of (leaves g1 ++ us))) (first v (many a ∷ rs) F) ≡ true) =
-      both (not (is_empty (parts_by v group (first_of (leaves g1 ++ us)))))
+      and_parts (not (is_empty (parts_by v group (first_of (leaves g1 ++ us)))))
       (go false (a ∷ []) (parts_by v group (first_of (leaves g1 ++ us))) (first v (many a ∷ rs) F))
       (choice v (starts v a) (λ d. not (is_empty (parts_by v group d))
       && go false (a ∷ []) (parts_by v group d) (first v (many a ∷ rs) F)) (first_of (leaves g1 ++ us)) tu c) in
@@ -632,7 +629,7 @@ module _ (v : Version) (n : ℕ) (below : Below v n) (go : Check) (holds : Holds
       ]) in
       let q : (looks_once group ≡ true) × (not (nullable a) ≡ true) × (S ≡ true) × (U ≡ true)
       × (go fin rs is F ≡ true) = five (looks_once group) (not (nullable a)) S U (go fin rs is F) c in
-      repeats_hold a rs group is F h rest q.0 (not_true (nullable a) q.1) q.2 q.3 y f
+      repeats_hold a rs group is F h rest q.0 (not-true (nullable a) q.1) q.2 q.3 y f
       (holds fin rs is F h rest q.4 y (right_le g h n le) f (λ e. last_right g h rest (l e))) g x
       (left_le g h n le)
 
@@ -661,7 +658,7 @@ module _ (v : Version) (n : ℕ) (below : Below v n) (go : Check) (holds : Holds
       && go false (a ∷ []) (parts_by_two v group c e) F) d one sec in
       let q : (not (is_empty (parts_by_two v group c d)) ≡ true)
       × (go false (a ∷ []) (parts_by_two v group c d) F ≡ true) =
-      both (not (is_empty (parts_by_two v group c d))) (go false (a ∷ []) (parts_by_two v group c d) F) two in
+      and_parts (not (is_empty (parts_by_two v group c d))) (go false (a ∷ []) (parts_by_two v group c d) F) two in
       let are : parts v group (leaves (leaf x g1) ++ us) ≡ parts_by_two v group c d = parts_are_two v group (leaves (leaf x g1) ++ us) tw in
       let inner : Walks (php v) (parts v group (leaves (leaf x g1) ++ us)) (leaf x g1) us =
       subst (λ (js : List Item). Walks (php v) js (leaf x g1) us) (sym are)
@@ -710,7 +707,7 @@ module _ (v : Version) (n : ℕ) (below : Below v n) (go : Check) (holds : Holds
       let U : Bool = repeat_by_two v go w (starts v b) (word w ~ b) group (first v (many (word w ~ b) ∷ rs) F) in
       let q : (looks_twice group ≡ true) × (not (nullable b) ≡ true) × (S ≡ true) × (U ≡ true)
       × (go fin rs is F ≡ true) = five (looks_twice group) (not (nullable b)) S U (go fin rs is F) c in
-      repeats_two w b rs group is F h rest q.0 (not_true (nullable b) q.1) q.3 y f
+      repeats_two w b rs group is F h rest q.0 (not-true (nullable b) q.1) q.3 y f
       (stop (none_two group (first v rs F) (leaves h ++ rest) q.0 q.2 (first_class v rs F h rest y f))
       (holds fin rs is F h rest q.4 y (right_le g h n le) f (λ e. last_right g h rest (l e))))
       g x (left_le g h n le)
@@ -758,11 +755,11 @@ module _ (v : Version) (n : ℕ) (below : Below v n) (go : Check) (holds : Holds
       let q : (looks_twice group ≡ true) × (not (nullable b) ≡ true) × (S ≡ true) × (U ≡ true)
       × ((Z && go fin rs is F) ≡ true) = five (looks_twice group) (not (nullable b)) S U (Z && go fin rs is F) c
       in
-      let z : (Z ≡ true) × (go fin rs is F ≡ true) = both Z (go fin rs is F) q.4 in
+      let z : (Z ≡ true) × (go fin rs is F ≡ true) = and_parts Z (go fin rs is F) q.4 in
       let le2 : count y.1 ≤ n = right_le y.0 y.1 n (subst (λ (m : Forest). count m ≤ n) y.4 (right_le g h n le)) in
       let last : Walks (php v) is y.1 rest = holds fin rs is F y.1 rest z.1 y.3 le2 f
       (λ e. last_right y.0 y.1 rest (subst (λ (m : Forest). Last m rest) y.4 (last_right g h rest (l e)))) in
-      repeats_two w b ((nothing ||| word u) ∷ rs) group is F h rest q.0 (not_true (nullable b) q.1) q.3 y f
+      repeats_two w b ((nothing ||| word u) ∷ rs) group is F h rest q.0 (not-true (nullable b) q.1) q.3 y f
       (subst (λ (m : Forest). Walks (php v) (Repeats group ∷ is) m rest) (sym y.4) (last_repeat fin u rs group is F y.0 y.1 rest q.0 q.2 z.0 y.2 y.3 f last))
       g x (left_le g h n le)
   repeating_last_holds fin nothing rs group is F g h rest c x y le f l = absurd (false_true c)
@@ -830,11 +827,11 @@ module _ (v : Version) (n : ℕ) (below : Below v n) (go : Check) (holds : Holds
       → F (first_of rest) ≡ true → (fin ≡ true → Last (g +++ h) rest) → Walks (php v) is (g +++ h) rest
   item_holds fin r rs [] F g h rest c x y le f l = absurd (false_true c)
   item_holds fin r rs (Word w ∷ is) F g h rest c x y le f l =
-      let q : (takes_word r w ≡ true) × (go fin rs is F ≡ true) = both (takes_word r w) (go fin rs is F) c in
+      let q : (takes_word r w ≡ true) × (go fin rs is F ≡ true) = and_parts (takes_word r w) (go fin rs is F) c in
       word_holds r w is g h rest q.0 x (holds fin rs is F h rest q.1 y (right_le g h n le) f (λ e. last_right g h rest (l e)))
   item_holds fin r rs (Node sort ∷ is) F g h rest c x y le f l =
-      let q : (takes_node r sort ≡ true) × ((node_ends v fin rs F sort && go fin rs is F) ≡ true) = both (takes_node r sort) (node_ends v fin rs F sort && go fin rs is F) c in
-      let p : (node_ends v fin rs F sort ≡ true) × (go fin rs is F ≡ true) = both (node_ends v fin rs F sort) (go fin rs is F) q.1 in
+      let q : (takes_node r sort ≡ true) × ((node_ends v fin rs F sort && go fin rs is F) ≡ true) = and_parts (takes_node r sort) (node_ends v fin rs F sort && go fin rs is F) c in
+      let p : (node_ends v fin rs F sort ≡ true) × (go fin rs is F ≡ true) = and_parts (node_ends v fin rs F sort) (go fin rs is F) q.1 in
       node_read r sort is g h rest q.0 x le (stops_here fin rs F sort g h rest p.0 y f l) (holds fin rs is F h rest p.1 y (right_le g h n le) f (λ e. last_right g h rest (l e)))
   item_holds fin r rs (Part group ∷ is) F g h rest c x y le f l = aligned_holds fin r rs group is F g h rest c x y le f l
   item_holds fin r rs (Repeats group ∷ is) F g h rest c x y le f l = on_repeats_hold fin r rs group is F g h rest c x y le f l

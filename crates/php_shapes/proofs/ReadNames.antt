@@ -1,6 +1,7 @@
 -- Names, and what begins with one: constants, calls, and members of a class that is named.
 use Rattle.std.proofs.Common.{◌≡◌, ℕ, suc, ◌+◌, ◌<◌, ◌≤◌, Bool, true, false, not, ◌&&◌, List, [], ◌∷◌, ◌++◌, drop, Some, refl, sym, ap, ◌∙◌, subst, append-nil, arith}
 use Rattle.std.specs.List.{prefix_len}
+use Rattle.std.proofs.lemmas.Bool.{and_parts, not-true}
 use Rattle.php_tree.specs.declared.kind.NodeKind.{NodeKind}
 use Rattle.php_tree.specs.declared.kind.NodeKind.TheVariants as k
 use Rattle.php_tree.specs.declared.token.Token.{Token}
@@ -30,25 +31,10 @@ use Rattle.php_shapes.specs.Notation.{Rule, nothing, word, kind, place, inside, 
 use Rattle.php_shapes.specs.Postfixes.{call, called, class_before, class_constant, member, static_call, static_member, static_prop}
 use Rattle.php_shapes.specs.Places.{ClassBase}
 use Rattle.php_shapes.specs.Shapes.{Fits, is_nothing, is_word, is_both, is_first, is_second, is_inside, no_more, once_more, is_node}
-use Rattle.php_shapes.proofs.ReadClasses.{accepted, both, could, for_all}
+use Rattle.php_shapes.proofs.ReadClasses.{accepted, could, for_all}
 use Rattle.php_shapes.proofs.ReadFirst.{Begins, nullable, rule_begins, starts}
 use Rattle.php_shapes.proofs.ReadEnds.{Below}
-use Rattle.php_shapes.proofs.ReadMatch.{
-  before_none,
-  begins_there,
-  both_is,
-  false_true,
-  fits_alone,
-  leaves_before,
-  left_le,
-  matched,
-  matches,
-  not_true,
-  right_le,
-  where_is,
-  where_it,
-  word_is,
-}
+use Rattle.php_shapes.proofs.ReadMatch.{before_none, begins_there, both_is, false_true, fits_alone, leaves_before, left_le, matched, matches, right_le, where_is, where_it, word_is}
 use Rattle.php_shapes.proofs.ReadMembers.{behind_variables}
 use Rattle.php_shapes.proofs.ReadOperands.{Before, before_class, class_before as class_of_before, first_is, Grown, grow_head, only_class, second_starts}
 use Rattle.php_shapes.proofs.ReadPostfixes.{call_ahead, call_paren, calls_grow, class_base, member_ahead, no_paren, not_called, postfix_grows, split_word, tested}
@@ -84,10 +70,10 @@ pub only_words : (v : Version) (P : Terminal → Bool) (r : Rule) (f : Forest) �
 only_words v P nothing f h is_nothing = tt
 only_words v P (word w) f h (is_word {x = x} a) = (where_is (could v w) P (terminal x) h (accepted v w x a), tt)
 only_words v P (r ~ q) f h (is_both {g = a} {h = b} x y e) = let z : (words_are v P r ≡ true)
-    × (words_are v P q ≡ true) = both (words_are v P r) (words_are v P q) h
+    × (words_are v P q ≡ true) = and_parts (words_are v P r) (words_are v P q) h
     in only_both P f a b e (only_words v P r a z.0 x) (only_words v P q b z.1 y)
-only_words v P (r ||| q) f h (is_first x) = only_words v P r f ((both (words_are v P r) (words_are v P q) h).0) x
-only_words v P (r ||| q) f h (is_second x) = only_words v P q f ((both (words_are v P r) (words_are v P q) h).1) x
+only_words v P (r ||| q) f h (is_first x) = only_words v P r f ((and_parts (words_are v P r) (words_are v P q) h).0) x
+only_words v P (r ||| q) f h (is_second x) = only_words v P q f ((and_parts (words_are v P r) (words_are v P q) h).1) x
 only_words v P (many r) f h no_more = tt
 only_words v P (many r) f h (once_more {g = a} {h = b} x y e) = only_both P f a b e (only_words v P r a h x) (only_words v P (many r) b h y)
 only_words v P (kind j) f h x = absurd (false_true h)
@@ -392,7 +378,7 @@ word_ahead : (v : Version) (f : Forest) (rest : List Token) → Fits v (word t.D
     × (is_variable_start (first_of (drop 1 (leaves f ++ rest))) ≡ false)
 word_ahead v f rest x b = (
   ap is_open_paren (member_ahead v t.DoubleColon f rest (as_member v f x)) ∙ not_called v k.ClassConstant (first_of rest) (class_constant_paren v) b,
-  not_true (is_variable_start (second_of (leaves f ++ rest)))
+  not-true (is_variable_start (second_of (leaves f ++ rest)))
       (where_is (starts v (word t.AnyWord)) (λ c. not (is_variable_start c)) (second_of (leaves f ++ rest))
       (any_word_start v) (second_starts v t.DoubleColon (word t.AnyWord) f rest refl x)),
 )

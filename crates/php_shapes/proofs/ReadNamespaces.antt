@@ -1,5 +1,6 @@
 -- Namespaces are read as they were.
 use Rattle.std.proofs.Common.{◌≡◌, ℕ, Bool, true, false, not, List, [], ◌∷◌, ◌++◌, Some, refl, sym, ap, ◌∙◌}
+use Rattle.std.proofs.lemmas.Bool.{not-true}
 use Rattle.php_tree.specs.declared.kind.NodeKind.TheVariants as k
 use Rattle.php_tree.specs.declared.token.Token.{Token}
 use Rattle.php_tree.specs.declared.version.Version.{Version}
@@ -22,7 +23,7 @@ use Rattle.php_shapes.specs.Statements.{statements}
 use Rattle.php_shapes.proofs.ReadClasses.{could, for_all, whenever}
 use Rattle.php_shapes.proofs.ReadFirst.{nullable, starts}
 use Rattle.php_shapes.proofs.ReadEnds.{Below}
-use Rattle.php_shapes.proofs.ReadMatch.{false_true, matches, not_true, where_is, where_it}
+use Rattle.php_shapes.proofs.ReadMatch.{false_true, matches, where_is, where_it}
 use Rattle.php_shapes.proofs.ReadNearest.{follows_statement}
 use Rattle.php_shapes.proofs.ReadStatements.{StatementGrows, first_in}
 use Rattle.php_shapes.proofs.ReadDeclarations.{after_word, chosen_grows, form_by}
@@ -67,7 +68,7 @@ namespace_chosen v c rest y =
     let q : (x : Token) × (m : Forest) × (c ≡ leaf x m) × (terminal x ≡ t.Namespace)
     × Fits v (namespace_rest v) m = after_word v t.Namespace (namespace_rest v) c (namespace_pinned v) y in
     let next : Terminal = first_of (leaves q.1 ++ rest) in
-    let no : is_backslash next ≡ false = not_true (is_backslash next)
+    let no : is_backslash next ≡ false = not-true (is_backslash next)
     (where_is (starts v (namespace_rest v)) (λ d. not (is_backslash d)) next (namespace_begins v)
     (first_in v (namespace_rest v) q.1 rest q.4 (namespace_nullable v))) in
     ap (λ (i : Forest). statement_form (leaves i ++ rest)) q.2 ∙ form_by q.0 (leaves q.1 ++ rest) t.Namespace (k.Namespace, namespace_items) q.3 (ap Some (no_name next no))

@@ -1,5 +1,6 @@
 -- Where the last statement of parts ends: an `else` behind it belongs to a nearer node.
 use Rattle.std.proofs.Common.{◌≡◌, Bool, true, false, not, ◌&&◌, ◌||◌, List, ◌∷◌, inl, inr, refl, sym}
+use Rattle.std.proofs.lemmas.Bool.{or_left, or_right, and_parts}
 use Rattle.php_tree.specs.declared.kind.NodeKind.{NodeKind}
 use Rattle.php_tree.specs.declared.token.Token.{Token}
 use Rattle.php_tree.specs.declared.version.Version.{Version}
@@ -10,7 +11,7 @@ use Rattle.php_terminals.specs.Ahead.{first_of}
 use Rattle.php_shapes.specs.Forms.{form}
 use Rattle.php_shapes.specs.Nearest.{arrows_are_nearest, elses_are_nearest, ends_in_if, goes_on_if, is_open_if}
 use Rattle.php_shapes.specs.Shapes.{Fits, IsNode, is_node}
-use Rattle.php_shapes.proofs.ReadClasses.{both, or_is}
+use Rattle.php_shapes.proofs.ReadClasses.{or_is}
 use Rattle.php_shapes.proofs.ReadEnds.{closes_statement, EndsStatement}
 use Rattle.php_shapes.proofs.ReadMatch.{false_true, Last}
 
@@ -22,22 +23,14 @@ pub shaped : (v : Version) (j : NodeKind) (c : Forest) → IsNode v j c → Fits
 shaped v j c (is_node x near e) = x
 
 pub elses_nearest : (v : Version) (j : NodeKind) (c : Forest) → IsNode v j c → elses_are_nearest false c ≡ true
-elses_nearest v j c (is_node x near e) = (both (elses_are_nearest false c) (arrows_are_nearest false c) near).0
-
-closed_follows : (a b : Bool) → a ≡ true → (a || b) ≡ true
-closed_follows true b h = refl
-closed_follows false b h = absurd (false_true h)
-
-open_follows : (a b : Bool) → b ≡ true → (a || b) ≡ true
-open_follows true b h = refl
-open_follows false b h = h
+elses_nearest v j c (is_node x near e) = (and_parts (elses_are_nearest false c) (arrows_are_nearest false c) near).0
 
 pub right_false : (a b : Bool) → (a || b) ≡ false → b ≡ false
 right_false true b h = absurd (false_true (sym h))
 right_false false b h = h
 
 pub follows : (x : Tree) (c : Terminal) → EndsStatement x c → follows_statement c ≡ true
-follows x c e = elim e [ inl h ↦ closed_follows (closes_statement c) (goes_on_if c) h | inr h ↦ open_follows (closes_statement c) (goes_on_if c) h.0 ]
+follows x c e = elim e [ inl h ↦ or_left (closes_statement c) (goes_on_if c) h | inr h ↦ or_right (closes_statement c) (goes_on_if c) h.0 ]
 
 -- the last part ends before what closes a statement
 pub last_closed : (f : Forest) (rest : List Token) → closes_statement (first_of rest) ≡ true → Last f rest
@@ -68,7 +61,7 @@ not_both false b c h e = refl
 pub last_near : (before : Bool) (g : Forest) (x : Token) (k : Forest) (us : List Token)
     → elses_are_nearest before (g +++ leaf x k) ≡ true → follows_statement (terminal x) ≡ true → Last g (x ∷ us)
 last_near before none x k us e h = tt
-last_near before (leaf y g) x k us e h = last_near false g x k us ((both (not (before && goes_on_if (terminal y))) (elses_are_nearest false (g +++ leaf x k)) e).1) h
+last_near before (leaf y g) x k us e h = last_near false g x k us ((and_parts (not (before && goes_on_if (terminal y))) (elses_are_nearest false (g +++ leaf x k)) e).1) h
 last_near before (node j b none) x k us e h = elim (or_is (closes_statement (terminal x)) (goes_on_if (terminal x)) h) [
   | inl o ↦ inl o
   | inr o ↦ inr (o, not_both (is_open_if j b || ends_in_if false b) (goes_on_if (terminal x)) (elses_are_nearest false k) e o)
@@ -79,7 +72,7 @@ last_near before (node j b (node i a g)) x k us e h = last_near (is_open_if j b 
 -- what stands behind parts, with whether they end in an open `if`
 pub nearest_right : (before : Bool) (g k : Forest) → elses_are_nearest before (g +++ k) ≡ true → (after : Bool) × (elses_are_nearest after k ≡ true)
 nearest_right before none k e = (before, e)
-nearest_right before (leaf y g) k e = nearest_right false g k ((both (not (before && goes_on_if (terminal y))) (elses_are_nearest false (g +++ k)) e).1)
+nearest_right before (leaf y g) k e = nearest_right false g k ((and_parts (not (before && goes_on_if (terminal y))) (elses_are_nearest false (g +++ k)) e).1)
 nearest_right before (node j b g) k e = nearest_right (is_open_if j b || ends_in_if false b) g k e
 
 last_more : (j : NodeKind) (b f : Forest) (rest : List Token) → Last (node j b f) rest → Last f rest

@@ -29,6 +29,7 @@ use Rattle.std.proofs.Common.{
   append-nil,
   arith,
 }
+use Rattle.std.proofs.lemmas.Bool.{or_left, and_parts}
 use Rattle.php_tree.specs.declared.kind.NodeKind.{NodeKind}
 use Rattle.php_tree.specs.declared.kind.NodeKind.TheVariants as k
 use Rattle.php_tree.specs.declared.token.Token.{Token}
@@ -54,7 +55,7 @@ use Rattle.php_shapes.specs.Forms.{form as shape_of}
 use Rattle.php_shapes.specs.Notation.{Rule, word, kind, place, ◌~◌, ◌|||◌, maybe, expr, parens, braces}
 use Rattle.php_shapes.specs.Places.{Place, may_stand}
 use Rattle.php_shapes.specs.Shapes.{Fits, is_both, is_first, is_second, IsNode, is_node}
-use Rattle.php_shapes.proofs.ReadClasses.{accepted, both, could, for_all}
+use Rattle.php_shapes.proofs.ReadClasses.{accepted, could, for_all}
 use Rattle.php_shapes.proofs.ReadFirst.{nullable, starts}
 use Rattle.php_shapes.proofs.ReadEnds.{Behind, Below}
 use Rattle.php_shapes.proofs.ReadMatch.{both_is, false_true, fits_alone, FitsAll, leaves_before, matched, matches, nodes_count, nothing_is, place_is, where_is, where_it, word_is}
@@ -76,7 +77,7 @@ use Rattle.php_shapes.proofs.ReadOperands.{FitsLevel, Grown}
 use Rattle.php_shapes.proofs.ReadVariables.{group_alone, starts_with}
 use Rattle.php_shapes.proofs.ReadNames.{begins_with_name, name_first, name_skips, only_words, words_are}
 use Rattle.php_shapes.proofs.ReadAssigns.{chosen_is, on_left}
-use Rattle.php_shapes.proofs.ReadInfix.{left_edge_is, left_of, not_list, or_list}
+use Rattle.php_shapes.proofs.ReadInfix.{left_edge_is, left_of, not_list}
 use Rattle.php_shapes.proofs.ReadStops.{arrow_of_last, edge_of_last, le_trans3, le_true, level_of_node}
 use Rattle.php_grammar.specs.Bases.{is_list}
 use Rattle.php_shapes.specs.Places.{ClassBase, MemberBase, OffsetBase}
@@ -143,7 +144,7 @@ left_class v P q c x h =
     let a : (i : NodeKind) × (b : Forest) × (o.0 ≡ node i b none) × (may_stand v P (i, b) ≡ true) × IsNode v i b = place_is v P o.0 o.2 in
     let at : c ≡ node a.0 a.1 o.1 = o.4 ∙ ap (λ (z : Forest). z +++ o.1) a.2 in
     let w : (is_class_name a.0 ≡ true) × (begins_with_class_name a.1 ≡ true) =
-    both (is_class_name a.0) (begins_with_class_name a.1)
+    and_parts (is_class_name a.0) (begins_with_class_name a.1)
     (subst (λ (z : Forest). begins_with_class_name z ≡ true) at h) in
     (a.0, a.1, o.1, at, a.4, w.0, w.1)
 
@@ -346,7 +347,7 @@ instance_facts V83 = (refl, refl, refl, refl)
 
 two_ends : (c : Terminal) → plain_end c ≡ true → (is_name_part c ≡ false) × (is_double_colon c ≡ false)
 two_ends c h = let q : (not (is_name_part c) ≡ true) × (not (is_double_colon c) ≡ true) =
-    both (not (is_name_part c)) (not (is_double_colon c)) h in
+    and_parts (not (is_name_part c)) (not (is_double_colon c)) h in
     (flip (is_name_part c) q.0, flip (is_double_colon c) q.1)
   where
     flip : (a : Bool) → not a ≡ true → a ≡ false
@@ -379,7 +380,7 @@ instance_walk v n below i b x f rest (is_second (is_first y)) le h =
     (subst (λ (z : Forest). Walks (php v) (Word t.Static ∷ []) z rest) (sym u.1) (a_word u.2 ends))
 instance_walk v n below i b x f rest (is_second (is_second y)) le h =
     let w : (j : NodeKind) × (c : Forest) × (f ≡ node j c none) × (may_stand v ClassName (j, c) ≡ true) × IsNode v j c = place_is v ClassName f y in
-    let q : (is_class_name w.0 ≡ true) × (begins_with_class_name w.1 ≡ true) = both (is_class_name w.0) (begins_with_class_name w.1) w.3 in
+    let q : (is_class_name w.0 ≡ true) × (begins_with_class_name w.1 ≡ true) = and_parts (is_class_name w.0) (begins_with_class_name w.1) w.3 in
     let h' : Behind v (k.InstanceOf, node i b (leaf x (node w.0 w.1 none))) (first_of rest) =
     only_behind v k.InstanceOf (node i b (leaf x (node w.0 w.1 none))) (first_of rest) ((instance_facts v).2)
     (subst (λ (z : Forest). Before v (k.InstanceOf, node i b (leaf x z)) (first_of rest)) w.2 h) in
@@ -425,7 +426,7 @@ instances_grow v n below grown m c rest x le fl h =
     in let fw : first_of (leaves f ++ rest) ≡ t.InstanceOf =
     first_is v (word t.InstanceOf ~ (name v ||| word t.Static ||| place ClassName)) t.InstanceOf f rest
     ((instance_facts v).3) refl y in (
-      or_list (is_expression i) (is_list i) q.0,
+      or_left (is_expression i) (is_list i) q.0,
       inl (le_trans3 (level v (i, b)) (edge v (i, b)) m (level_of_node v (i, b))
           (le_trans3 (edge v (i, b)) 4 m q.1 a)),
       inl (
@@ -533,7 +534,7 @@ created_walk v n below x f rest (is_first (is_both {g = g1} {h = g2} (is_second 
     let bc : before_class v k.New (first_of rest) ≡ true = class_of_before v k.New (leaf x f) (first_of rest) h in
     let us : List Token = leaves g2 ++ rest in
     let w : (j : NodeKind) × (c : Forest) × (g1 ≡ node j c none) × (may_stand v ClassName (j, c) ≡ true) × IsNode v j c = place_is v ClassName g1 y in
-    let q : (is_class_name w.0 ≡ true) × (begins_with_class_name w.1 ≡ true) = both (is_class_name w.0) (begins_with_class_name w.1) w.3 in
+    let q : (is_class_name w.0 ≡ true) × (begins_with_class_name w.1 ≡ true) = and_parts (is_class_name w.0) (begins_with_class_name w.1) w.3 in
     let at : f ≡ node w.0 w.1 g2 = e ∙ ap (λ (m : Forest). m +++ g2) w.2 in
     let two : (count w.1 < n) × (count g2 ≤ n) = nodes_count w.0 w.1 g2 n (subst (λ (m : Forest). count m ≤ n) at le) in
     let r : Spells (php v) s.ClassRef (w.0, w.1) us = below.placed ClassName s.ClassRef w.0 w.1 us refl two.0 w.3 w.4

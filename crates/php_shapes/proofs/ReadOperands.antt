@@ -1,6 +1,6 @@
 -- Expressions that begin with a word of their own.
 use Rattle.std.proofs.Common.{◌≡◌, ℕ, ◌<◌, ◌≤◌, Bool, true, false, not, ◌&&◌, ◌||◌, List, [], ◌∷◌, ◌++◌, ◌⊎◌, inl, inr, Some, refl, sym, ap, ◌∙◌, subst, nat_eq, nat_lt}
-use Rattle.std.proofs.lemmas.Bool.{lt-ltb}
+use Rattle.std.proofs.lemmas.Bool.{lt-ltb, or_right}
 use Rattle.php_tree.specs.declared.kind.NodeKind.{NodeKind}
 use Rattle.php_tree.specs.declared.kind.NodeKind.TheVariants as k
 use Rattle.php_tree.specs.declared.token.Token.{Token}
@@ -56,10 +56,6 @@ before_is v j false true c d h = refl
 before_is v j false false true d h = refl
 before_is v j false false false d h = absurd (false_true h)
 
-or_second : (a b : Bool) → b ≡ true → (a || b) ≡ true
-or_second true b h = refl
-or_second false b h = h
-
 lt_is : (n : ℕ) → 0 < n → nat_lt 0 n ≡ true
 lt_is n lt = lt-ltb 0 n lt
 
@@ -72,7 +68,7 @@ class_before v j b c h = elim h [
         | inr e
             ↦ elim e [ inl u ↦ inr (inl u.0) | inr u ↦ inr (inr (lt_is (behind_level v c) u.1)) ]
       ])))
-  | inr q ↦ or_second (not (is_list j) && (closes_expression c || is_to c || nat_lt 0 (behind_level v c))) (goes_behind v j c) q
+  | inr q ↦ or_right (not (is_list j) && (closes_expression c || is_to c || nat_lt 0 (behind_level v c))) (goes_behind v j c) q
 ]
   where
     three : (a b c : Bool) → (a ≡ true) ⊎ (b ≡ true) ⊎ (c ≡ true) → (a || b || c) ≡ true

@@ -28,7 +28,7 @@ use Rattle.std.proofs.Common.{
   append-nil,
   arith,
 }
-use Rattle.std.proofs.lemmas.Bool.{lt-leb, eqb-true}
+use Rattle.std.proofs.lemmas.Bool.{lt-leb, eqb-true, and_parts, not-true}
 use Rattle.php_tree.specs.declared.kind.NodeKind.{NodeKind}
 use Rattle.php_tree.specs.declared.kind.NodeKind.TheVariants as k
 use Rattle.php_tree.specs.declared.token.Token.{Token}
@@ -61,8 +61,8 @@ use Rattle.php_shapes.specs.Shapes.{
   is_node,
   is_balanced,
 }
-use Rattle.php_shapes.proofs.ReadClasses.{accepted, both, could, for_all}
-use Rattle.php_shapes.proofs.ReadMatch.{both_is, false_true, leaves_before, not_true, where_is, where_it, word_is}
+use Rattle.php_shapes.proofs.ReadClasses.{accepted, could, for_all}
+use Rattle.php_shapes.proofs.ReadMatch.{both_is, false_true, leaves_before, where_is, where_it, word_is}
 
 -- From a depth of open brackets to another one, within one bracket more.
 abbrev pub Level : Forest → ℕ → ℕ → Type 0
@@ -163,7 +163,7 @@ down_is zero b e = absurd cc
 down_is (suc n) b e = omega (arith, some_ℕ n b e)
 
 two_false : (a b : Bool) → (not a && not b) ≡ true → (a ≡ false) × (b ≡ false)
-two_false a b h = let q : (not a ≡ true) × (not b ≡ true) = both (not a) (not b) h in (not_true a q.0, not_true b q.1)
+two_false a b h = let q : (not a ≡ true) × (not b ≡ true) = and_parts (not a) (not b) h in (not-true a q.0, not-true b q.1)
 
 word_level : (v : Version) (w : Terminal) (x : Token) (a b : ℕ) (p o q : Bool) → word_is_plain v w ≡ p
     → word_opens v w ≡ o → word_closes v w ≡ q
@@ -183,9 +183,9 @@ word_level v w x a b false true q ep eo eq e c n ts lt =
     plus_one n a b e = omega arith
 word_level v w x a b false false true ep eo eq e c n ts lt =
     let z : (not (opens (terminal x)) ≡ true) × (closes (terminal x) ≡ true) =
-    both (not (opens (terminal x))) (closes (terminal x))
+    and_parts (not (opens (terminal x))) (closes (terminal x))
     (where_is (could v w) (λ d. not (opens d) && closes d) (terminal x) eq c) in
-    past_close x (n + a) ts (not_true (opens (terminal x)) z.0) z.1 (two_more n a b lt (down_is a b e)) ∙ ap (λ (i : ℕ). past_group i ts) (less_one n a b (down_is a b e))
+    past_close x (n + a) ts (not-true (opens (terminal x)) z.0) z.1 (two_more n a b lt (down_is a b e)) ∙ ap (λ (i : ℕ). past_group i ts) (less_one n a b (down_is a b e))
   where
     two_more : (n a b : ℕ) → 0 < n → a ≡ b + 1 → 1 < n + a
     two_more n a b lt e = omega arith
@@ -211,7 +211,7 @@ balanced_at x f zero n ts false true eo ec ih h lt = absurd (false_true h)
 balanced_at x f (suc b) n ts false true eo ec ih h lt =
     past_close x (n + suc b) (leaves f ++ ts) eo ec (more n b lt)
     ∙ ap (λ (i : ℕ). past_group i (leaves f ++ ts)) (less n b)
-    ∙ ih (suc b - 1) ((both (not (nat_eq (suc b) 0)) (is_balanced (suc b - 1) f) h).1) n lt
+    ∙ ih (suc b - 1) ((and_parts (not (nat_eq (suc b) 0)) (is_balanced (suc b - 1) f) h).1) n lt
   where
     more : (n b : ℕ) → 0 < n → 1 < n + suc b
     more n b lt = omega arith
@@ -289,10 +289,10 @@ group_past v o c r g ts eo ec ep x =
     let w : (y : Token) × (q.1 ≡ leaf y none) × (accepts v c y ≡ true) = word_is v c q.1 q.3 in
     let at : g ≡ leaf u.0 (q.0 +++ leaf w.0 none) = p.4 ∙ ap (λ (z : Forest). z +++ p.1) u.1 ∙ ap (λ (z : Forest). leaf u.0 z) (q.4 ∙ ap (λ (z : Forest). q.0 +++ z) w.1) in
     let cl : (not (opens (terminal w.0)) ≡ true) × (closes (terminal w.0) ≡ true) =
-    both (not (opens (terminal w.0))) (closes (terminal w.0))
+    and_parts (not (opens (terminal w.0))) (closes (terminal w.0))
     (where_is (could v c) (λ d. not (opens d) && closes d) (terminal w.0) ec (accepted v c w.0 w.2)) in
     ap (λ (z : Forest). past_group 0 (leaves z ++ ts)) at
     ∙ past_open u.0 0 (leaves (q.0 +++ leaf w.0 none) ++ ts) (where_is (could v o) opens (terminal u.0) eo (accepted v o u.0 u.2))
     ∙ ap (past_group 1) (leaves_before q.0 (leaf w.0 none) ts)
     ∙ level_zero q.0 (rule_passes v q.2 0 0 ep) 1 (w.0 ∷ ts) (omega arith)
-    ∙ past_last w.0 ts (not_true (opens (terminal w.0)) cl.0) cl.1
+    ∙ past_last w.0 ts (not-true (opens (terminal w.0)) cl.0) cl.1

@@ -1,5 +1,6 @@
 -- What is written, and the first expressions of items of list forms.
 use Rattle.std.proofs.Common.{◌≡◌, ℕ, Bool, true, false, not, cond, ◌||◌, List, [], ◌∷◌, ◌++◌, inl, inr, Option, Some, None, refl, sym, ap, ◌∙◌, subst, append_assoc}
+use Rattle.std.proofs.lemmas.Bool.{or_left, or_right, not-true}
 use Rattle.php_tree.specs.declared.kind.NodeKind.{NodeKind}
 use Rattle.php_tree.specs.declared.kind.NodeKind.TheVariants as k
 use Rattle.php_tree.specs.declared.token.Token.{Token}
@@ -58,19 +59,9 @@ use Rattle.php_shapes.proofs.ReadInfix.{not_list}
 use Rattle.php_shapes.proofs.ReadLeading.{bases_lead, bracketed_past, expressions_lead, inner_lead, is_bracketed}
 use Rattle.php_shapes.proofs.ReadStops.{all_closed, closed_postfix, ends_all, loose_postfix, none_else, straight}
 use Rattle.php_grammar.specs.Levels.{binary_items}
-use Rattle.php_shapes.proofs.ReadInfix.{or_list}
-use Rattle.php_shapes.proofs.ReadMatch.{not_true}
 
 some_form : (f g : Form) → Some f ≡ Some g → f ≡ g
 some_form f g e = cc
-
-or_one : (a b : Bool) → a ≡ true → (a || b) ≡ true
-or_one true b h = refl
-or_one false b h = absurd (false_true h)
-
-or_two : (a b : Bool) → b ≡ true → (a || b) ≡ true
-or_two true b h = refl
-or_two false b h = h
 
 abbrev is_any : NodeKind → Bool
 is_any j = is_expression j || is_list j
@@ -135,9 +126,9 @@ key_past : (v : Version) (j : NodeKind) (c : Forest) (rest : List Token) → is_
     → first_of rest ≡ t.DoubleArrow → (a : Bool) → is_bracketed j ≡ a → first_of (leaves c ++ rest) ≡ t.OpenBracket
     → closes_item (first_of (past_group 0 (leaves c ++ rest))) ≡ false
 key_past v j c rest h x e true b m = ap (λ (z : List Token). closes_item (first_of z)) (bracketed_past v j c rest b x m) ∙ ap closes_item e
-key_past v j c rest h x e false b m = not_true (closes_item (first_of (past_group 0 (leaves c ++ rest))))
+key_past v j c rest h x e false b m = not-true (closes_item (first_of (past_group 0 (leaves c ++ rest))))
     (inner_lead v is_any (λ d. not (closes_item d)) (expressions_lead v) j c rest
-    (or_list (is_expression j) (is_list j) h) b x m)
+    (or_left (is_expression j) (is_list j) h) b x m)
 
 -- ---- the same node at another sort
 
@@ -250,9 +241,9 @@ place_none v j c rest x h e = rw (straight v j c x, e, h) refl
 
 behind_postfix : (v : Version) (x : Tree) (j : NodeKind) (rest : List Token) → Behind v x (first_of rest) → postfix_tail v j rest ≡ None
 behind_postfix v x j rest e = elim e [
-  | inl h ↦ closed_postfix v j (first_of rest) rest (or_one (closes_expression (first_of rest)) (is_to (first_of rest)) h)
+  | inl h ↦ closed_postfix v j (first_of rest) rest (or_left (closes_expression (first_of rest)) (is_to (first_of rest)) h)
   | inr h ↦ elim h [
-    | inl q ↦ closed_postfix v j (first_of rest) rest (or_two (closes_expression (first_of rest)) (is_to (first_of rest)) q.0)
+    | inl q ↦ closed_postfix v j (first_of rest) rest (or_right (closes_expression (first_of rest)) (is_to (first_of rest)) q.0)
     | inr q ↦ loose_postfix v j (first_of rest) rest q.1
   ]
 ]
@@ -345,9 +336,9 @@ pub entry_targets_read : (v : Version) (j : NodeKind) (c : Forest) (rest : List 
     → Grows (php v) (s.Operand 24) j c rest → is_target j ≡ true → IsNode v j c → closes_item (first_of rest) ≡ true
     → Spells (php v) s.Entry (j, c) rest
 entry_targets_read v j c rest gr h x cl = (
-  as_entry v j c rest gr (λ e. not_true (closes_item (first_of (past_group 0 (leaves c ++ rest))))
+  as_entry v j c rest gr (λ e. not-true (closes_item (first_of (past_group 0 (leaves c ++ rest))))
       (inner_lead v is_any (λ d. not (closes_item d)) (expressions_lead v) j c rest
-      (or_list (is_expression j) (is_list j) (base_expression j (target_offset (role_of j) h))) (target_plain j h) x
+      (or_left (is_expression j) (is_list j) (base_expression j (target_offset (role_of j) h))) (target_plain j h) x
       e)),
-  entry_closed v j c rest x (closes_item_all (first_of rest) cl) (target_end j (first_of rest) cl (or_list (is_target j) (is_list j) h)),
+  entry_closed v j c rest x (closes_item_all (first_of rest) cl) (target_end j (first_of rest) cl (or_left (is_target j) (is_list j) h)),
 )

@@ -1,5 +1,6 @@
 -- Offsets, members, calls: what goes on behind a base.
 use Rattle.std.proofs.Common.{◌≡◌, ℕ, ◌<◌, ◌≤◌, Bool, true, false, not, ◌||◌, List, [], ◌∷◌, ◌++◌, drop, inl, inr, Some, refl, sym, ap, ◌∙◌, subst, arith}
+use Rattle.std.proofs.lemmas.Bool.{or_left}
 use Rattle.php_tree.specs.declared.kind.NodeKind.{NodeKind}
 use Rattle.php_tree.specs.declared.kind.NodeKind.TheVariants as k
 use Rattle.php_tree.specs.declared.token.Token.{Token}
@@ -134,10 +135,6 @@ pub record IsBase (v : Version) (P : Place) (w : Terminal) : Type 0 where
   pub is_base : (i : NodeKind) (b : Forest) → may_stand v P (i, b) ≡ true → is_offset_base i ≡ true
   pub goes : (i : NodeKind) (b : Forest) → may_stand v P (i, b) ≡ true → goes_behind v i w ≡ true
 
-or_list : (a b : Bool) → a ≡ true → (a || b) ≡ true
-or_list true b h = refl
-or_list false b h = absurd (false_true h)
-
 -- a form that goes on behind a base
 pub postfix_grows : (v : Version) (n : ℕ) → Below v n → Grown v n
     → (m : ℕ) (P : Place) (w : Terminal) (j : NodeKind) (r : Rule) (items : List Item) (c : Forest)
@@ -155,7 +152,7 @@ postfix_grows v n below grown m P w j r items c rest base on nn tail walk x le h
     let two : (count a.1 < n) × (count o.1 ≤ n) = nodes_count a.0 a.1 o.1 n (subst (λ (z : Forest). count z ≤ n) at le) in
     let b : is_offset_base a.0 ≡ true = base.is_base a.0 a.1 a.3 in
     let left : Grows (php v) (s.Operand m) a.0 a.1 ts = grown.operand m a.0 a.1 ts two.0
-    (or_list (is_expression a.0) (is_list a.0) (base_expression a.0 b))
+    (or_left (is_expression a.0) (is_list a.0) (base_expression a.0 b))
     (inl (low m (level v (a.0, a.1)) (base_level v a.0 a.1 b))) a.4
     (inr (subst (λ (z : Terminal). goes_behind v a.0 z ≡ true) (sym fw) (base.goes a.0 a.1 a.3))) in
     subst (λ (z : Forest). Grows (php v) (s.Operand m) j z rest) (sym at)

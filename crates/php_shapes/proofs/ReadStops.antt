@@ -1,6 +1,6 @@
 -- Where expressions end: no form goes on behind them.
 use Rattle.std.proofs.Common.{◌≡◌, ℕ, ◌<◌, ◌≤◌, max, Bool, true, false, not, ◌&&◌, ◌||◌, List, ◌⊎◌, inl, inr, Option, None, refl, sym, ◌∙◌, nat_le, nat_lt, arith}
-use Rattle.std.proofs.lemmas.Bool.{le-leb, lt-leb, lt-ltb, ltb-true}
+use Rattle.std.proofs.lemmas.Bool.{le-leb, lt-leb, lt-ltb, ltb-true, or_left, or_right, and_from}
 use Rattle.php_tree.specs.declared.kind.NodeKind.{NodeKind}
 use Rattle.php_tree.specs.declared.token.Token.{Token}
 use Rattle.php_tree.specs.declared.version.Version.{Version}
@@ -136,14 +136,6 @@ none_else a b e f = rw (e, f) refl
 read_none : (v : Version) (m : ℕ) (x : Tree) (ts : List Token) → is_misindented x ≡ false → is_list x.0 ≡ false → operand_tail v m x ts ≡ None → read_tail v m x ts ≡ None
 read_none v m x ts a b h = rw a (none_else (operand_tail v m x ts) (refused_unless (not (is_list x.0))) h (rw b refl))
 
-or_closed : (a b : Bool) → a ≡ true → (a || b) ≡ true
-or_closed true b h = refl
-or_closed false b h = absurd (false_true h)
-
-or_to : (a b : Bool) → b ≡ true → (a || b) ≡ true
-or_to true b h = refl
-or_to false b h = h
-
 pub positive : (m n : ℕ) → m < n → 0 < n
 positive m n lt = omega arith
 
@@ -164,9 +156,9 @@ pub ends_here : (v : Version) (m : ℕ) (x : Tree) (ts : List Token) → is_misi
 ends_here v m x ts straight_ no_list e =
     read_none v m x ts straight_ no_list
     (elim e [
-      | inl h ↦ all_closed v m x ts (or_closed (closes_expression (first_of ts)) (is_to (first_of ts)) h)
+      | inl h ↦ all_closed v m x ts (or_left (closes_expression (first_of ts)) (is_to (first_of ts)) h)
       | inr h ↦ elim h [
-        | inl g ↦ all_closed v m x ts (or_to (closes_expression (first_of ts)) (is_to (first_of ts)) g.0)
+        | inl g ↦ all_closed v m x ts (or_right (closes_expression (first_of ts)) (is_to (first_of ts)) g.0)
         | inr g ↦ all_loose v m x ts g.1
       ]
     ])
@@ -202,10 +194,6 @@ arrow_of_last k0 g j b h = sym (arrow_last false g j b) ∙ or_false (is_open_yi
 abbrev pub looser : Version → ℕ → ℕ → Bool
 looser v p m = for_all (λ c. where_it (nat_le p (behind_limit v c) && nat_lt 0 (behind_level v c)) (nat_lt m (behind_level v c)))
 
-and_true : (a b : Bool) → a ≡ true → b ≡ true → (a && b) ≡ true
-and_true true b h g = g
-and_true false b h g = absurd (false_true h)
-
 -- What an expression stands before, its last operand does.
 pub last_ends : (v : Version) (p m : ℕ) (k0 : NodeKind) (g : Forest) (j : NodeKind) (b : Forest) (c : Terminal)
     → looser v p m ≡ true → p ≤ level v (k0, g +++ node j b none) → Behind v (k0, g +++ node j b none) c
@@ -219,7 +207,7 @@ last_ends v p m k0 g j b c t le e = elim e [
           (edge_of_last v k0 g j b) q.0,
       lt_of (nat_lt m (behind_level v c)) m (behind_level v c) refl
           (where_is (λ d. nat_le p (behind_limit v d) && nat_lt 0 (behind_level v d)) (λ d. nat_lt m (behind_level v d))
-          c t (and_true (nat_le p (behind_limit v c)) (nat_lt 0 (behind_level v c))
+          c t (and_from (nat_le p (behind_limit v c)) (nat_lt 0 (behind_level v c))
           (le_true p (behind_limit v c) (le_trans3 p (level v (k0, g +++ node j b none)) (behind_limit v c) le
           (le_trans3 (level v (k0, g +++ node j b none)) (edge v (k0, g +++ node j b none)) (behind_limit v c)
           (level_of_node v (k0, g +++ node j b none)) q.0))) (lt_true 0 (behind_level v c) q.1))),

@@ -1,5 +1,6 @@
 -- Uses of traits are read as they were: the tokens between braces.
 use Rattle.std.proofs.Common.{◌≡◌, ℕ, suc, ◌+◌, ◌-◌, ◌≤◌, Bool, true, false, not, cond, ◌&&◌, nat_eq, List, [], ◌∷◌, ◌++◌, length, Some, refl, sym, ap, ◌∙◌, subst}
+use Rattle.std.proofs.lemmas.Bool.{and_parts, not-true}
 use Rattle.php_tree.specs.declared.kind.NodeKind.TheVariants as k
 use Rattle.php_tree.specs.declared.token.Token.{Token}
 use Rattle.php_tree.specs.declared.version.Version.{Version}
@@ -24,9 +25,9 @@ use Rattle.php_shapes.specs.Forms.{form}
 use Rattle.php_shapes.specs.Names.{names}
 use Rattle.php_shapes.specs.Notation.{Rule, word, ◌~◌, ◌|||◌, tokens, braces}
 use Rattle.php_shapes.specs.Shapes.{Fits, is_first, is_second, is_tokens, is_balanced}
-use Rattle.php_shapes.proofs.ReadClasses.{both, could, for_all, pinned, whenever}
+use Rattle.php_shapes.proofs.ReadClasses.{could, for_all, pinned, whenever}
 use Rattle.php_shapes.proofs.ReadEnds.{Below}
-use Rattle.php_shapes.proofs.ReadMatch.{both_is, false_true, fits_alone, left_le, matched, matches, not_true, where_is, where_it, word_is}
+use Rattle.php_shapes.proofs.ReadMatch.{both_is, false_true, fits_alone, left_le, matched, matches, where_is, where_it, word_is}
 use Rattle.php_shapes.proofs.ReadFirst.{starts}
 use Rattle.php_shapes.proofs.ReadNearest.{shaped}
 use Rattle.php_shapes.proofs.ReadBodies.{group_alone, walks_on}
@@ -38,7 +39,7 @@ use Rattle.php_shapes.proofs.ReadStatements.{begins_with, begun, first_in}
 balanced_rest : (a b : Bool) (n : ℕ) (f : Forest) → cond a (is_balanced (n + 1) f)
     (cond b (not (nat_eq n 0) && is_balanced (n - 1) f) (is_balanced n f)) ≡ true → (m : ℕ) × (is_balanced m f ≡ true)
 balanced_rest true b n f h = (n + 1, h)
-balanced_rest false true n f h = (n - 1, (both (not (nat_eq n 0)) (is_balanced (n - 1) f) h).1)
+balanced_rest false true n f h = (n - 1, (and_parts (not (nat_eq n 0)) (is_balanced (n - 1) f) h).1)
 balanced_rest false false n f h = (n, h)
 
 flat : (n : ℕ) (f : Forest) → is_balanced n f ≡ true → IsFlat f
@@ -53,8 +54,8 @@ span_step : (a b : Bool) (n : ℕ) (f : Forest) (us : List Token)
     ≡ suc (length (leaves f))
 span_step true b n f us ih h = ap (λ (m : ℕ). suc m) (ih (n + 1) h)
 span_step false true n f us ih h =
-    let q : (not (nat_eq n 0) ≡ true) × (is_balanced (n - 1) f ≡ true) = both (not (nat_eq n 0)) (is_balanced (n - 1) f) h in
-    ap (λ (o : Bool). cond o 0 (suc (spanned (n - 1) us))) (not_true (nat_eq n 0) q.0) ∙ ap (λ (m : ℕ). suc m) (ih (n - 1) q.1)
+    let q : (not (nat_eq n 0) ≡ true) × (is_balanced (n - 1) f ≡ true) = and_parts (not (nat_eq n 0)) (is_balanced (n - 1) f) h in
+    ap (λ (o : Bool). cond o 0 (suc (spanned (n - 1) us))) (not-true (nat_eq n 0) q.0) ∙ ap (λ (m : ℕ). suc m) (ih (n - 1) q.1)
 span_step false false n f us ih h = ap (λ (m : ℕ). suc m) (ih n h)
 
 -- a span takes what stands before the bracket that closes

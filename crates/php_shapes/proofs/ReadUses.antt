@@ -1,5 +1,6 @@
 -- Uses of functions and constants are read as they were.
 use Rattle.std.proofs.Common.{◌≡◌, ℕ, ◌≤◌, Bool, true, false, not, List, [], ◌∷◌, ◌++◌, inl, inr, refl, sym, ap, ◌∙◌, subst}
+use Rattle.std.proofs.lemmas.Bool.{not-true}
 use Rattle.php_tree.specs.declared.token.Token.{Token}
 use Rattle.php_tree.specs.declared.version.Version.{Version}
 use Rattle.php_tree.specs.declared.version.Version.TheVariants.{V74, V83}
@@ -24,7 +25,7 @@ use Rattle.php_shapes.specs.Shapes.{Fits, is_both}
 use Rattle.php_shapes.proofs.ReadClasses.{could, for_all, pinned, whenever}
 use Rattle.php_shapes.proofs.ReadFirst.{first}
 use Rattle.php_shapes.proofs.ReadEnds.{Below}
-use Rattle.php_shapes.proofs.ReadMatch.{both_is, either_is, false_true, first_class, fits_alone, matched, matches, not_true, right_le, where_is, where_it, word_is}
+use Rattle.php_shapes.proofs.ReadMatch.{both_is, either_is, false_true, first_class, fits_alone, matched, matches, right_le, where_is, where_it, word_is}
 use Rattle.php_shapes.proofs.ReadBodies.{group_alone, walks_on}
 use Rattle.php_shapes.proofs.ReadDeclarations.{after_word}
 use Rattle.php_shapes.proofs.ReadImports.{imported_name_walks, NameEnds}
@@ -115,7 +116,7 @@ module _ (v : Version) (n : ℕ) (below : Below v n) where
       let at : f ≡ q.0 +++ r = p.4 ∙ ap (λ (i : Forest). i +++ p.1) q.4 ∙ forest_assoc q.0 q.1 p.1 in
       let y : Fits v (more_imports v) r = is_both q.3 p.3 refl in
       let no : is_backslash (first_of (leaves r ++ us)) ≡ false =
-      not_true (is_backslash (first_of (leaves r ++ us)))
+      not-true (is_backslash (first_of (leaves r ++ us)))
       (where_is (first v (more_imports v ∷ []) is_semi) (λ c. not (is_backslash c)) (first_of (leaves r ++ us))
       (imports_begin v) (first_class v (more_imports v ∷ []) is_semi r us (fits_alone v (more_imports v) r y) h))
       in

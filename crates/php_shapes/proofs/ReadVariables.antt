@@ -1,5 +1,6 @@
 -- Variables, arguments, items of arrays, closures and arrow functions.
 use Rattle.std.proofs.Common.{◌≡◌, ℕ, ◌<◌, ◌≤◌, Bool, true, false, not, ◌&&◌, ◌||◌, List, [], ◌∷◌, ◌++◌, length, inl, inr, Some, None, refl, sym, ap, ◌∙◌, subst}
+use Rattle.std.proofs.lemmas.Bool.{and_parts}
 use Rattle.php_tree.specs.declared.kind.NodeKind.{NodeKind}
 use Rattle.php_tree.specs.declared.kind.NodeKind.TheVariants as k
 use Rattle.php_tree.specs.declared.token.Token.{Token}
@@ -28,7 +29,7 @@ use Rattle.php_shapes.specs.Nearest.{arrows_are_nearest, elses_are_nearest, is_n
 use Rattle.php_shapes.specs.Notation.{Rule, word, kind, ◌~◌, maybe, commas_last, expr, braces}
 use Rattle.php_shapes.specs.Places.{Operand, may_stand}
 use Rattle.php_shapes.specs.Shapes.{Fits, is_both, is_first, is_second, IsNode, is_node}
-use Rattle.php_shapes.proofs.ReadClasses.{both, for_all}
+use Rattle.php_shapes.proofs.ReadClasses.{for_all}
 use Rattle.php_shapes.proofs.ReadFirst.{Begins, nullable, rule_begins, starts}
 use Rattle.php_shapes.proofs.ReadEnds.{Below, closes_args, closes_expression, closes_item, is_open_for_arrow}
 use Rattle.php_shapes.proofs.ReadMatch.{before_none, begins_there, false_true, fits_alone, leaves_before, matched, matches, nodes_count, nothing_is, place_is, where_is, where_it}
@@ -254,10 +255,6 @@ unfolding for_all
 expr_no_mark V74 = refl
 expr_no_mark V83 = refl
 
-or_now : (a b : Bool) → (a || b) ≡ false → (a ≡ false) × (b ≡ false)
-or_now true b h = absurd (false_true (sym h))
-or_now false b h = (refl, h)
-
 -- an expression before a `=>` takes none
 pub before_arrow : (i : NodeKind) (b : Forest) (x : Token) (f : Forest)
     → arrows_are_nearest false (node i b (leaf x f)) ≡ true → is_to (terminal x) ≡ true
@@ -332,7 +329,7 @@ item_grow v n below c rest (is_second (is_second (is_both {g = a} {h = f} x y e)
     (subst (λ (z : Forest). Walks (php v) (any ∷ Part g.ItemValue ∷ []) z rest) (sym at)
     (value_walk v n below w.0 w.1 f rest w.3 w.4
     (subst (λ (z : Forest). arrows_are_nearest false z ≡ true) at
-    ((both (elses_are_nearest false c) (arrows_are_nearest false c) near).1)) y
+    ((and_parts (elses_are_nearest false c) (arrows_are_nearest false c) near).1)) y
     (subst (λ (z : Forest). count z ≤ n) at le) h))
 
 pub items_grow : (v : Version) (n : ℕ) → Below v n → (c : Forest) (rest : List Token) → IsNode v k.Item c

@@ -1,5 +1,6 @@
 -- Whole uses are read as they were.
 use Rattle.std.proofs.Common.{◌≡◌, ℕ, ◌<◌, ◌≤◌, Bool, true, false, not, List, [], ◌∷◌, ◌++◌, length, inl, inr, refl, sym, ap, ◌∙◌, subst}
+use Rattle.std.proofs.lemmas.Bool.{not-true}
 use Rattle.php_tree.specs.declared.kind.NodeKind.TheVariants as k
 use Rattle.php_tree.specs.declared.token.Token.{Token}
 use Rattle.php_tree.specs.declared.version.Version.{Version}
@@ -25,21 +26,7 @@ use Rattle.php_shapes.specs.Shapes.{Fits, is_first, is_second, no_more, once_mor
 use Rattle.php_shapes.proofs.ReadClasses.{could, for_all, pinned, whenever}
 use Rattle.php_shapes.proofs.ReadFirst.{first, nullable, starts}
 use Rattle.php_shapes.proofs.ReadEnds.{Below}
-use Rattle.php_shapes.proofs.ReadMatch.{
-  both_is,
-  either_is,
-  false_true,
-  first_class,
-  fits_alone,
-  leaves_before,
-  left_le,
-  nothing_is,
-  not_true,
-  right_le,
-  where_is,
-  where_it,
-  word_is,
-}
+use Rattle.php_shapes.proofs.ReadMatch.{both_is, either_is, false_true, first_class, fits_alone, leaves_before, left_le, nothing_is, right_le, where_is, where_it, word_is}
 use Rattle.php_shapes.proofs.ReadBodies.{group_alone, has_token, walks_on}
 use Rattle.php_shapes.proofs.ReadDeclarations.{after_word}
 use Rattle.php_shapes.proofs.ReadNearest.{shaped}
@@ -104,7 +91,7 @@ next_repeat v a us x =
     let next : Terminal = first_of (leaves q.1 ++ us) in
     ap (λ (i : Forest). more_class_grouped (first_of (leaves i ++ us)) (second_of (leaves i ++ us))) q.2
     ∙ ap (λ (c : Terminal). more_class_grouped c next) q.3
-    ∙ more_of next (not_true (closes_group next)
+    ∙ more_of next (not-true (closes_group next)
     (where_is (starts v (grouped_as_class v)) (λ c. not (closes_group c)) next ((group_begins v).0)
     (first_in v (grouped_as_class v) q.1 us q.4 ((group_begins v).2))))
 
@@ -222,7 +209,7 @@ class_walks : (v : Version) (n : ℕ) → Below v n → (f : Forest) (us : List 
     → count f ≤ n → is_semi (first_of us) ≡ true → Walks (php v) (use_body (first_of (leaves f ++ us))) f us
 class_walks v n below f us x le h =
     let no : tells_kind (first_of (leaves f ++ us)) ≡ false =
-    not_true (tells_kind (first_of (leaves f ++ us)))
+    not-true (tells_kind (first_of (leaves f ++ us)))
     (where_is (starts v (class_use v)) (λ c. not (tells_kind c)) (first_of (leaves f ++ us)) ((uses_begin v).0)
     (first_in v (class_use v) f us x ((uses_begin v).1))) in
     subst (λ (is : List Item). Walks (php v) is f us) (sym (use_of_classes (first_of (leaves f ++ us)) no))

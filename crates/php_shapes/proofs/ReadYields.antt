@@ -48,7 +48,7 @@ use Rattle.php_shapes.specs.Nearest.{arrows_are_nearest, ends_in_yield, is_neare
 use Rattle.php_shapes.specs.Notation.{word, place, ◌~◌, maybe}
 use Rattle.php_shapes.specs.Places.{Operand, may_stand}
 use Rattle.php_shapes.specs.Shapes.{Fits, is_first, is_second, IsNode}
-use Rattle.php_shapes.proofs.ReadClasses.{both, everywhere, for_all}
+use Rattle.php_shapes.proofs.ReadClasses.{everywhere, for_all}
 use Rattle.php_shapes.proofs.ReadEnds.{Behind, Below, closes_expression, is_open_for_arrow}
 use Rattle.php_shapes.proofs.ReadMatch.{both_is, false_true, nodes_count, nothing_is, place_is, word_is}
 use Rattle.php_shapes.proofs.ReadOperands.{Before, ends_its_chain, first_is, last_operand, only_behind, only_class}
@@ -62,7 +62,7 @@ use Rattle.php_shapes.proofs.ReadOperands.{only_first, prefixed}
 use Rattle.php_shapes.proofs.ReadPrefixes.{alone_class, word_test}
 use Rattle.php_shapes.proofs.ReadVariables.{before_arrow, group_alone}
 use Rattle.php_shapes.proofs.ReadStops.{ends_all}
-use Rattle.std.proofs.lemmas.Bool.{leb-true}
+use Rattle.std.proofs.lemmas.Bool.{leb-true, or_left, or_right, and_parts}
 
 yield_facts : (v : Version) → (looser v 20 20 ≡ true) × (ends_its_chain v k.Yield ≡ true)
     × (only_class v (word t.Yield) t.Yield ≡ true)
@@ -123,19 +123,11 @@ too_loose e l a b c = absurd_of (leb-true l 24 c)
     absurd_of : l ≤ 24 → ⊥
     absurd_of h = omega arith
 
-or_closed : (a b : Bool) → a ≡ true → (a || b) ≡ true
-or_closed true b h = refl
-or_closed false b h = absurd (false_true h)
-
-or_to : (a b : Bool) → b ≡ true → (a || b) ≡ true
-or_to true b h = refl
-or_to false b h = h
-
 bare_behind : (v : Version) (x : Token) (c : Terminal) → Behind v (k.Yield, leaf x none) c → ends_all c ≡ true
 bare_behind v x c e = elim e [
-  | inl h ↦ or_closed (closes_expression c) (is_to c) h
+  | inl h ↦ or_left (closes_expression c) (is_to c) h
   | inr h ↦ elim h [
-    | inl q ↦ or_to (closes_expression c) (is_to c) q.0
+    | inl q ↦ or_right (closes_expression c) (is_to c) q.0
     | inr q ↦ absurd (too_loose (edge v (k.Yield, leaf x none)) (behind_limit v c) (bare_edge v x) q.0 (everywhere (λ d. nat_le (behind_limit v d) 24) (low_limits v) c))
   ]
 ]
@@ -262,7 +254,7 @@ valued_grows v n below m c rest x near le h =
     let tx : terminal u.0 ≡ t.Yield = alone_class v t.Yield u.0 (yield_alone v) u.2 in
     let nr : arrows_are_nearest false (leaf u.0 (node w.0 w.1 o2.1)) ≡ true =
     subst (λ (z : Forest). arrows_are_nearest false z ≡ true) at
-    ((both (elses_are_nearest false c) (arrows_are_nearest false c) near).1) in
+    ((and_parts (elses_are_nearest false c) (arrows_are_nearest false c) near).1) in
     subst (λ (z : Forest). Grows (php v) (s.Operand m) k.Yield z rest) (sym at)
     (head (yield_form v (u.0 ∷ (leaves (node w.0 w.1 o2.1) ++ rest)) tx)
     (a_word u.2 (value_walks v n below u.0 w.0 w.1 o2.1 rest tx w.3 w.4 nr o2.3

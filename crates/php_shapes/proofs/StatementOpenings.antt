@@ -1,6 +1,7 @@
 -- How statements, members and cases begin: each form of the tables is the form of its kind.
 use Rattle.std.proofs.Common.{◌≡◌, Bool, true, false, not, ◌&&◌, ◌||◌, List, [], ◌∷◌, ◌++◌, drop, Some, refl, sym, ap, ◌∙◌, subst}
 use Rattle.std.specs.Prelude.{IfSome}
+use Rattle.std.proofs.lemmas.Bool.{not-true}
 use Rattle.php_tree.specs.declared.kind.NodeKind.{NodeKind}
 use Rattle.php_tree.specs.declared.kind.NodeKind.TheVariants as k
 use Rattle.php_tree.specs.declared.token.Token.{Token}
@@ -122,10 +123,6 @@ if_shuts v =
     (no_else_after v (plain (word t.CloseParen)) (plain st.statement ∷ if_entries)
     (no_else_after v (plain st.statement) if_entries (no_else_behind v)))))
 
-pub not_false : (b : Bool) → not b ≡ true → b ≡ false
-not_false true e = false_is e
-not_false false e = refl
-
 pub if_fine : (c : Forest) → is_misindented (k.If, c) ≡ false
 unfolding is_misindented
 if_fine c = refl
@@ -141,7 +138,7 @@ if_good v is same = record {
           },
           refl,
         ),
-        (λ e. if_shuts v c rest n (not_false (has_else c) e), λ e. false_is e),
+        (λ e. if_shuts v c rest n (not-true (has_else c) e), λ e. false_is e),
       );
 }
 

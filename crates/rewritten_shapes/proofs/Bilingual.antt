@@ -1,5 +1,6 @@
 -- Rules that 8.3 has with each name as one token, and without the words that it refuses.
 use Rattle.std.proofs.Common.{◌≡◌, ℕ, Bool, true, false, not, cond, ◌&&◌, ◌||◌, inl, inr, codes, List, Option, refl, sym, ap, ◌∙◌, subst}
+use Rattle.std.proofs.lemmas.Bool.{or_from}
 use Rattle.php_tree.specs.declared.token.Token.{Token}
 use Rattle.php_tree.specs.declared.token.TokenKind.{TokenKind}
 use Rattle.php_tree.specs.declared.token.TokenKind.TheVariants as token
@@ -174,22 +175,18 @@ word_else t.Backslash x h e = root_else (terminal x) e
 word_else t.Namespace x h e = space_else (terminal x) e
 word_else _ x h e = absurd cc
 
-pub or_false : (a b : Bool) → a ≡ false → b ≡ false → (a || b) ≡ false
-or_false true b e d = e
-or_false false b e d = d
-
 pub no_else : {r : Rule} {f : Forest} → Fits V74 r f → of_name r ≡ true → has_else f ≡ false
 no_else is_nothing h = refl
-no_else (is_word {c} {x} p) h = or_false (is_else (terminal x)) false (word_else c x h p) refl
+no_else (is_word {c} {x} p) h = or_from (is_else (terminal x)) false (word_else c x h p) refl
 no_else (is_kind n) h = absurd cc
 no_else (is_place m n) h = absurd cc
 no_else (is_inside x near) h = absurd cc
 no_else (is_both {r} {s} {f} {g} {h} x y d) e =
-    ap has_else d ∙ else_join g h ∙ or_false (has_else g) (has_else h) (no_else x (and_left (of_name r) (of_name s) e)) (no_else y (and_right (of_name r) (of_name s) e))
+    ap has_else d ∙ else_join g h ∙ or_from (has_else g) (has_else h) (no_else x (and_left (of_name r) (of_name s) e)) (no_else y (and_right (of_name r) (of_name s) e))
 no_else (is_first {r} {s} x) h = no_else x (and_left (of_name r) (of_name s) h)
 no_else (is_second {r} {s} x) h = no_else x (and_right (of_name r) (of_name s) h)
 no_else no_more h = refl
-no_else (once_more {r} {f} {g} {h} x y d) e = ap has_else d ∙ else_join g h ∙ or_false (has_else g) (has_else h) (no_else x e) (no_else y e)
+no_else (once_more {r} {f} {g} {h} x y d) e = ap has_else d ∙ else_join g h ∙ or_from (has_else g) (has_else h) (no_else x e) (no_else y e)
 no_else (is_tokens b) h = absurd cc
 
 variable_join : (g h : Forest) → begins_with_variable g ≡ false → begins_with_variable h ≡ false → begins_with_variable (g +++ h) ≡ false
@@ -225,7 +222,7 @@ like_word f y e v n i a l = record {
   ifs = λ b d p h. absurd cc;
   arrows = λ b d p h. calm_if d (is_to (terminal y)) a;
   yields = λ b d p h. absurd cc;
-  same_else = or_false (is_else (terminal y)) false l refl ∙ sym e;
+  same_else = or_from (is_else (terminal y)) false l refl ∙ sym e;
   edges = λ u d p. below_zero (edge_from V74 u f);
   begins = λ h. refl;
   leads = λ h. absurd (let z : false ≡ true = sym v ∙ h in cc);

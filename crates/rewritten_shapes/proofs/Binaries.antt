@@ -1,6 +1,7 @@
 -- Nodes with an operator between two operands.
 use Rattle.std.proofs.Common.{◌≡◌, ℕ, ◌≤◌, Bool, true, false, ◌&&◌, ◌||◌, ◌⊎◌, inl, inr, codes, List, Option, Some, refl, sym, ap, ◌∙◌, subst, arith}
 use Rattle.std.specs.Str.{bytes_eq}
+use Rattle.std.proofs.lemmas.Bool.{or_right}
 use Rattle.php_tree.specs.declared.kind.NodeKind.{NodeKind}
 use Rattle.php_tree.specs.declared.kind.NodeKind.TheVariants.{Binary}
 use Rattle.php_tree.specs.declared.token.Token.{Token}
@@ -35,10 +36,6 @@ at_left x = record { kind = Binary; operator = x.text; is_first = true }
 
 abbrev at_right : Token → Around
 at_right x = record { kind = Binary; operator = x.text; is_first = false }
-
-or_right : (a b : Bool) → b ≡ true → (a || b) ≡ true
-or_right true b e = refl
-or_right false b e = e
 
 sum_left : (x : Token) → is_sum x.text ≡ true → takes_apart (at_left x) ≡ true
 sum_left x e = ap (λ (b : Bool). is_shift x.text || (b && true)) e ∙ or_right (is_shift x.text) true refl

@@ -1,6 +1,7 @@
 -- Offsets in braces, and casts.
 use Rattle.std.proofs.Common.{◌≡◌, ℕ, max, Bool, true, false, not, cond, ◌&&◌, ◌||◌, if◌then◌else◌, nat_lt, length, codes, List, [], ◌++◌, Option, refl, sym, ap, ◌∙◌, subst, arith}
 use Rattle.std.specs.Str.{bytes_eq}
+use Rattle.std.proofs.lemmas.Bool.{and_from}
 use Rattle.php_tree.specs.declared.kind.NodeKind.{NodeKind}
 use Rattle.php_tree.specs.declared.kind.NodeKind.TheVariants.{BraceOffset, Cast, Constant, Offset}
 use Rattle.php_tree.specs.declared.token.Token.{Token}
@@ -38,7 +39,7 @@ use Rattle.rewritten_shapes.proofs.Operands.{dots_by, ternaries_by}
 use Rattle.rewritten_shapes.proofs.OperatorWords.{close_brace_is, found, open_brace_is}
 use Rattle.rewritten_shapes.proofs.Same.{lines_fine}
 use Rattle.rewritten_shapes.proofs.Shown.{changed_tree, in_paren, new_tree, op_token, shown_token, shown_tree}
-use Rattle.rewritten_shapes.proofs.Sides.{and_both, and_left, and_right}
+use Rattle.rewritten_shapes.proofs.Sides.{and_left, and_right}
 use Rattle.rewritten_shapes.proofs.Simple.{unwrapped_tree}
 use Rattle.rewritten_shapes.proofs.Tabled.{written}
 use Rattle.rewritten_shapes.proofs.Unaries.{single, single_good}
@@ -73,7 +74,7 @@ quiet_arrows b (leaf x f) e =
 quiet_arrows b (node k c f) e = quiet_arrows (is_open_yield k c || ends_in_yield false c) f e
 
 pub quiet_near : (f : Forest) → is_quiet f ≡ true → is_nearest f ≡ true
-quiet_near f e = and_both (elses_are_nearest false f) (arrows_are_nearest false f) (quiet_elses false f e) (quiet_arrows false f e)
+quiet_near f e = and_from (elses_are_nearest false f) (arrows_are_nearest false f) (quiet_elses false f e) (quiet_arrows false f e)
 
 -- ---- offsets
 
@@ -229,7 +230,7 @@ cast_single x y i e z p q r n m g =
     let ends = single_good Cast x y i e z 3 (omega arith) refl g n m (omega arith) in
     record {
       shaped = is_node (is_both (is_word p) (is_place (good_stands (Operand 3) i e z g refl m) g.shaped) refl)
-          (quiet_near b (and_both (not (goes_on_if (terminal y))) (not (is_to (terminal y)) && true) (ap not q) (ap (λ u. not u && true) r))) (lines_fine Cast b refl);
+          (quiet_near b (and_from (not (goes_on_if (terminal y))) (not (is_to (terminal y)) && true) (ap not q) (ap (λ u. not u && true) r))) (lines_fine Cast b refl);
       like = record {
         ifs = g.like.ifs;
         yields = g.like.yields;

@@ -4,7 +4,7 @@ use Rattle.std.specs.Char.{to_ascii_lowercase}
 use Rattle.std.specs.Str.{bytes_eq, str_to_ascii_lowercase}
 use Rattle.std.proofs.lemmas.Slice.Eq.{bytes_eq-Decides}
 use Rattle.std.proofs.lemmas.List.{take-map}
-use Rattle.std.proofs.lemmas.Bool.{eqb-true}
+use Rattle.std.proofs.lemmas.Bool.{eqb-true, false_from_ne_true}
 use Rattle.php_tree.specs.declared.token.Token.{Token}
 use Rattle.php_tree.specs.declared.token.TokenKind.{TokenKind}
 use Rattle.php_tree.specs.declared.token.TokenKind.TheVariants as kind
@@ -103,18 +103,14 @@ root_is : (text : List ℕ) → bytes_eq text (codes "\\") ≡ true → operator
 unfolding operators
 root_is text h = ap operator ((bytes_eq-Decides text (codes "\\")).0 h)
 
-by_test : (b : Bool) → (b ≡ true → ⊥) → b ≡ false
-by_test true h = absurd (h refl)
-by_test false h = refl
-
 true_false : true ≡ false → ⊥
 true_false e = cc
 
 keyword_calm : (text : List ℕ) → is_calm (keyword text) ≡ true → bytes_eq (str_to_ascii_lowercase text) (codes "namespace") ≡ false
-keyword_calm text h = by_test (bytes_eq (str_to_ascii_lowercase text) (codes "namespace")) (λ e. true_false (sym h ∙ ap is_calm (namespace_is text e)))
+keyword_calm text h = false_from_ne_true (bytes_eq (str_to_ascii_lowercase text) (codes "namespace")) (λ e. true_false (sym h ∙ ap is_calm (namespace_is text e)))
 
 operator_calm : (text : List ℕ) → is_calm (operator text) ≡ true → bytes_eq text (codes "\\") ≡ false
-operator_calm text h = by_test (bytes_eq text (codes "\\")) (λ e. true_false (sym h ∙ ap is_calm (root_is text e)))
+operator_calm text h = false_from_ne_true (bytes_eq text (codes "\\")) (λ e. true_false (sym h ∙ ap is_calm (root_is text e)))
 
 shut_by : (kind : TokenKind) (text : List ℕ) → is_calm (terminal_by kind text) ≡ true
     → not (is_op kind && bytes_eq text (codes "\\")

@@ -1,6 +1,6 @@
 -- Parts keep the shape of a rule that is the same in both versions.
 use Rattle.std.proofs.Common.{◌≡◌, ℕ, ◌<◌, ◌≤◌, max, Bool, true, false, not, ◌&&◌, ◌||◌, ◌⊎◌, inl, inr, nat_le, nat_lt, Option, refl, sym, ap, ◌∙◌, subst, arith}
-use Rattle.std.proofs.lemmas.Bool.{le-leb, leb-true, ltb-true}
+use Rattle.std.proofs.lemmas.Bool.{le-leb, leb-true, ltb-true, and_from}
 use Rattle.php_tree.specs.declared.kind.NodeKind.{NodeKind}
 use Rattle.php_tree.specs.declared.kind.NodeKind.TheVariants as k
 use Rattle.php_tree.specs.declared.kind.NodeKind.TheVariants.{Paren}
@@ -48,7 +48,7 @@ use Rattle.syntax_rules.specs.HashComment.{hash_comment}
 use Rattle.rewritten_shapes.proofs.Calm.{is_steady, shown_is, steady_shown}
 use Rattle.rewritten_shapes.proofs.Like.{Below, Like, NodeLike, below_max, below_same, like_join, like_leaf, like_nearest, like_node, like_none}
 use Rattle.rewritten_shapes.proofs.Shown.{new_parts, new_tree, shown_token}
-use Rattle.rewritten_shapes.proofs.Sides.{and_both, and_left, and_right, apart_parts, are_apart, stay_apart, still_first}
+use Rattle.rewritten_shapes.proofs.Sides.{and_left, and_right, apart_parts, are_apart, stay_apart, still_first}
 use Rattle.rewritten_shapes.proofs.Simple.{is_simple, simple_tree}
 
 -- ---- kinds
@@ -235,7 +235,7 @@ paren_level : (n : ℕ) (x : Tree) → x.0 ≡ Paren → nat_le (level V83 x) n 
 paren_level n (k, c) e = ap (λ (j : NodeKind). nat_le (level V83 (j, c)) n) e ∙ le-leb 0 n (omega arith)
 
 both_map : (a b c d : Bool) → (a ≡ true → c ≡ true) → (b ≡ true → d ≡ true) → (a && b) ≡ true → (c && d) ≡ true
-both_map a b c d f g e = and_both c d (f (and_left a b e)) (g (and_right a b e))
+both_map a b c d f g e = and_from c d (f (and_left a b e)) (g (and_right a b e))
 
 pub edges_below : (k : NodeKind) (c : Forest) (x : Tree) → NodeLike k c x.0 x.1 → Below (edge V83 x) (edge V74 (k, c))
 edges_below k c x g =

@@ -1,6 +1,7 @@
 -- What new parts have of the parts that they stand for: nothing more belongs elsewhere, and edges are at most as loose, but for
 -- that of `.`.
 use Rattle.std.proofs.Common.{◌≡◌, ℕ, ◌<◌, ◌≤◌, max, Bool, true, false, not, ◌&&◌, ◌||◌, refl, sym, ap, ◌∙◌, subst, arith}
+use Rattle.std.proofs.lemmas.Bool.{and_from}
 use Rattle.php_tree.specs.declared.kind.NodeKind.{NodeKind}
 use Rattle.php_tree.specs.declared.token.Token.{Token}
 use Rattle.php_tree.specs.declared.version.Version.{Version}
@@ -12,7 +13,7 @@ use Rattle.php_grammar.specs.Edges.{edge_from}
 use Rattle.php_grammar.specs.Levels.{level}
 use Rattle.php_shapes.specs.Nearest.{arrows_are_nearest, elses_are_nearest, ends_in_if, ends_in_yield, goes_on_if, has_else, is_else, is_nearest, is_open_if, is_open_yield, is_to}
 use Rattle.php_shapes.specs.Places.{begins_with_class_name, begins_with_variable, is_class_name}
-use Rattle.rewritten_shapes.proofs.Sides.{and_both, and_left, and_right}
+use Rattle.rewritten_shapes.proofs.Sides.{and_left, and_right}
 
 -- A level or an edge is at most as loose as before; one from 7 on may become that of `.`.
 pub record Below (new old : ℕ) : Type 0 where
@@ -179,14 +180,14 @@ like_join g h i j p q = record {
   elses = λ b d w e.
       let s = sym (elses_join b g h) ∙ e in
       elses_join d i j
-      ∙ and_both (elses_are_nearest d i) (elses_are_nearest (ends_in_if d i) j)
+      ∙ and_from (elses_are_nearest d i) (elses_are_nearest (ends_in_if d i) j)
       (p.elses b d w (and_left (elses_are_nearest b g) (elses_are_nearest (ends_in_if b g) h) s))
       (q.elses (ends_in_if b g) (ends_in_if d i) (p.ifs b d w) (and_right (elses_are_nearest b g) (elses_are_nearest (ends_in_if b g) h) s));
   ifs = λ b d w e. ifs_join b g h ∙ q.ifs (ends_in_if b g) (ends_in_if d i) (p.ifs b d w) (sym (ifs_join d i j) ∙ e);
   arrows = λ b d w e.
       let s = sym (arrows_join b g h) ∙ e in
       arrows_join d i j
-      ∙ and_both (arrows_are_nearest d i) (arrows_are_nearest (ends_in_yield d i) j)
+      ∙ and_from (arrows_are_nearest d i) (arrows_are_nearest (ends_in_yield d i) j)
       (p.arrows b d w (and_left (arrows_are_nearest b g) (arrows_are_nearest (ends_in_yield b g) h) s))
       (q.arrows (ends_in_yield b g) (ends_in_yield d i) (p.yields b d w) (and_right (arrows_are_nearest b g) (arrows_are_nearest (ends_in_yield b g) h) s));
   yields = λ b d w e. yields_join b g h ∙ q.yields (ends_in_yield b g) (ends_in_yield d i) (p.yields b d w) (sym (yields_join d i j) ∙ e);
@@ -204,6 +205,6 @@ like_join g h i j p q = record {
 -- what stands nearest stays so
 pub like_nearest : (f g : Forest) → Like f g → is_nearest f ≡ true → is_nearest g ≡ true
 like_nearest f g p e =
-    and_both (elses_are_nearest false g) (arrows_are_nearest false g)
+    and_from (elses_are_nearest false g) (arrows_are_nearest false g)
     (p.elses false false (λ z. z) (and_left (elses_are_nearest false f) (arrows_are_nearest false f) e))
     (p.arrows false false (λ z. z) (and_right (elses_are_nearest false f) (arrows_are_nearest false f) e))

@@ -1,5 +1,6 @@
 -- Tokens that stand in no name: what stands behind a name is told from it.
 use Rattle.std.proofs.Common.{◌≡◌, ℕ, Bool, true, false, cond, ◌&&◌, ◌||◌, inl, inr, if◌then◌else◌, codes, List, Option, refl, sym, ap, ◌∙◌, subst}
+use Rattle.std.proofs.lemmas.Bool.{or_from}
 use Rattle.php_tree.specs.declared.token.Token.{Token}
 use Rattle.php_tree.specs.declared.token.TokenKind.{TokenKind}
 use Rattle.php_tree.specs.declared.version.Version.TheVariants.{V74}
@@ -17,25 +18,7 @@ use Rattle.syntax_rules.specs.Around.{Around}
 use Rattle.syntax_rules.specs.HashComment.{hash_comment}
 use Rattle.rewritten_shapes.specs.Laws.{AreSpelled}
 use Rattle.rewritten_shapes.specs.RefusedWords.{declares, has, has_before, in_class, is_brace, is_double_colon, is_keyword_now}
-use Rattle.rewritten_shapes.proofs.Bilingual.{
-  Both,
-  a_called,
-  a_label,
-  a_name,
-  alike,
-  either,
-  has_join,
-  label_any,
-  left_false,
-  next,
-  old,
-  or_false,
-  right_false,
-  shown_terminal,
-  spelled_front,
-  spelled_rest,
-  times,
-}
+use Rattle.rewritten_shapes.proofs.Bilingual.{Both, a_called, a_label, a_name, alike, either, has_join, label_any, left_false, next, old, right_false, shown_terminal, spelled_front, spelled_rest, times}
 use Rattle.rewritten_shapes.proofs.Shown.{names_whole, new_parts, shown, shown_token}
 use Rattle.rewritten_shapes.proofs.Sides.{and_left, and_right, apart_parts, are_apart, stay_apart, still_first}
 use Rattle.rewritten_shapes.proofs.Tabled.{written}
@@ -133,10 +116,10 @@ name_has_no : (m : Mark) (f : Forest) → Fits V74 (name V74) f → AreSpelled f
 name_has_no m f p s a b = go (name_is f p s a b)
   where
     go : Whole (names_whole (written a b f)) → has (marks m) (new_parts a b f) ≡ false
-    go (inl r) = ap (λ d. has (marks m) (shown d)) r.2 ∙ or_false
+    go (inl r) = ap (λ d. has (marks m) (shown d)) r.2 ∙ or_from
         (marks m (terminal (shown_token (hash_comment r.0)))) false
         (ap (marks m) (shown_terminal r.0) ∙ label_no m (terminal r.0) (label_any r.0 r.1)) refl
-    go (inr r) = ap (λ d. has (marks m) (shown d)) r.2 ∙ or_false (marks m (terminal (shown_token r.0))) false
+    go (inr r) = ap (λ d. has (marks m) (shown d)) r.2 ∙ or_from (marks m (terminal (shown_token r.0))) false
         (ap (λ (sort : TokenKind). marks m (terminal_by sort (shown_token r.0).text)) r.1
         ∙ name_no m (shown_token r.0).text) refl
 
@@ -160,7 +143,7 @@ has_none_of m (times r) = stay_apart (old r) (old r) && has_none_of m r
 
 plain_no : (m : Mark) (r : Rule) (f : Forest) → plain_rule m r ≡ true → Fits V74 r f → (a : Bool → Option Around) (b : Bool) → has (marks m) (new_parts a b f) ≡ false
 plain_no m nothing f e is_nothing a b = refl
-plain_no m (word c) f e (is_word {x} p) a b = or_false (marks m (terminal (shown_token (hash_comment x)))) false (ap (marks m) (shown_terminal x) ∙ word_no m c x e p) refl
+plain_no m (word c) f e (is_word {x} p) a b = or_from (marks m (terminal (shown_token (hash_comment x)))) false (ap (marks m) (shown_terminal x) ∙ word_no m c x e p) refl
 plain_no m (place p) f e (is_place n o) a b = refl
 plain_no m (r ||| s) f e (is_first x) a b = plain_no m r f (and_left (plain_rule m r) (plain_rule m s) e) x a b
 plain_no m (r ||| s) f e (is_second x) a b = plain_no m s f (and_right (plain_rule m r) (plain_rule m s) e) x a b
@@ -170,7 +153,7 @@ join_no : (m : Mark) (a : Bool → Option Around) (b : Bool) (r s : Rule) (f g h
     → has (marks m) (new_parts a b g) ≡ false → has (marks m) (new_parts a (still_first b g) h) ≡ false → has (marks m) (new_parts a b f) ≡ false
 join_no m a b r s f g h d x y e p q =
     ap (λ z. has (marks m) (new_parts a b z)) d ∙ ap (has (marks m)) (apart_parts a b g h (are_apart x y e))
-    ∙ has_join (marks m) (new_parts a b g) (new_parts a (still_first b g) h) ∙ or_false (has (marks m) (new_parts a b g)) (has (marks m) (new_parts a (still_first b g) h)) p q
+    ∙ has_join (marks m) (new_parts a b g) (new_parts a (still_first b g) h) ∙ or_from (has (marks m) (new_parts a b g)) (has (marks m) (new_parts a (still_first b g) h)) p q
 
 many_no : (m : Mark) (q : Rule) → stay_apart q q ≡ true
     → ((f : Forest) → Fits V74 q f → AreSpelled f → (a : Bool → Option Around) (b : Bool)
@@ -208,7 +191,7 @@ pub before_front : (m : Mark) (g h : Forest) → has (marks m) g ≡ false → h
 before_front m none h e p = refl
 before_front m (leaf x g) h e p =
     let z = front_by (marks m (terminal x)) (is_keyword_now (terminal x)) (has_before (marks m) (g +++ h)) (left_false (marks m (terminal x)) (has (marks m) g) e) p in
-    or_false (is_keyword_now (terminal x)) (has is_keyword_now g) z.0 (before_front m g h (right_false (marks m (terminal x)) (has (marks m) g) e) z.1)
+    or_from (is_keyword_now (terminal x)) (has is_keyword_now g) z.0 (before_front m g h (right_false (marks m (terminal x)) (has (marks m) g) e) z.1)
 before_front m (node k c g) h e p = before_front m g h e p
 
 -- the same of a class, behind the name that it declares
@@ -219,5 +202,5 @@ class_front (leaf x g) h e p =
     let z = class_front g h (right_false (declares (terminal x)) (has declares g) e)
     (ap (λ (b : Bool). in_class b (g +++ h)) (sym d) ∙ right_false (is_keyword_now (terminal x))
     (in_class (declares (terminal x)) (g +++ h)) p) in
-    (or_false (is_keyword_now (terminal x)) (has is_keyword_now g) (left_false (is_keyword_now (terminal x)) (in_class (declares (terminal x)) (g +++ h)) p) z.0, z.1)
+    (or_from (is_keyword_now (terminal x)) (has is_keyword_now g) (left_false (is_keyword_now (terminal x)) (in_class (declares (terminal x)) (g +++ h)) p) z.0, z.1)
 class_front (node k c g) h e p = class_front g h e p

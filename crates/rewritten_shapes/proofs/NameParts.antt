@@ -18,10 +18,6 @@ use Rattle.syntax_rules.specs.SplitName.{is_backslash, is_keyword, is_namespace,
 use Rattle.rewritten_shapes.proofs.Calm.{equal, lower_word}
 use Rattle.rewritten_shapes.proofs.OperatorWords.{backslash_is, found, op_kind, rows_not}
 
-both_true : (a b : Bool) → a ≡ true → b ≡ true → (a && b) ≡ true
-both_true true b e d = d
-both_true false b e d = cc
-
 pub root_token : (x : Token) → accepts V74 t.Backslash x ≡ true → is_backslash (hash_comment x) ≡ true
 root_token x e =
     ap (λ (sort : TokenKind). is_op sort && bytes_eq (x.text ++ []) (codes "\\")) (op_kind x.kind t.Backslash x.text refl e)

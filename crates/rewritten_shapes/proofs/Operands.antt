@@ -28,7 +28,7 @@ use Rattle.std.proofs.Common.{
   arith,
 }
 use Rattle.std.specs.Str.{bytes_eq}
-use Rattle.std.proofs.lemmas.Bool.{le-leb, leb-true}
+use Rattle.std.proofs.lemmas.Bool.{le-leb, leb-true, and_from}
 use Rattle.std.proofs.lemmas.Slice.Eq.{bytes_eq-Decides}
 use Rattle.php_tree.specs.declared.kind.NodeKind.{NodeKind}
 use Rattle.php_tree.specs.declared.kind.NodeKind.TheVariants as k
@@ -58,7 +58,7 @@ use Rattle.rewritten_shapes.proofs.Like.{Below, Like, like_join, like_leaf, like
 use Rattle.rewritten_shapes.proofs.OperatorWords.{dot_level_is}
 use Rattle.rewritten_shapes.proofs.Same.{lines_fine}
 use Rattle.rewritten_shapes.proofs.Shown.{changed_tree, in_paren, new_tree, new_tree_is, shown_token, wrapped}
-use Rattle.rewritten_shapes.proofs.Sides.{and_left, and_right, and_both}
+use Rattle.rewritten_shapes.proofs.Sides.{and_left, and_right}
 use Rattle.rewritten_shapes.proofs.Wrapped.{paren_edge}
 
 -- ---- a last operand
@@ -359,7 +359,7 @@ wrapped_last (InParens ∷ ws) x = (wrapped (ws ++ InParens ∷ []) x, refl)
 
 pub dot_wrapped : (a : Around) (j : NodeKind) (d : Forest) → is_dot (j, d) ≡ true → takes_apart a ≡ true → (y : Tree) × (new_tree (Some a) j d ≡ in_paren y)
 dot_wrapped a j d e h =
-    let on : is_regrouped (Some a) (j, d) ≡ true = and_both (is_dot (j, d)) (takes_apart a) e h in
+    let on : is_regrouped (Some a) (j, d) ≡ true = and_from (is_dot (j, d)) (takes_apart a) e h in
     let ws = nested.around (kind_if_first (Some a)) j in
     let z = wrapped_last ws (changed_tree j d) in
     (z.0, new_tree_is (Some a) j d ∙ ap (λ (b : Bool). wrapped (ws ++ (if b then InParens ∷ [] else [])) (changed_tree j d)) on ∙ z.1)
@@ -375,7 +375,7 @@ pub left_tight : (n : ℕ) (a : Around) (j : NodeKind) (d : Forest) → n ≤ 8 
     → Good j d (new_tree (Some a) j d) → may_stand V74 (Left n) (j, d) ≡ true
     → may_stand V83 (Left n) (new_tree (Some a) j d) ≡ true
 left_tight n a j d low h g m =
-    and_both (is_expression x.0) (nat_le (edge V83 x) n) (g.becomes.expression at) (le-leb (edge V83 x) n (go (is_dot (j, d)) refl))
+    and_from (is_expression x.0) (nat_le (edge V83 x) n) (g.becomes.expression at) (le-leb (edge V83 x) n (go (is_dot (j, d)) refl))
   where
     x : Tree
     x = new_tree (Some a) j d
@@ -395,7 +395,7 @@ pub left_dot : (j : NodeKind) (d : Forest) (x : Tree) → Good j d x → may_sta
 left_dot j d x g m =
     let old : edge V74 (j, d) ≤ 7 = leb-true (edge V74 (j, d)) 7 (and_right (is_expression j) (nat_le (edge V74 (j, d)) 7) m) in
     let new = (edges_below j d x g.like).loose in
-    and_both (is_expression x.0) (nat_le (edge V83 x) 9)
+    and_from (is_expression x.0) (nat_le (edge V83 x) 9)
     (g.becomes.expression (and_left (is_expression j) (nat_le (edge V74 (j, d)) 7) m))
     (le-leb (edge V83 x) 9 (omega (arith, old, new)))
 
@@ -403,7 +403,7 @@ left_dot j d x g m =
 pub right_tight : (a : Around) (j : NodeKind) (d : Forest) → takes_apart a ≡ true → Good j d (new_tree (Some a) j d)
     → may_stand V74 (Operand 7) (j, d) ≡ true → may_stand V83 (Operand 7) (new_tree (Some a) j d) ≡ true
 right_tight a j d h g m =
-    and_both (is_expression x.0) (nat_le (level V83 x) 7 || is_prefix x.0) (g.becomes.expression at) (go (is_dot (j, d)) refl)
+    and_from (is_expression x.0) (nat_le (level V83 x) 7 || is_prefix x.0) (g.becomes.expression at) (go (is_dot (j, d)) refl)
   where
     x : Tree
     x = new_tree (Some a) j d
@@ -445,7 +445,7 @@ right_dot j d x g m = wider (good_stands (Operand 6) j d x g refl m)
             last false z = z
 
     wider : may_stand V83 (Operand 6) x ≡ true → may_stand V83 (Operand 8) x ≡ true
-    wider m = and_both (is_expression x.0) (nat_le (level V83 x) 8 || is_prefix x.0)
+    wider m = and_from (is_expression x.0) (nat_le (level V83 x) 8 || is_prefix x.0)
         (and_left (is_expression x.0) (nat_le (level V83 x) 6 || is_prefix x.0) m)
         (more (level V83 x) (is_prefix x.0) (and_right (is_expression x.0) (nat_le (level V83 x) 6 || is_prefix x.0)
         m))

@@ -2,7 +2,7 @@
 use Rattle.std.proofs.Common.{◌≡◌, ◌==◌, ℕ, Bool, true, false, not, cond, ◌&&◌, nat_eq, codes, List, [], ◌∷◌, ◌++◌, length, take, refl, sym, ap, ◌∙◌}
 use Rattle.std.specs.Char.{to_ascii_lowercase}
 use Rattle.std.specs.Str.{str_to_ascii_lowercase}
-use Rattle.std.proofs.lemmas.Bool.{eqb-true}
+use Rattle.std.proofs.lemmas.Bool.{eqb-true, false_from_ne_true}
 use Rattle.std.proofs.lemmas.Slice.Eq.{bytes_eq-Decides}
 use Rattle.php_terminals.specs.declared.terminal.Terminal.TheVariants as t
 use Rattle.php_terminals.specs.Classify.{name}
@@ -26,10 +26,6 @@ begins_is (a ∷ w) (b ∷ bs) = ap (λ (x : Bool). nat_eq a (to_ascii_lowercase
 abbrev no_root : List ℕ → Bool
 no_root [] = true
 no_root (b ∷ bs) = not (nat_eq b 92) && no_root bs
-
-by_test : (b : Bool) → (b ≡ true → ⊥) → b ≡ false
-by_test true h = absurd (h refl)
-by_test false h = refl
 
 not_both : (b : Bool) → b ≡ true → not b ≡ true → ⊥
 not_both true e d = cc
@@ -62,7 +58,7 @@ label_no_root (b ∷ bs) e = e
 
 not_full : (l rest : List ℕ) → is_label_text l ≡ true → is_word (codes "\\") (front 1 (l ++ 92 ∷ rest)) ≡ false
 not_full [] rest e = absurd cc
-not_full (b ∷ l) rest e = by_test (is_word (codes "\\") (front 1 ((b ∷ l) ++ 92 ∷ rest))) (λ d.
+not_full (b ∷ l) rest e = false_from_ne_true (is_word (codes "\\") (front 1 ((b ∷ l) ++ 92 ∷ rest))) (λ d.
     let z : 92 ≡ b = root_byte b (and_left (nat_eq 92 (to_ascii_lowercase b)) (begins [] (l ++ 92 ∷ rest)) (sym (begins_is (codes "\\") ((b ∷ l) ++ 92 ∷ rest)) ∙ d)) in
     not_both (b == 92) (ap (λ x. x == 92) (sym z)) (and_left (not (b == 92)) (has_no_root l) e))
 
@@ -70,7 +66,7 @@ differ : {b : Bool} → b ≡ false → b ≡ true → ⊥
 differ e d = let z : false ≡ true = sym e ∙ d in cc
 
 not_relative : (l rest : List ℕ) → is_label_text l ≡ true → is_namespace_word l ≡ false → is_word (codes "namespace\\") (front 10 (l ++ 92 ∷ rest)) ≡ false
-not_relative l rest e n = by_test (is_word (codes "namespace\\") (front 10 (l ++ 92 ∷ rest))) (λ d.
+not_relative l rest e n = false_from_ne_true (is_word (codes "namespace\\") (front 10 (l ++ 92 ∷ rest))) (λ d.
     differ n ((bytes_eq-Decides (str_to_ascii_lowercase l) (codes "namespace")).1
     (same_front (codes "namespace") l rest refl (label_no_root l e) (sym (begins_is (codes "namespace\\") (l ++ 92 ∷ rest)) ∙ d))))
 

@@ -1,6 +1,7 @@
 -- Expressions in braces in quoted texts, with `${`.
 use Rattle.std.proofs.Common.{◌≡◌, ℕ, Bool, true, false, not, ◌&&◌, if◌then◌else◌, codes, List, [], ◌++◌, Option, refl, ap, ◌∙◌}
 use Rattle.std.specs.Str.{bytes_eq}
+use Rattle.std.proofs.lemmas.Bool.{and_from}
 use Rattle.php_tree.specs.declared.kind.NodeKind.{NodeKind}
 use Rattle.php_tree.specs.declared.kind.NodeKind.TheVariants as k
 use Rattle.php_tree.specs.declared.token.Token.{Token}
@@ -28,7 +29,6 @@ use Rattle.rewritten_shapes.proofs.OperatorWords.{close_brace_is, open_bracket_i
 use Rattle.rewritten_shapes.proofs.QuotedParts.{close_is, curly_is, dollar_is, dollar_kind, is_mark, marks_part, name_is, opens_is, shuts_is}
 use Rattle.rewritten_shapes.proofs.Same.{lines_fine}
 use Rattle.rewritten_shapes.proofs.Shown.{new_tree, op_token, shown_token}
-use Rattle.rewritten_shapes.proofs.Sides.{and_both}
 use Rattle.rewritten_shapes.proofs.Tabled.{changed, written}
 use Rattle.syntax_rules.specs.Rewritten as all
 use Rattle.tracked_changes.specs.Parens.{in_wrappings}
@@ -50,10 +50,10 @@ curly_step b x k c y rest p m n q w =
     record {
       new = leaf (shown_token (hash_comment x)) (node z.0 z.1 (leaf (shown_token (hash_comment y)) none));
       is_part = marks_part rules.quoted_part (leaf x (node k c (leaf y none))) new refl
-          (and_both (is_mark (terminal x)) (is_mark (terminal y) && true) (mark_of x t.CurlyOpen e refl)
-          (and_both (is_mark (terminal y)) true (mark_of y t.CloseBrace d refl) refl)) refl
-          (and_both (is_mark (terminal (shown_token (hash_comment x)))) (is_mark (terminal (shown_token (hash_comment y))) && true) (shown_mark x t.CurlyOpen e refl)
-          (and_both (is_mark (terminal (shown_token (hash_comment y)))) true (shown_mark y t.CloseBrace d refl) refl))
+          (and_from (is_mark (terminal x)) (is_mark (terminal y) && true) (mark_of x t.CurlyOpen e refl)
+          (and_from (is_mark (terminal y)) true (mark_of y t.CloseBrace d refl) refl)) refl
+          (and_from (is_mark (terminal (shown_token (hash_comment x)))) (is_mark (terminal (shown_token (hash_comment y))) && true) (shown_mark x t.CurlyOpen e refl)
+          (and_from (is_mark (terminal (shown_token (hash_comment y)))) true (shown_mark y t.CloseBrace d refl) refl))
           (is_second (is_second (is_first (is_both (is_word (steady_shown t.CurlyOpen x refl p))
           (is_both (is_place (good_stands Embedded k c z good refl m) good.shaped)
           (is_word (steady_shown t.CloseBrace y refl q)) refl) refl))));
@@ -104,10 +104,10 @@ plain_step b x n y rest p o q =
     record {
       new = leaf curly_token (node k.Variable (variable_parts n) (leaf (shown_token (hash_comment y)) none));
       is_part = marks_part rules.quoted_part (leaf x (leaf n (leaf y none))) new refl
-          (and_both (is_mark (terminal x)) (is_mark (terminal n) && (is_mark (terminal y) && true)) (mark_of x t.DollarBrace e refl)
-          (and_both (is_mark (terminal n)) (is_mark (terminal y) && true) (mark_of n t.VarName v refl)
-          (and_both (is_mark (terminal y)) true (mark_of y t.CloseBrace d refl) refl))) refl
-          (and_both (is_mark (terminal (shown_token (hash_comment y)))) true (shown_mark y t.CloseBrace d refl) refl)
+          (and_from (is_mark (terminal x)) (is_mark (terminal n) && (is_mark (terminal y) && true)) (mark_of x t.DollarBrace e refl)
+          (and_from (is_mark (terminal n)) (is_mark (terminal y) && true) (mark_of n t.VarName v refl)
+          (and_from (is_mark (terminal y)) true (mark_of y t.CloseBrace d refl) refl))) refl
+          (and_from (is_mark (terminal (shown_token (hash_comment y)))) true (shown_mark y t.CloseBrace d refl) refl)
           (is_second (is_second (is_first (is_both (is_word refl) (is_both (is_place refl (variable_shaped n)) (is_word (steady_shown t.CloseBrace y refl q)) refl) refl))));
       same = ap seen (dollar_drawn b x (leaf n (leaf y rest)) p
           ∙ ap (opened (hash_comment x)) (leaf_drawn b false n t.VarName (leaf y rest) v refl ∙ ap (new_leaf (hash_comment n)) (leaf_drawn b false y t.CloseBrace rest d refl))
@@ -175,17 +175,17 @@ offset_step b x n m j c s y rest p o u l i r q w =
     let d = close_is (terminal y) q in
     let z = new_tree (b false) j c in
     let new = leaf curly_token (node k.Offset (offset_parts n m z s) (leaf (shown_token (hash_comment y)) none)) in
-    let marks = and_both (is_mark (terminal x))
+    let marks = and_from (is_mark (terminal x))
     (is_mark (terminal n) && (is_mark (terminal m) && (is_mark (terminal s) && (is_mark (terminal y) && true))))
     (mark_of x t.DollarBrace e refl)
-    (and_both (is_mark (terminal n)) (is_mark (terminal m) && (is_mark (terminal s) && (is_mark (terminal y) && true))) (mark_of n t.VarName v refl)
-    (and_both (is_mark (terminal m)) (is_mark (terminal s) && (is_mark (terminal y) && true)) (mark_of m t.OpenBracket a refl)
-    (and_both (is_mark (terminal s)) (is_mark (terminal y) && true) (mark_of s t.CloseBracket h refl)
-    (and_both (is_mark (terminal y)) true (mark_of y t.CloseBrace d refl) refl)))) in
+    (and_from (is_mark (terminal n)) (is_mark (terminal m) && (is_mark (terminal s) && (is_mark (terminal y) && true))) (mark_of n t.VarName v refl)
+    (and_from (is_mark (terminal m)) (is_mark (terminal s) && (is_mark (terminal y) && true)) (mark_of m t.OpenBracket a refl)
+    (and_from (is_mark (terminal s)) (is_mark (terminal y) && true) (mark_of s t.CloseBracket h refl)
+    (and_from (is_mark (terminal y)) true (mark_of y t.CloseBrace d refl) refl)))) in
     record {
       new = leaf curly_token (node k.Offset (offset_parts n m z s) (leaf (shown_token (hash_comment y)) none));
       is_part = marks_part rules.quoted_part (leaf x (leaf n (leaf m (node j c (leaf s (leaf y none)))))) new refl marks refl
-          (and_both (is_mark (terminal (shown_token (hash_comment y)))) true (shown_mark y t.CloseBrace d refl) refl)
+          (and_from (is_mark (terminal (shown_token (hash_comment y)))) true (shown_mark y t.CloseBrace d refl) refl)
           (is_second (is_second (is_first (is_both (is_word refl)
           (is_both (is_place refl (offset_shaped n m j c z s u l (w.0 (b false) i) r))
           (is_word (steady_shown t.CloseBrace y refl q)) refl) refl))));
@@ -249,9 +249,9 @@ node_step b x j c y rest p l i q w =
     record {
       new = leaf curly_token (node k.Variable (dollar_parts z) (leaf (op_token (codes "}")) none));
       is_part = marks_part rules.quoted_part (leaf x (node j c (leaf y none))) new refl
-          (and_both (is_mark (terminal x)) (is_mark (terminal y) && true) (mark_of x t.DollarBrace e refl)
-          (and_both (is_mark (terminal y)) true (mark_of y t.CloseBrace d refl) refl)) refl
-          (and_both (is_mark (terminal (op_token (codes "}")))) true close_mark refl)
+          (and_from (is_mark (terminal x)) (is_mark (terminal y) && true) (mark_of x t.DollarBrace e refl)
+          (and_from (is_mark (terminal y)) true (mark_of y t.CloseBrace d refl) refl)) refl
+          (and_from (is_mark (terminal (op_token (codes "}")))) true close_mark refl)
           (is_second (is_second (is_first (is_both (is_word refl) (is_both (is_place refl (dollar_shaped j c z l (w.0 (b false) i))) (is_word takes_close) refl) refl))));
       same = ap seen (dollar_drawn b x (node j c (leaf y rest)) p
           ∙ ap (λ (f : Draft). opened (hash_comment x) (new_node (made b j c).0 (made b j c).1 f)) (leaf_drawn b false y t.CloseBrace rest d refl))

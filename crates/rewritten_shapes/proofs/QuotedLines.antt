@@ -2,13 +2,13 @@
 use Rattle.std.proofs.Common.{◌≡◌, ℕ, suc, ◌+◌, ◌-◌, Bool, true, false, not, cond, ◌&&◌, ◌||◌, nat_eq, nat_lt, List, [], ◌∷◌, length, take, slice_index, refl, sym, ap, ◌∙◌, arith}
 use Rattle.std.specs.List.{prefix_len}
 use Rattle.std.specs.Char.{to_ascii_lowercase}
-use Rattle.std.proofs.lemmas.Bool.{eqb-true}
+use Rattle.std.proofs.lemmas.Bool.{eqb-true, and_from}
 use Rattle.std.proofs.lemmas.Bool.Decides.{nat_tests}
 use Rattle.php_terminals.specs.Indents.{blank_len, ends_line, is_blank_byte, is_blank_line, is_indented, is_line_end, line_ends_at, line_fits, margin, starts}
 use Rattle.php_terminals.specs.Words.{front, is_word}
 use Rattle.tracked_changes.specs.Pieces.{after}
 use Rattle.syntax_rules.specs.DollarBrace.{before_last, ends_bare}
-use Rattle.rewritten_shapes.proofs.Sides.{and_both, and_left, and_right}
+use Rattle.rewritten_shapes.proofs.Sides.{and_left, and_right}
 
 -- ---- indentations
 
@@ -29,7 +29,7 @@ prefix_off b bs e = ap (λ (x : Bool). cond x (1 + prefix_len is_blank_byte bs) 
 margin_step : (b : ℕ) (bs : List ℕ) (blank : Bool) → is_blank_byte b ≡ blank → are_blank (margin bs) ≡ true → are_blank (margin (b ∷ bs)) ≡ true
 margin_step b bs true e h =
     ap (λ (n : ℕ). are_blank (front (length (take n (b ∷ bs))) (b ∷ bs))) (prefix_on b bs e)
-    ∙ and_both (is_blank_byte b) (are_blank (margin bs)) e h
+    ∙ and_from (is_blank_byte b) (are_blank (margin bs)) e h
 margin_step b bs false e h = ap (λ (n : ℕ). are_blank (front (length (take n (b ∷ bs))) (b ∷ bs))) (prefix_off b bs e)
 
 pub margin_blank : (text : List ℕ) → are_blank (margin text) ≡ true
@@ -57,7 +57,7 @@ starts_put escaped (i ∷ is) (b ∷ []) p e h =
     absurd (let z : false ≡ true = no_blank i b (and_left (is_blank_byte i) (are_blank is) p) (last_is escaped b e)
     (and_left (nat_eq i (to_ascii_lowercase b)) (is_word is (front (length is) [])) h) in cc)
 starts_put escaped (i ∷ is) (b ∷ c ∷ bs) p e h =
-    and_both (nat_eq i (to_ascii_lowercase b)) (starts is (put (c ∷ bs)))
+    and_from (nat_eq i (to_ascii_lowercase b)) (starts is (put (c ∷ bs)))
     (and_left (nat_eq i (to_ascii_lowercase b)) (starts is (c ∷ bs)) h)
     (starts_put (not escaped && nat_eq b 92) is (c ∷ bs) (and_right (is_blank_byte i) (are_blank is) p) e (and_right (nat_eq i (to_ascii_lowercase b)) (starts is (c ∷ bs)) h))
 
@@ -103,11 +103,11 @@ pub indented_put : (escaped : Bool) (indent : List ℕ) (fresh : Bool) (text : L
     → is_indented indent fresh (put text) ≡ true
 indented_put escaped indent fresh [] p e h = absurd cc
 indented_put escaped indent fresh (b ∷ []) p e h =
-    and_both (not fresh || line_fits indent (put (b ∷ []))) true
+    and_from (not fresh || line_fits indent (put (b ∷ []))) true
     (or_map (not fresh) (line_fits indent (b ∷ [])) (not fresh) (line_fits indent (put (b ∷ []))) (λ z. z) (line_put escaped indent (b ∷ []) p e)
     (and_left (not fresh || line_fits indent (b ∷ [])) true h)) refl
 indented_put escaped indent fresh (b ∷ c ∷ bs) p e h =
-    and_both (not fresh || line_fits indent (put (b ∷ c ∷ bs))) (is_indented indent (is_line_end b) (put (c ∷ bs)))
+    and_from (not fresh || line_fits indent (put (b ∷ c ∷ bs))) (is_indented indent (is_line_end b) (put (c ∷ bs)))
     (or_map (not fresh) (line_fits indent (b ∷ c ∷ bs)) (not fresh) (line_fits indent (put (b ∷ c ∷ bs))) (λ z. z) (line_put escaped indent (b ∷ c ∷ bs) p e)
     (and_left (not fresh || line_fits indent (b ∷ c ∷ bs)) (is_indented indent (is_line_end b) (c ∷ bs)) h))
     (indented_put (not escaped && nat_eq b 92) indent (is_line_end b) (c ∷ bs) p e

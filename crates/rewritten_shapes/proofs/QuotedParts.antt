@@ -1,6 +1,7 @@
 -- The parts of a quoted text that stand between pieces, and what becomes of them.
 use Rattle.std.proofs.Common.{◌≡◌, ℕ, Bool, true, false, not, cond, ◌&&◌, ◌||◌, nat_eq, nat_lt, length, slice_index, codes, List, refl, sym, ap, ◌∙◌}
 use Rattle.std.specs.Char.{to_ascii_lowercase}
+use Rattle.std.proofs.lemmas.Bool.{and_from}
 use Rattle.php_tree.specs.declared.token.Token.{Token}
 use Rattle.php_tree.specs.declared.token.TokenKind.{TokenKind}
 use Rattle.php_tree.specs.declared.token.TokenKind.TheVariants as token
@@ -20,7 +21,7 @@ use Rattle.syntax_rules.specs.DollarBrace.{is_dollar_brace, is_piece}
 use Rattle.rewritten_shapes.proofs.Braces.{is_quiet}
 use Rattle.rewritten_shapes.proofs.OperatorWords.{found}
 use Rattle.rewritten_shapes.proofs.QuotedLines.{are_blank}
-use Rattle.rewritten_shapes.proofs.Sides.{and_both, and_left, and_right}
+use Rattle.rewritten_shapes.proofs.Sides.{and_left, and_right}
 
 -- ---- parts beside each other
 
@@ -71,7 +72,7 @@ lines_join indent fresh r f g h i p e q d =
     let one = p.lines indent fresh e (and_left (parts_fit indent fresh f) (parts_fit indent (fresh_past fresh f) h) s) in
     let two = q (fresh_past fresh f) (and_right (parts_fit indent fresh f) (parts_fit indent (fresh_past fresh f) h) s) in
     fit_join indent fresh g i
-    ∙ and_both (parts_fit indent fresh g) (parts_fit indent (fresh_past fresh g) i) one (ap (λ (b : Bool). parts_fit indent b i) (p.begins fresh) ∙ two)
+    ∙ and_from (parts_fit indent fresh g) (parts_fit indent (fresh_past fresh g) i) one (ap (λ (b : Bool). parts_fit indent b i) (p.begins fresh) ∙ two)
 
 pub part_none : (r : Rule) → Part (many r) none none
 part_none r = record { fits = no_more; quiet = refl; lines = λ indent fresh e d. refl; begins = λ fresh. refl }
@@ -79,7 +80,7 @@ part_none r = record { fits = no_more; quiet = refl; lines = λ indent fresh e d
 pub part_more : (r : Rule) (f g h i : Forest) → Part r f g → Part (many r) h i → Part (many r) (f +++ h) (g +++ i)
 part_more r f g h i p q = record {
   fits = once_more p.fits q.fits refl;
-  quiet = quiet_join g i ∙ and_both (is_quiet g) (is_quiet i) p.quiet q.quiet;
+  quiet = quiet_join g i ∙ and_from (is_quiet g) (is_quiet i) p.quiet q.quiet;
   lines = λ indent fresh e d. lines_join indent fresh r f g h i p e (λ b z. q.lines indent b e z) d;
   begins = λ fresh. fresh_join fresh g i ∙ ap (λ (b : Bool). fresh_past b i) (p.begins fresh) ∙ q.begins (fresh_past fresh f) ∙ sym (fresh_join fresh f h);
 }
@@ -162,7 +163,7 @@ marks_fit : (indent : List ℕ) (f : Forest) → are_marks f ≡ true → parts_
 marks_fit indent none e = refl
 marks_fit indent (leaf x f) e =
     let m = and_left (is_mark (terminal x)) (are_marks f) e in
-    and_both (leaf_fits indent false x) (parts_fit indent (fresh_behind false x) f) (leaf_mark x indent false m)
+    and_from (leaf_fits indent false x) (parts_fit indent (fresh_behind false x) f) (leaf_mark x indent false m)
     (ap (λ (b : Bool). parts_fit indent b f) (behind_mark x false m) ∙ marks_fit indent f (and_right (is_mark (terminal x)) (are_marks f) e))
 marks_fit indent (node k c f) e = marks_fit indent f e
 

@@ -1,5 +1,6 @@
 -- Pieces and variables of quoted texts.
 use Rattle.std.proofs.Common.{◌≡◌, ℕ, Bool, true, false, not, ◌&&◌, if◌then◌else◌, List, [], ◌++◌, Option, refl, sym, ap, ◌∙◌, append-nil}
+use Rattle.std.proofs.lemmas.Bool.{and_from}
 use Rattle.php_tree.specs.declared.token.Token.{Token}
 use Rattle.php_tree.specs.declared.token.TokenKind.{TokenKind}
 use Rattle.php_tree.specs.declared.token.TokenKind.TheVariants as token
@@ -23,7 +24,7 @@ use Rattle.rewritten_shapes.proofs.Kept.{AllGood, kept}
 use Rattle.rewritten_shapes.proofs.QuotedLines.{are_blank, ends_bare_line, indented_put, put, put_line}
 use Rattle.rewritten_shapes.proofs.QuotedParts.{Part, is_mark, marks_part, no_dollar, no_piece}
 use Rattle.rewritten_shapes.proofs.Shown.{is_shut, names_whole, new_parts, shown, shown_token, shut_front}
-use Rattle.rewritten_shapes.proofs.Sides.{and_both, and_left, and_right}
+use Rattle.rewritten_shapes.proofs.Sides.{and_left, and_right}
 use Rattle.rewritten_shapes.proofs.Tabled.{written}
 
 -- ---- drafts of the parts
@@ -113,7 +114,7 @@ piece_part x y p q h g = record {
   fits = is_first (is_word (ap (same_class t.Piece) q));
   quiet = ap (λ (c : Terminal). not (goes_on_if c) && (not (is_to c) && true)) q;
   lines = λ indent fresh e d.
-      and_both (leaf_fits indent fresh y) true
+      and_from (leaf_fits indent fresh y) true
       (piece_lines indent fresh y q ∙ h indent fresh e (sym (piece_lines indent fresh x p) ∙ and_left (leaf_fits indent fresh x) true d)) refl;
   begins = λ fresh. piece_begins fresh y q ∙ g fresh ∙ sym (piece_begins fresh x p);
 }

@@ -1,5 +1,6 @@
 -- Quoted texts.
 use Rattle.std.proofs.Common.{◌≡◌, ℕ, Bool, true, false, not, ◌&&◌, ◌||◌, List, [], Option, refl, sym, ap, ◌∙◌, subst, arith}
+use Rattle.std.proofs.lemmas.Bool.{and_from}
 use Rattle.php_tree.specs.declared.kind.NodeKind.TheVariants as k
 use Rattle.php_tree.specs.declared.token.Token.{Token}
 use Rattle.php_tree.specs.declared.token.TokenKind.{TokenKind}
@@ -28,7 +29,7 @@ use Rattle.rewritten_shapes.proofs.Like.{below_same}
 use Rattle.rewritten_shapes.proofs.QuotedLines.{margin_blank}
 use Rattle.rewritten_shapes.proofs.QuotedParts.{Part, end_is, last_if, last_is, last_yield, lines_join, part_more, part_none, piece_is, quiet_join, quote_is}
 use Rattle.rewritten_shapes.proofs.Shown.{changed_tree, new_tree, shown_token}
-use Rattle.rewritten_shapes.proofs.Sides.{and_both, and_left, and_right}
+use Rattle.rewritten_shapes.proofs.Sides.{and_left, and_right}
 use Rattle.rewritten_shapes.proofs.Simple.{unwrapped_tree}
 use Rattle.rewritten_shapes.proofs.QuotedPieces.{new_quoted, leaf_stays, shown_class, Step, piece_step, interpolated_step}
 use Rattle.rewritten_shapes.proofs.QuotedBraces.{curly_step, plain_step, offset_step, node_step}
@@ -87,7 +88,7 @@ heredoc_lines g i x y p q s e =
     let old = sym (heredoc_is g x) ∙ e in
     heredoc_is i y
     ∙ ap (λ (text : List ℕ). is_uniform (margin text) && parts_fit (margin text) true (i +++ leaf y none)) s
-    ∙ and_both (is_uniform (margin x.text)) (parts_fit (margin x.text) true (i +++ leaf y none))
+    ∙ and_from (is_uniform (margin x.text)) (parts_fit (margin x.text) true (i +++ leaf y none))
     (and_left (is_uniform (margin x.text)) (parts_fit (margin x.text) true (g +++ leaf x none)) old)
     (lines_join (margin x.text) true (many rules.quoted_part) g i (leaf x none) (leaf y none) p (margin_blank x.text) (λ b z. end_fits (margin x.text) b y q)
     (and_right (is_uniform (margin x.text)) (parts_fit (margin x.text) true (g +++ leaf x none)) old))
@@ -129,7 +130,7 @@ whole_good q f g e p r part fine =
     let flat : edge_from V83 0 b ≡ 0 = flat_fits fits refl in
     let new = edge_is V83 k.Quoted b in
     let quiet = quote_quiet (terminal (shown_token (hash_comment q))) (is_quiet (g +++ leaf y none)) (shown_class q t.QuoteOpen (quote_is (terminal q) p))
-    (quiet_join g (leaf y none) ∙ and_both (is_quiet g) (is_quiet (leaf y none)) part.quiet (end_quiet (terminal y) end)) in
+    (quiet_join g (leaf y none) ∙ and_from (is_quiet g) (is_quiet (leaf y none)) part.quiet (end_quiet (terminal y) end)) in
     record {
       shaped = is_node fits (quiet_near b quiet)
           (quoted_lines q (shown_token (hash_comment q)) (f +++ leaf e none) (g +++ leaf y none) refl

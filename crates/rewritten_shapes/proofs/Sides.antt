@@ -1,5 +1,6 @@
 -- How the parts of a rule begin and end, so that names of two rules beside each other stay apart.
 use Rattle.std.proofs.Common.{◌⊎◌, inl, inr, ◌≡◌, Bool, true, false, not, ◌&&◌, ◌||◌, if◌then◌else◌, Option, refl, sym, ap, ◌∙◌}
+use Rattle.std.proofs.lemmas.Bool.{and_from, or_left, or_right}
 use Rattle.php_tree.specs.declared.kind.NodeKind.{NodeKind}
 use Rattle.php_tree.specs.declared.version.Version.{Version}
 use Rattle.php_tree.specs.declared.version.Version.TheVariants.{V74}
@@ -26,10 +27,6 @@ and_left false b e = cc
 pub and_right : (a b : Bool) → (a && b) ≡ true → b ≡ true
 and_right true b e = e
 and_right false b e = cc
-
-pub and_both : (a b : Bool) → a ≡ true → b ≡ true → (a && b) ≡ true
-and_both true b e d = d
-and_both false b e d = cc
 
 -- ---- parts
 
@@ -101,14 +98,6 @@ join_none none h e = (refl, e)
 join_none (leaf x g) h e = absurd cc
 join_none (node k c g) h e = absurd cc
 
-pub or_left : (a b : Bool) → a ≡ true → (a || b) ≡ true
-or_left true b e = refl
-or_left false b e = cc
-
-pub or_right : (a b : Bool) → b ≡ true → (a || b) ≡ true
-or_right true b e = refl
-or_right false b e = e
-
 pub empty_rule : (v : Version) {r : Rule} {f : Forest} → Fits v r f → f ≡ none → may_be_empty r ≡ true
 empty_rule v is_nothing e = refl
 empty_rule v (is_word p) e = absurd cc
@@ -117,7 +106,7 @@ empty_rule v (is_place m n) e = absurd cc
 empty_rule v (is_inside x near) e = absurd cc
 empty_rule v (is_both {r} {s} {f} {g} {h} x y d) e =
     let z = join_none g h (sym d ∙ e) in
-    and_both (may_be_empty r) (may_be_empty s) (empty_rule v x z.0) (empty_rule v y z.1)
+    and_from (may_be_empty r) (may_be_empty s) (empty_rule v x z.0) (empty_rule v y z.1)
 empty_rule v (is_first {r} {s} x) e = or_left (may_be_empty r) (may_be_empty s) (empty_rule v x e)
 empty_rule v (is_second {r} {s} x) e = or_right (may_be_empty r) (may_be_empty s) (empty_rule v x e)
 empty_rule v no_more e = refl

@@ -1,5 +1,6 @@
 -- Uses of traits keep their shape: any tokens may stand between the braces.
 use Rattle.std.proofs.Common.{◌≡◌, ℕ, ◌+◌, ◌-◌, Bool, true, false, not, cond, ◌&&◌, ◌||◌, nat_eq, if◌then◌else◌, Option, refl, sym, ap, ◌∙◌, subst}
+use Rattle.std.proofs.lemmas.Bool.{false_from_ne_true}
 use Rattle.php_tree.specs.declared.kind.NodeKind.TheVariants as k
 use Rattle.php_tree.specs.declared.token.Token.{Token}
 use Rattle.php_tree.specs.declared.version.Version.TheVariants.{V74, V83}
@@ -54,25 +55,21 @@ neutral t.FullName e = record { opens_ = refl; closes_ = refl; goes = refl; to =
 neutral t.RelativeName e = record { opens_ = refl; closes_ = refl; goes = refl; to = refl; else_ = refl }
 neutral _ e = absurd cc
 
-by_test : (b : Bool) → (b ≡ true → ⊥) → b ≡ false
-by_test true h = absurd (h refl)
-by_test false h = refl
-
 clash : (b : Bool) → b ≡ true → b ≡ false → ⊥
 clash true e d = cc
 clash false e d = cc
 
 first_neutral : (x : Token) (u : NewToken) → is_one (hash_comment x) u ≡ true → Neutral (terminal x)
-first_neutral x u e = neutral (terminal x) (by_test (is_calm (terminal x)) (λ d. clash (is_one (hash_comment x) u) e (shut_is_one (hash_comment x) u (calm_shut x d))))
+first_neutral x u e = neutral (terminal x) (false_from_ne_true (is_calm (terminal x)) (λ d. clash (is_one (hash_comment x) u) e (shut_is_one (hash_comment x) u (calm_shut x d))))
 
 second_neutral : (t u : NewToken) → is_one t u ≡ true → Neutral (terminal (shown_token u))
 second_neutral t u e = neutral (terminal (shown_token u))
-    (by_test (is_calm (terminal (shown_token u)))
+    (false_from_ne_true (is_calm (terminal (shown_token u)))
     (λ d. clash (is_one t u) e (fresh_is_one t u (fresh_kind u.kind (shown_token u).text d))))
 
 joined_neutral : (t u : NewToken) → Neutral (terminal (shown_token (one_name t u)))
 joined_neutral t u = neutral (terminal (shown_token (one_name t u)))
-    (by_test (is_calm (terminal (shown_token (one_name t u)))) (λ d. name_calm (shown_token (one_name t u)).text d))
+    (false_from_ne_true (is_calm (terminal (shown_token (one_name t u)))) (λ d. name_calm (shown_token (one_name t u)).text d))
 
 -- ---- joined tokens
 

@@ -1,6 +1,6 @@
 -- Prefixes, `yield` and ternaries.
 use Rattle.std.proofs.Common.{◌≡◌, ℕ, ◌≤◌, max, Bool, true, false, cond, ◌&&◌, inl, nat_le, [], ◌∷◌, ◌++◌, if◌then◌else◌, Option, refl, sym, ap, ◌∙◌, subst, arith}
-use Rattle.std.proofs.lemmas.Bool.{le-leb, leb-true}
+use Rattle.std.proofs.lemmas.Bool.{le-leb, leb-true, and_from}
 use Rattle.php_tree.specs.declared.kind.NodeKind.{NodeKind}
 use Rattle.php_tree.specs.declared.kind.NodeKind.TheVariants as k
 use Rattle.php_tree.specs.declared.kind.NodeKind.TheVariants.{Prefix, ShortTernary, Ternary, Yield}
@@ -32,7 +32,7 @@ use Rattle.rewritten_shapes.proofs.Like.{Below, below_same, like_nearest, like_n
 use Rattle.rewritten_shapes.proofs.Operands.{EndsIn, dot_node, dots_by, ternaries_by}
 use Rattle.rewritten_shapes.proofs.Same.{lines_fine}
 use Rattle.rewritten_shapes.proofs.Shown.{changed_tree, in_paren, new_parts, new_tree, new_tree_is, shown_token, wrapped}
-use Rattle.rewritten_shapes.proofs.Sides.{and_left, and_right, and_both}
+use Rattle.rewritten_shapes.proofs.Sides.{and_left, and_right}
 use Rattle.rewritten_shapes.proofs.Simple.{simple_tree}
 use Rattle.rewritten_shapes.proofs.Wrapped.{paren_edge, wrapped_good}
 
@@ -212,7 +212,7 @@ left_once : (n : ℕ) (j : NodeKind) (d : Forest) (x : Tree) → Good j d x → 
 left_once n j d x g e m =
     let at = and_left (is_expression j) (nat_le (edge V74 (j, d)) 18) m in
     let old : edge V74 (j, d) ≤ 18 = leb-true (edge V74 (j, d)) 18 (and_right (is_expression j) (nat_le (edge V74 (j, d)) 18) m) in
-    and_both (is_expression x.0) (nat_le (edge V83 x) 17) (g.becomes.expression at) (le-leb (edge V83 x) 17 (g.ternaries at e old))
+    and_from (is_expression x.0) (nat_le (edge V83 x) 17) (g.becomes.expression at) (le-leb (edge V83 x) 17 (g.ternaries at e old))
 
 left_paren : (j : NodeKind) (d : Forest) (x y : Tree) → Good j d x → x ≡ in_paren y → may_stand V83 (Left 17) x ≡ true
 left_paren j d x y g e = subst (λ (z : Tree). may_stand V83 (Left 17) z ≡ true) (sym e) (le-leb (edge V83 (in_paren y)) 17 (omega (arith, paren_edge y)))

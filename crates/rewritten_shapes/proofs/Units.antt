@@ -1,5 +1,6 @@
 -- Names become one token.
 use Rattle.std.proofs.Common.{◌≡◌, ◌==◌, ℕ, Bool, true, false, not, ◌&&◌, ◌||◌, ◌⊎◌, inl, inr, if◌then◌else◌, codes, List, [], ◌∷◌, ◌++◌, Option, refl, sym, ap, ◌∙◌, subst}
+use Rattle.std.proofs.lemmas.Bool.{or_left, or_right, not-true, and_from}
 use Rattle.php_tree.specs.declared.token.Token.{Token}
 use Rattle.php_tree.specs.declared.token.TokenKind.{TokenKind}
 use Rattle.php_tree.specs.declared.token.TokenKind.TheVariants as token
@@ -21,7 +22,7 @@ use Rattle.rewritten_shapes.specs.Laws.{AreSpelled, begins_namespace, has_no_roo
 use Rattle.rewritten_shapes.proofs.NameParts.{label_token, root_token, space_token}
 use Rattle.rewritten_shapes.proofs.OperatorWords.{backslash_is}
 use Rattle.rewritten_shapes.proofs.Shown.{names_whole}
-use Rattle.rewritten_shapes.proofs.Sides.{and_both, and_left}
+use Rattle.rewritten_shapes.proofs.Sides.{and_left}
 use Rattle.rewritten_shapes.proofs.Tabled.{written}
 
 -- ---- two tokens
@@ -33,45 +34,33 @@ if_true false x y e = cc
 joins : (t u : NewToken) (d : Draft) → is_one t u ≡ true → in_front true t (new_leaf u d) ≡ new_leaf (one_name t u) d
 joins t u d e = if_true (is_one t u) (new_leaf (one_name t u) d) (new_leaf t (new_leaf u d)) e
 
-or_left : (a b : Bool) → a ≡ true → (a || b) ≡ true
-or_left true b e = refl
-or_left false b e = cc
-
-or_right : (a b : Bool) → b ≡ true → (a || b) ≡ true
-or_right true b e = refl
-or_right false b e = e
-
 -- `\` before a label
 root_label : (t u : NewToken) → is_backslash t ≡ true → is_label u.kind ≡ true → is_one t u ≡ true
 root_label t u p q = or_left (is_backslash t && (is_label u.kind
     || (is_name u.kind && not (begins_root (before u.text))))) _
-    (and_both (is_backslash t) _ p (or_left (is_label u.kind) _ q))
+    (and_from (is_backslash t) _ p (or_left (is_label u.kind) _ q))
 
 -- `\` before a name that doesn't begin with one
 root_name : (t u : NewToken) → is_backslash t ≡ true → is_name u.kind ≡ true → begins_root (before u.text) ≡ false → is_one t u ≡ true
 root_name t u p q r = or_left (is_backslash t && (is_label u.kind
     || (is_name u.kind && not (begins_root (before u.text))))) _
-    (and_both (is_backslash t) _ p (or_right (is_label u.kind) _ (and_both (is_name u.kind) _ q (ap not r))))
+    (and_from (is_backslash t) _ p (or_right (is_label u.kind) _ (and_from (is_name u.kind) _ q (ap not r))))
 
 -- a label or `namespace` before a name that begins with `\`
 part_name : (t u : NewToken) → (is_label t.kind || is_namespace t) ≡ true → is_name u.kind ≡ true → begins_root (before u.text) ≡ true → is_one t u ≡ true
 part_name t u p q r =
     or_right (is_backslash t && (is_label u.kind || (is_name u.kind && not (begins_root (before u.text))))) _
-    (and_both ((is_label t.kind || is_namespace t) && is_name u.kind) (begins_root (before u.text)) (and_both (is_label t.kind || is_namespace t) (is_name u.kind) p q) r)
+    (and_from ((is_label t.kind || is_namespace t) && is_name u.kind) (begins_root (before u.text)) (and_from (is_label t.kind || is_namespace t) (is_name u.kind) p q) r)
 
 -- ---- how texts begin
 
 root_front : (text rest : List ℕ) → text ≡ codes "\\" → begins_root (text ++ rest) ≡ true
 root_front text rest e = ap (λ (x : List ℕ). begins_root (x ++ rest)) e
 
-not_true : (b : Bool) → not b ≡ true → b ≡ false
-not_true true e = sym e
-not_true false e = refl
-
 no_root_front : (text rest : List ℕ) → is_label_text text ≡ true → begins_root (text ++ rest) ≡ false
 no_root_front [] rest e = absurd cc
 no_root_front (b ∷ bs) rest e =
-    not_true (b == 92) (and_left (not (b == 92)) (has_no_root bs) e)
+    not-true (b == 92) (and_left (not (b == 92)) (has_no_root bs) e)
 
 label_spelled : (sort : TokenKind) (text : List ℕ) → sort ≡ token.Label → is_spelled_by sort text ≡ true → is_label_text text ≡ true
 label_spelled sort text e s = ap (λ (k : TokenKind). is_spelled_by k text) (sym e) ∙ s

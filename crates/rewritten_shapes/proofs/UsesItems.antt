@@ -1,5 +1,6 @@
 -- The items of a use keep their shape, one by one and in lists.
 use Rattle.std.proofs.Common.{◌≡◌, Bool, true, false, ◌||◌, Option, refl, sym, ap, ◌∙◌, subst, ◌&&◌}
+use Rattle.std.proofs.lemmas.Bool.{or_from}
 use Rattle.php_exprs.proofs.Forests.{forest_assoc}
 use Rattle.php_tree.specs.declared.token.Token.{Token}
 use Rattle.php_tree.specs.declared.version.Version.TheVariants.{V74, V83}
@@ -15,7 +16,7 @@ use Rattle.syntax_rules.specs.Around.{Around}
 use Rattle.syntax_rules.specs.HashComment.{hash_comment}
 use Rattle.rewritten_shapes.specs.Laws.{AreSpelled, begins_namespace, opens_name}
 use Rattle.rewritten_shapes.specs.RefusedWords.{in_use, is_any_of_them, is_as, is_comma, is_keyword_now, is_of_code, is_renamed, is_root, is_type_now, is_whole_name}
-use Rattle.rewritten_shapes.proofs.Bilingual.{all_four, keywords, label_kept, left_false, front_namespace, no_namespace, or_false, shown_terminal, spelled_front, spelled_rest}
+use Rattle.rewritten_shapes.proofs.Bilingual.{all_four, keywords, label_kept, left_false, front_namespace, no_namespace, shown_terminal, spelled_front, spelled_rest}
 use Rattle.rewritten_shapes.proofs.Calm.{asks_calm, calm_asked, calm_shut, is_steady, shown_accepts, steady_shown}
 use Rattle.rewritten_shapes.proofs.Kept.{AllGood, Kept, good_front, good_rest, kept_first, kept_join, kept_many, kept_second}
 use Rattle.rewritten_shapes.proofs.Like.{like_leaf, like_none}
@@ -114,7 +115,7 @@ renamed_item u r n k e names f (is_both {g} {h} x (is_both (is_word {x = y} p) (
     let flat = as_by (terminal y) p in
     let f2 : flag_after u true y2 ≡ true = same_flag u true y2 (ap is_comma (shown_terminal y) ∙ flat.0) (ap is_of_code (shown_terminal y) ∙ flat.1) in
     let s3 = use_step u true l2 rest (ap (λ (z : Bool). in_use u z (leaf l2 rest)) (sym f2) ∙ s2.2) in
-    let any : is_any_of_them (terminal l2) ≡ false = or_false (is_keyword_now (terminal l2))
+    let any : is_any_of_them (terminal l2) ≡ false = or_from (is_keyword_now (terminal l2))
     (is_type_now (terminal l2)) s3.0 (left_false (is_type_now (terminal l2))
     (is_whole_name (terminal l2) && names_refused l2.text) (s3.1 refl q)) in (
       kept_join a b r (word t.As ~ word t.ClassLabel) (word n) (word t.As ~ word t.ClassLabel) f g h d x tail e (subst (Kept (word n) g) (sym i.same) (i.as_name s1.0))

@@ -1,6 +1,7 @@
 -- Tokens of uses: which stand in code, and the words of a use as its new parts have them.
 use Rattle.std.proofs.Common.{◌≡◌, ℕ, Bool, true, false, cond, ◌&&◌, ◌||◌, nat_eq, nat_lt, if◌then◌else◌, codes, List, slice_index, length, Option, refl, sym, ap, ◌∙◌}
 use Rattle.std.specs.Char.{to_ascii_lowercase}
+use Rattle.std.proofs.lemmas.Bool.{or_left, or_right}
 use Rattle.php_tree.specs.declared.token.Token.{Token}
 use Rattle.php_tree.specs.declared.token.TokenKind.{TokenKind}
 use Rattle.php_tree.specs.declared.token.TokenKind.TheVariants as token
@@ -17,7 +18,6 @@ use Rattle.rewritten_shapes.proofs.NameParts.{clash, cond_not, or_none}
 use Rattle.rewritten_shapes.proofs.OperatorWords.{found, low_word, op_kind, open_brace_is, rows_not}
 use Rattle.rewritten_shapes.proofs.Own.{named_own, own}
 use Rattle.rewritten_shapes.proofs.Shown.{new_parts}
-use Rattle.rewritten_shapes.proofs.Sides.{or_left, or_right}
 
 -- ---- what stands in code
 

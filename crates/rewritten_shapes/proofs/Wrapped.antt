@@ -1,5 +1,6 @@
 -- Nodes in parentheses.
 use Rattle.std.proofs.Common.{◌≡◌, max, Bool, true, false, not, ◌&&◌, ◌||◌, nat_le, codes, List, [], ◌∷◌, refl, sym, ap, ◌∙◌, subst, arith}
+use Rattle.std.proofs.lemmas.Bool.{and_from}
 use Rattle.php_tree.specs.declared.kind.NodeKind.{NodeKind}
 use Rattle.php_tree.specs.declared.kind.NodeKind.TheVariants as k
 use Rattle.php_tree.specs.declared.kind.NodeKind.TheVariants.{Paren}
@@ -79,13 +80,9 @@ not_both true true e = absurd cc
 not_both true false e = refl
 not_both false c e = refl
 
-and_true : (a b : Bool) → a ≡ true → b ≡ true → (a && b) ≡ true
-and_true true b e d = d
-and_true false b e d = cc
-
 pub paren_near : (x : Tree) → is_nearest (in_paren x).1 ≡ true
 paren_near x =
-    and_true (elses_are_nearest false (in_paren x).1) (arrows_are_nearest false (in_paren x).1)
+    and_from (elses_are_nearest false (in_paren x).1) (arrows_are_nearest false (in_paren x).1)
     (not_both (is_open_if x.0 x.1 || ends_in_if false x.1) (goes_on_if (terminal (op_token (codes ")")))) no_else)
     (not_both (is_open_yield x.0 x.1 || ends_in_yield false x.1) (is_to (terminal (op_token (codes ")")))) no_to)
 

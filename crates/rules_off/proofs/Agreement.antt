@@ -1,6 +1,6 @@
 -- What the rules that are on, and all rules, make of parts: the same.
 use Rattle.std.proofs.Common.{◌≡◌, ℕ, zero, suc, Bool, true, false, not, ◌&&◌, ◌||◌, [], Option, Some, None, refl, sym, ◌∙◌, subst}
-use Rattle.std.proofs.lemmas.Bool.{false≢true}
+use Rattle.std.proofs.lemmas.Bool.{false≢true, or_parts}
 use Rattle.php_tree.specs.declared.token.Token.{Token}
 use Rattle.php_tree.specs.Tree.{Forest}
 use Rattle.tracked_changes.specs.Pieces.{before}
@@ -79,15 +79,11 @@ off_here : (on is_place : Bool) → (not on && is_place) ≡ false → on ≡ fa
 off_here true is_place h n = absurd (false≢true (sym n))
 off_here false is_place h n = h
 
-either_false : (a b : Bool) → (a || b) ≡ false → (a ≡ false) × (b ≡ false)
-either_false true b h = absurd (false≢true (sym h))
-either_false false b h = (refl, h)
-
 pub seen_dollar : (r : Rules) (at : ℕ) (x : Token) (h : Head) (f : Forest) (s : Off) → FirstSeen r at x h f s → r.dollar_braces ≡ false → is_dollar_brace x.kind ≡ false
 seen_dollar r at x h f s seen n = off_here r.dollar_braces (is_dollar_brace x.kind) seen.dollar n
 
 pub seen_trivia : (r : Rules) (at : ℕ) (x : Token) (h : Head) (f : Forest) (s : Off) → FirstSeen r at x h f s → r.split_names ≡ false → has_trivia h.more f ≡ false
-seen_trivia r at x h f s seen n = (either_false (has_trivia h.more f) (wants_space true s.behind h.token) (seen.split n)).0
+seen_trivia r at x h f s seen n = (or_parts (has_trivia h.more f) (wants_space true s.behind h.token) (seen.split n)).0
 
 -- a token or a whole name, and what follows it
 pub led : (r : Rules) (at : ℕ) (x : Token) (h : Head) (f : Forest) (s : Off) → FirstSeen r at x h f s → (w v d : Draft) (to : Bool)
@@ -99,7 +95,7 @@ led r at x h f s seen w v d to e g plain apart = record {
     none = λ n. subst Dollarless (sym e) (plain n);
     apart = λ n. subst (λ (y : Draft). StandsApart s.behind y to) (sym e)
         (let a : StandsApart (keyword_behind s.behind h.token) d to = subst (λ (b : Bool). StandsApart b d to) (seen.behind n) (apart n) in
-        (((either_false (has_trivia h.more f) (wants_space true s.behind h.token) (seen.split n)).1, a.0), a.1));
+        (((or_parts (has_trivia h.more f) (wants_space true s.behind h.token) (seen.split n)).1, a.0), a.1));
   };
   begins = (d, e);
 }

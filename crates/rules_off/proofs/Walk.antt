@@ -1,6 +1,6 @@
 -- Parts, walked: where no place of a rule that is off is found, all rules make the same of them.
 use Rattle.std.proofs.Common.{◌≡◌, ℕ, zero, Bool, true, false, ◌&&◌, ◌||◌, if◌then◌else◌, List, [], Option, refl, ap, sym, ◌∙◌, subst}
-use Rattle.std.proofs.lemmas.Bool.{false≢true}
+use Rattle.std.proofs.lemmas.Bool.{false≢true, or_right}
 use Rattle.php_tree.specs.declared.kind.NodeKind.{NodeKind}
 use Rattle.php_tree.specs.Tree.{Forest, none, leaf, node, Tree}
 use Rattle.php_tree.specs.Places.{end_of}
@@ -36,17 +36,13 @@ loose_parts r around i none h = tt
 loose_parts r around i (leaf x f) h = (h.0, loose_parts r around false f h.1)
 loose_parts r around i (node k c f) h = loose_parts r around false f h
 
-or_second : (a b : Bool) → b ≡ true → (a || b) ≡ true
-or_second true b h = refl
-or_second false b h = h
-
 aside : (r : Rules) (k : NodeKind) (c : Forest) → (is_worded (k, c) ≡ true → HoldNoName c) → Aside (k, c) (parts_by r (within k c) true c)
 aside r k c h =
     let loose : is_worded (k, c) ≡ true → Loose (parts_by r (within k c) true c) = λ e. loose_parts r (within k c) true c (h e) in
     record {
       brace = λ e. loose (rw e refl);
-      real = λ e. loose (or_second (is_brace_offset k) (is_real_cast (k, c) || is_quoted k) (rw e refl));
-      quoted = λ e. loose (or_second (is_brace_offset k) (is_real_cast (k, c) || is_quoted k) (or_second (is_real_cast (k, c)) (is_quoted k) e));
+      real = λ e. loose (or_right (is_brace_offset k) (is_real_cast (k, c) || is_quoted k) (rw e refl));
+      quoted = λ e. loose (or_right (is_brace_offset k) (is_real_cast (k, c) || is_quoted k) (or_right (is_real_cast (k, c)) (is_quoted k) e));
     }
 
 -- ---- a node

@@ -4,6 +4,33 @@ use crate::words::scalar;
 use scalar_types::{Pool, TypeId};
 use std::alloc::{AllocError, Global};
 
+// A new pool.
+fn fresh(alloc: Global) -> Result<Pool, AllocError> {
+    Pool::new(alloc)
+}
+
+// The number of a word's type, which is stored if it isn't there yet.
+fn stored(alloc: Global, pool: &mut Pool, word: &str) -> Result<TypeId, AllocError> {
+    pool.intern(alloc, &scalar(alloc, word))
+}
+
+// How many numbers there are.
+fn count(pool: &Pool) -> u64 {
+    pool.count()
+}
+
+// Adds the number and the head of a word's type.
+fn put_stored(
+    alloc: Global,
+    pool: &mut Pool,
+    word: &str,
+    out: &mut String,
+) -> Result<(), AllocError> {
+    let id = stored(alloc, pool, word)?;
+    put_number(out, id.0)?;
+    put_head(out, pool, id)
+}
+
 // Adds the head of a number's packed form, if the pool has the number.
 fn put_head(out: &mut String, pool: &Pool, id: TypeId) -> Result<(), AllocError> {
     match pool.packed(id) {
@@ -20,15 +47,13 @@ fn is_any(pool: &Pool, id: TypeId) -> bool {
 /// The number and the head of each word's type but the first word, how many numbers there are then, and whether the
 /// number 0 is that of Any.
 pub fn interned(alloc: Global, words: &str, out: &mut String) -> Result<(), AllocError> {
-    let mut pool = Pool::new(alloc)?;
+    let mut pool = fresh(alloc)?;
     for word in words.split(' ').skip(1) {
-        let id = pool.intern(alloc, &scalar(alloc, word))?;
-        put_number(out, id.0)?;
-        put_head(out, &pool, id)?;
+        put_stored(alloc, &mut pool, word, out)?;
     }
     put_word(out, "of")?;
-    put_number(out, pool.count())?;
-    put_head(out, &pool, TypeId(pool.count()))?;
+    put_number(out, count(&pool))?;
+    put_head(out, &pool, TypeId(count(&pool)))?;
     put_word(
         out,
         if is_any(&pool, TypeId(0)) {
@@ -63,9 +88,9 @@ pub fn joined(
     second: &str,
     out: &mut String,
 ) -> Result<(), AllocError> {
-    let mut pool = Pool::new(alloc)?;
-    let a = pool.intern(alloc, &scalar(alloc, first))?;
-    let b = pool.intern(alloc, &scalar(alloc, second))?;
+    let mut pool = fresh(alloc)?;
+    let a = stored(alloc, &mut pool, first)?;
+    let b = stored(alloc, &mut pool, second)?;
     let either = join_of(alloc, &mut pool, a, b)?;
     put_number(out, either.0)?;
     put_head(out, &pool, either)?;

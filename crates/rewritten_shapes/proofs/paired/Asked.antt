@@ -19,14 +19,6 @@ pub both_right : (a b : Bool) → (a && b) ≡ true → b ≡ true
 both_right true b e = e
 both_right false b e = cc
 
-pub both_true : (a b : Bool) → a ≡ true → b ≡ true → (a && b) ≡ true
-both_true true b e d = d
-both_true false b e d = cc
-
-pub by_test : (b : Bool) → (b ≡ true → ⊥) → b ≡ false
-by_test true h = absurd (h refl)
-by_test false h = refl
-
 pub no_clash : {b : Bool} → b ≡ false → b ≡ true → ⊥
 no_clash e d = let z : false ≡ true = sym e ∙ d in cc
 

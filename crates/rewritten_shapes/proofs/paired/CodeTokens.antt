@@ -1,6 +1,6 @@
 -- Tokens of code that are neither braces nor round brackets, told by their classes.
 use Rattle.std.proofs.Common.{◌≡◌, ℕ, Bool, true, false, not, ◌&&◌, ◌||◌, List, [], ◌∷◌, refl, ap, ◌∙◌}
-use Rattle.std.proofs.lemmas.Bool.{eqb-true}
+use Rattle.std.proofs.lemmas.Bool.{eqb-true, and_from, false_from_ne_true}
 use Rattle.php_tree.specs.declared.token.Token.{Token}
 use Rattle.php_tree.specs.declared.token.TokenKind.{TokenKind}
 use Rattle.php_tree.specs.declared.token.TokenKind.TheVariants as kind
@@ -13,7 +13,7 @@ use Rattle.php_terminals.specs.Words.{operator, operators}
 use Rattle.php_lexer.specs.Modes.{is_byte}
 use Rattle.php_grammar.specs.Accepts.{accepts}
 use Rattle.rewritten_shapes.specs.paired.Tokens.{IsMark, is_code_kind, is_code_token, is_mark, is_op}
-use Rattle.rewritten_shapes.proofs.paired.Asked.{asks, both_right, both_true, by_test, is_one_of, no_clash, taken}
+use Rattle.rewritten_shapes.proofs.paired.Asked.{asks, both_right, is_one_of, no_clash, taken}
 use Rattle.rewritten_shapes.proofs.paired.Marks.{name_not}
 
 -- the classes of braces, round brackets, tokens of quoted texts, and tokens that 7.4 lacks
@@ -54,7 +54,7 @@ byte_text b (a ∷ c ∷ bs) e = absurd cc
 no_byte : (b : ℕ) (sort : TokenKind) (text : List ℕ) → is_inner (code (operator (b ∷ []))) ≡ false
     → is_inner (code (terminal_by sort text)) ≡ true → (is_op sort && is_byte b text) ≡ false
 no_byte b kind.Op text d e =
-    by_test (is_byte b text) (λ h. no_clash (ap (λ (z : List ℕ). is_inner (code (operator z))) (byte_text b text h) ∙ d) e)
+    false_from_ne_true (is_byte b text) (λ h. no_clash (ap (λ (z : List ℕ). is_inner (code (operator z))) (byte_text b text h) ∙ d) e)
 no_byte b _ text d e = refl
 
 none_of : (a b c d : Bool) → a ≡ false → b ≡ false → c ≡ false → d ≡ false → not (a || (b || (c || d))) ≡ true
@@ -67,7 +67,7 @@ none_of false false false true p q r s = cc
 inner_code : (x : Token) → is_inner (code (terminal x)) ≡ true → is_code_token x ≡ true
 unfolding operators outer
 inner_code x e =
-    both_true (is_code_kind x.kind) (not (is_mark 40 x || (is_mark 41 x || (is_mark 123 x || is_mark 125 x)))) (inner_kind x.kind x.text e)
+    and_from (is_code_kind x.kind) (not (is_mark 40 x || (is_mark 41 x || (is_mark 123 x || is_mark 125 x)))) (inner_kind x.kind x.text e)
     (none_of (is_mark 40 x) (is_mark 41 x) (is_mark 123 x) (is_mark 125 x)
     (no_byte 40 x.kind x.text refl e) (no_byte 41 x.kind x.text refl e) (no_byte 123 x.kind x.text refl e) (no_byte 125 x.kind x.text refl e))
 

@@ -1,5 +1,6 @@
 -- In a tree with the shape of the grammar names with `\` stand within one node, and a label stands behind each `\`.
 use Rattle.std.proofs.Common.{◌≡◌, Bool, true, false, ◌||◌, if◌then◌else◌, refl, sym, ap, ◌∙◌, subst}
+use Rattle.std.proofs.lemmas.Bool.{or_left, or_right}
 use Rattle.php_tree.specs.declared.kind.NodeKind.{NodeKind}
 use Rattle.php_tree.specs.declared.kind.NodeKind.TheVariants as k
 use Rattle.php_tree.specs.declared.token.Token.{Token}
@@ -156,21 +157,13 @@ within_any : (b : Bool) → is_within (if b then at_calm else at_edge) at_edge �
 within_any true = refl
 within_any false = refl
 
-either_quiet : (a b : Bool) → a ≡ true → (a || b) ≡ true
-either_quiet true b e = refl
-either_quiet false b e = cc
-
-other_quiet : (a b : Bool) → b ≡ true → (a || b) ≡ true
-other_quiet true b e = refl
-other_quiet false b e = e
-
 quiet_of : (j : NodeKind) → (is_statement j || is_member j) ≡ true → is_quiet_end j ≡ true
 quiet_of k.Case e = refl
 quiet_of _ e = e
 
 exits_place : (p : Place) (j : NodeKind) (c : Forest) → may_stand V74 p (j, c) ≡ true → is_within (exits j) (place_exits p) ≡ true
-exits_place Statement j c e = ap (λ (b : Bool). is_within (if b then at_calm else at_edge) at_calm) (quiet_of j (either_quiet (is_statement j) (is_member j) e))
-exits_place Member j c e = ap (λ (b : Bool). is_within (if b then at_calm else at_edge) at_calm) (quiet_of j (other_quiet (is_statement j) (is_member j) e))
+exits_place Statement j c e = ap (λ (b : Bool). is_within (if b then at_calm else at_edge) at_calm) (quiet_of j (or_left (is_statement j) (is_member j) e))
+exits_place Member j c e = ap (λ (b : Bool). is_within (if b then at_calm else at_edge) at_calm) (quiet_of j (or_right (is_statement j) (is_member j) e))
 exits_place _ j c e = within_any (is_quiet_end j)
 
 -- ---- steps

@@ -1,5 +1,6 @@
 -- In a tree with the shape of the grammar brackets stand in pairs and quoted texts are whole.
 use Rattle.std.proofs.Common.{◌≡◌, Bool, true, false, not, ◌&&◌, ◌||◌, if◌then◌else◌, [], refl, sym, ap, ◌∙◌, subst}
+use Rattle.std.proofs.lemmas.Bool.{and_from}
 use Rattle.php_tree.specs.declared.kind.NodeKind.{NodeKind}
 use Rattle.php_tree.specs.declared.kind.NodeKind.TheVariants as k
 use Rattle.php_tree.specs.declared.token.Token.{Token}
@@ -24,7 +25,7 @@ use Rattle.rewritten_shapes.specs.paired.Paired as pairs
 use Rattle.rewritten_shapes.specs.paired.Paired.{IsKey, IsSimple, IsStanding, Interpolated, Paired, is_common, is_ternary, may_be_grouped}
 use Rattle.rewritten_shapes.specs.paired.Tokens.{IsMark, begins_inside, ends_inside, is_code_token, is_mark}
 use Rattle.rewritten_shapes.specs.paired.Traits.{PlainTraits, are_plain, has_plain_rules, is_plain}
-use Rattle.rewritten_shapes.proofs.paired.Asked.{asks, both_left, both_right, both_true}
+use Rattle.rewritten_shapes.proofs.paired.Asked.{asks, both_left, both_right}
 use Rattle.rewritten_shapes.proofs.paired.CodeTokens.{code_taken, is_brace, is_inner, no_brace, outer}
 use Rattle.rewritten_shapes.proofs.paired.Edges.{edges, expression_begins, expression_ends, fit_begins, fit_ends, starts, stops}
 use Rattle.rewritten_shapes.proofs.paired.Fronts.{
@@ -258,7 +259,7 @@ are_code (node j c f) = false
 code_join : (f g : Forest) → are_code f ≡ true → are_code g ≡ true → are_code (f +++ g) ≡ true
 code_join none g d e = e
 code_join (leaf x f) g d e =
-    both_true (is_code_token x) (are_code (f +++ g)) (both_left (is_code_token x) (are_code f) d) (code_join f g (both_right (is_code_token x) (are_code f) d) e)
+    and_from (is_code_token x) (are_code (f +++ g)) (both_left (is_code_token x) (are_code f) d) (code_join f g (both_right (is_code_token x) (are_code f) d) e)
 code_join (node j c f) g d e = absurd cc
 
 -- whether a rule has only such tokens
@@ -275,7 +276,7 @@ is_of_code tokens = false
 
 fits_code : {r : Rule} {f : Forest} → is_of_code r ≡ true → Fits V74 r f → are_code f ≡ true
 fits_code h is_nothing = refl
-fits_code h (is_word {c} {x} p) = both_true (is_code_token x) true (code_taken c x h p) refl
+fits_code h (is_word {c} {x} p) = and_from (is_code_token x) true (code_taken c x h p) refl
 fits_code h (is_kind n) = absurd cc
 fits_code h (is_place m n) = absurd cc
 fits_code h (is_inside p near) = absurd cc
@@ -313,7 +314,7 @@ past_code (node j c f) g e = absurd cc
 pub past_names : (x : Token) (g h : Forest) → accepts V74 t.Use x ≡ true → Fits V74 (names V74) g → has_plain_rules (leaf x (g +++ h)) ≡ has_plain_rules h
 unfolding outer
 past_names x g h p q =
-    past_code (leaf x none) (g +++ h) (both_true (is_code_token x) true (code_taken t.Use x refl p) refl)
+    past_code (leaf x none) (g +++ h) (and_from (is_code_token x) true (code_taken t.Use x refl p) refl)
     ∙ past_code g h (fits_code {r = names V74} refl q)
 
 rules_paired : (h : Forest) → Fits V74 (word t.Semi ||| (word t.OpenBrace ~ tokens ~ word t.CloseBrace)) h → has_plain_rules h ≡ true → Paired h
@@ -330,7 +331,7 @@ trait_paired : (c : Forest) → Fits V74 (trait_use V74) c → has_plain_rules c
 unfolding outer
 trait_paired c (is_both {h = f} (is_word {x} p) (is_both {g} {h} q r e) d) w =
     let same : c ≡ leaf x none +++ (g +++ h) = d ∙ ap (leaf x) e in
-    let use_code : are_code (leaf x none) ≡ true = both_true (is_code_token x) true (code_taken t.Use x refl p) refl in
+    let use_code : are_code (leaf x none) ≡ true = and_from (is_code_token x) true (code_taken t.Use x refl p) refl in
     let name_code : are_code g ≡ true = fits_code {r = names V74} refl q in
     let plain : has_plain_rules h ≡ true =
     sym (past_code g h name_code) ∙ sym (past_code (leaf x none) (g +++ h) use_code) ∙ ap has_plain_rules (sym same) ∙ w in

@@ -1,6 +1,7 @@
 -- In a tree with the shape of the grammar each quoted text is one that is walked.
 use Rattle.std.proofs.Common.{◌≡◌, ℕ, ◌+◌, ◌-◌, Bool, true, false, not, cond, ◌&&◌, ◌||◌, if◌then◌else◌, nat_eq, codes, List, [], ◌∷◌, ◌++◌, refl, ap, sym, ◌∙◌, subst}
 use Rattle.std.specs.Str.{bytes_eq, str_to_ascii_lowercase}
+use Rattle.std.proofs.lemmas.Bool.{and_from}
 use Rattle.php_tree.specs.declared.kind.NodeKind.{NodeKind}
 use Rattle.php_tree.specs.declared.kind.NodeKind.TheVariants as k
 use Rattle.php_tree.specs.declared.token.Token.{Token}
@@ -41,7 +42,7 @@ use Rattle.syntax_rules.specs.Quotable.{anything, close, expression, is_bracket,
 use Rattle.syntax_rules.specs.Quotable as place
 use Rattle.rewritten_shapes.specs.paired.Laws.{QuotedTextsAreWalked}
 use Rattle.rewritten_shapes.specs.paired.Tokens.{IsMark, opens_text}
-use Rattle.rewritten_shapes.proofs.paired.Asked.{both_left, both_right, both_true}
+use Rattle.rewritten_shapes.proofs.paired.Asked.{both_left, both_right}
 use Rattle.rewritten_shapes.proofs.paired.Marks as told
 
 -- ---- tokens of quoted texts
@@ -103,35 +104,35 @@ if_no false x y e = refl
 free_step : (t : Token) (f : Forest) → IsFree t → is_quotable anything f ≡ true → is_quotable anything (leaf t f) ≡ true
 free_step t f p q =
     if_no (is_dollar_brace t.kind) (is_quotable (place_behind f) f) (is_loose (hash_comment t) && is_quotable anything f) p.0
-    ∙ both_true (is_loose (hash_comment t)) (is_quotable anything f) p.1 q
+    ∙ and_from (is_loose (hash_comment t)) (is_quotable anything f) p.1 q
 
 dollar_step : (t : Token) (f : Forest) → t.kind ≡ kind.DollarBrace → is_quotable (place_behind f) f ≡ true → is_quotable anything (leaf t f) ≡ true
 dollar_step t f e q =
     if_yes (is_dollar_brace t.kind) (is_quotable (place_behind f) f) (is_loose (hash_comment t) && is_quotable anything f) (ap is_dollar_brace e) ∙ q
 
 name_step : (t : Token) (f : Forest) → is_plain t ≡ true → is_quotable mark f ≡ true → is_quotable place.name (leaf t f) ≡ true
-name_step t f p q = both_true (is_plain t) (is_quotable mark f) p q
+name_step t f p q = and_from (is_plain t) (is_quotable mark f) p q
 
 -- behind a name: `}`
 mark_step : (t : Token) (f : Forest) → IsMark 125 t → is_quotable anything f ≡ true → is_quotable mark (leaf t f) ≡ true
 mark_step t f m q =
-    both_true (is_plain t) (if is_bracket t then is_quotable offset f else is_loose (hash_comment t) && is_quotable anything f)
+    and_from (is_plain t) (if is_bracket t then is_quotable offset f else is_loose (hash_comment t) && is_quotable anything f)
     (plain_by kind.Op t m.kind refl refl)
     (if_no (is_bracket t) (is_quotable offset f) (is_loose (hash_comment t) && is_quotable anything f) (bracket_is 125 t m)
-    ∙ both_true (is_loose (hash_comment t)) (is_quotable anything f) (free_mark 125 t m refl).1 q)
+    ∙ and_from (is_loose (hash_comment t)) (is_quotable anything f) (free_mark 125 t m refl).1 q)
 
 -- behind a name: `[`
 bracket_step : (t : Token) (f : Forest) → IsMark 91 t → is_quotable offset f ≡ true → is_quotable mark (leaf t f) ≡ true
 bracket_step t f m q =
-    both_true (is_plain t) (if is_bracket t then is_quotable offset f else is_loose (hash_comment t) && is_quotable anything f)
+    and_from (is_plain t) (if is_bracket t then is_quotable offset f else is_loose (hash_comment t) && is_quotable anything f)
     (plain_by kind.Op t m.kind refl refl)
     (if_yes (is_bracket t) (is_quotable offset f) (is_loose (hash_comment t) && is_quotable anything f) (bracket_is 91 t m) ∙ q)
 
 shut_step : (t : Token) (f : Forest) → IsMark 93 t → is_quotable anything f ≡ true → is_quotable shut (leaf t f) ≡ true
-shut_step t f m q = both_true (is_plain t) (is_quotable anything f) (plain_by kind.Op t m.kind refl refl) q
+shut_step t f m q = and_from (is_plain t) (is_quotable anything f) (plain_by kind.Op t m.kind refl refl) q
 
 close_step : (t : Token) (f : Forest) → IsMark 125 t → is_quotable anything f ≡ true → is_quotable close (leaf t f) ≡ true
-close_step t f m q = both_true (is_plain t) (is_quotable anything f) (plain_by kind.Op t m.kind refl refl) q
+close_step t f m q = and_from (is_plain t) (is_quotable anything f) (plain_by kind.Op t m.kind refl refl) q
 
 -- ---- quoted texts
 

@@ -1,7 +1,7 @@
 -- Nodes that the rules which group may put in parentheses have an operator of their own.
 use Rattle.std.proofs.Common.{◌≡◌, ℕ, Bool, true, false, ◌||◌, codes, List, [], ◌∷◌, refl, sym, ap, ◌∙◌}
 use Rattle.std.specs.Str.{bytes_eq}
-use Rattle.std.proofs.lemmas.Bool.{eqb-true}
+use Rattle.std.proofs.lemmas.Bool.{eqb-true, or_left, or_right}
 use Rattle.std.proofs.lemmas.Slice.Eq.{bytes_eq-Decides}
 use Rattle.php_tree.specs.declared.kind.NodeKind.{NodeKind}
 use Rattle.php_tree.specs.declared.kind.NodeKind.TheVariants as k
@@ -44,14 +44,6 @@ dot_op c x h e d =
     dot_by x.kind (ap (λ (text : List ℕ). is_one_of binaries (code (terminal_by x.kind text))) (sym d)
     ∙ ap (is_one_of binaries) (sym (eqb-true (code c) (code (terminal x)) e)) ∙ h)
 
-or_front : (a b : Bool) → a ≡ true → (a || b) ≡ true
-or_front true b e = refl
-or_front false b e = cc
-
-or_back : (a b : Bool) → b ≡ true → (a || b) ≡ true
-or_back true b e = refl
-or_back false b e = e
-
 -- whether a class is read by itself: no form asks for it as one of several
 abbrev reads_alone : Terminal → Type 0
 reads_alone c = (x : Token) → accepts V74 c x ≡ true → same_class c (terminal x) ≡ true
@@ -61,7 +53,7 @@ two_operands : (a b : Place) (c : Terminal) (f : Forest) → reads_alone c → i
 two_operands a b c f u h (is_both (is_place {k = j} {c = d} m n) (is_both (is_word {x} p) (is_place {k = i} {c = e} o q) y) z) w =
     let same : f ≡ node j d (leaf x (node i e none)) = z ∙ ap (node j d) y in
     let text : x.text ≡ codes "." = (bytes_eq-Decides x.text (codes ".")).0 (ap (λ (g : Forest). bytes_eq (operator_of g) (codes ".")) (sym same) ∙ w) in
-    ap has_stop same ∙ or_front (is_op x.kind) false (dot_op c x h (u x p) text)
+    ap has_stop same ∙ or_left (is_op x.kind) false (dot_op c x h (u x p) text)
 
 binary_stops : (f : Forest) → Fits V74 (binary V74) f → bytes_eq (operator_of f) (codes ".") ≡ true → has_stop f ≡ true
 unfolding binaries
@@ -106,8 +98,8 @@ question_stops : (f g h : Forest) (x : Token) → f ≡ g +++ leaf x h → is_op
 question_stops f g h x d e = ap has_stop d ∙ go g
   where
     go : (g : Forest) → has_stop (g +++ leaf x h) ≡ true
-    go none = or_front (is_op x.kind) (has_stop h) e
-    go (leaf y g) = or_back (is_op y.kind) (has_stop (g +++ leaf x h)) (go g)
+    go none = or_left (is_op x.kind) (has_stop h) e
+    go (leaf y g) = or_right (is_op y.kind) (has_stop (g +++ leaf x h)) (go g)
     go (node j c g) = go g
 
 question_op : (x : Token) → accepts V74 t.Question x ≡ true → is_op x.kind ≡ true

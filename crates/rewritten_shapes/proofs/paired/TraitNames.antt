@@ -129,10 +129,6 @@ implied : (a b : Bool) → (not a || b) ≡ true → a ≡ true → b ≡ true
 implied true b e h = e
 implied false b e h = absurd cc
 
-both_so : (a b : Bool) → a ≡ true → b ≡ true → (a && b) ≡ true
-both_so true b e d = d
-both_so false b e d = cc
-
 ready_step : (s : State) (p : Part) (f : Forest) → is_ready s ≡ true → is_bad p ≡ false → (is_root p ≡ true → label_first f ≡ true) → may_go (step s p) f ≡ true
 ready_step failed p f e d g = absurd cc
 ready_step calm root f e d g = g refl

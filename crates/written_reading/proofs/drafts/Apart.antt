@@ -2,6 +2,7 @@
 use Rattle.std.proofs.Common.{◌≡◌, ℕ, Bool, true, false, not, ◌&&◌, ◌||◌, ◌==◌, if◌then◌else◌, codes, List, [], ◌∷◌, ◌++◌, map, ◌⊎◌, inl, inr, refl, sym, ap, ◌∙◌, subst}
 use Rattle.std.specs.Str.{bytes_eq, str_to_ascii_lowercase}
 use Rattle.std.proofs.lemmas.Slice.Eq.{bytes_eq-Decides}
+use Rattle.std.proofs.lemmas.Bool.{and_from, false_from_ne_true}
 use Rattle.php_tree.specs.declared.token.TokenKind.{TokenKind}
 use Rattle.php_tree.specs.declared.token.TokenKind.TheVariants as kind
 use Rattle.php_spellings.specs.Bytes.{begins, is_empty, is_letter}
@@ -36,7 +37,7 @@ use Rattle.rewritten_shapes.specs.paired.Names.{
   step,
   worded,
 }
-use Rattle.rewritten_shapes.proofs.paired.Asked.{both_right, both_true, by_test, no_clash}
+use Rattle.rewritten_shapes.proofs.paired.Asked.{both_right, no_clash}
 use Rattle.php_parser.specs.Ends.{is_end}
 use Rattle.syntax_rules.specs.Around.{at_top}
 use Rattle.rewritten_shapes.proofs.Tabled.{drafted_is, written}
@@ -459,8 +460,8 @@ last_root s t e = go (is_root (new_part t)) refl
 
 last_apart : (t : NewToken) (x : Lexeme) (s : State) → x.kind ≡ kind.End → Kept t → Ends s (t ∷ []) → names_apart (new_lexeme t ∷ x ∷ []) ≡ true
 last_apart t x s f h e =
-    both_true (is_labelled (new_lexeme t) x && is_parted (new_lexeme t) x) true
-    (both_true (is_labelled (new_lexeme t) x) (is_parted (new_lexeme t) x)
+    and_from (is_labelled (new_lexeme t) x && is_parted (new_lexeme t) x) true
+    (and_from (is_labelled (new_lexeme t) x) (is_parted (new_lexeme t) x)
     (labelled_by (is_backslash t.kind (after t.text)) (is_empty x.lead) (begins is_letter x.text) (is_label_kind x.kind)
     (λ b. absurd (no_clash (not_backslash t h (last_root s t e)) b)))
     (parted_or (is_keyword_kind t.kind) (not (is_namespace (after t.text))) (is_backslash x.kind x.text) (is_empty x.lead) (end_backslash x.kind x.text f))) refl
@@ -489,7 +490,7 @@ given_loose false t = refl
 
 -- a keyword joins nothing
 no_key : (c : Bool) (t : NewToken) (ws : List NewToken) → joins (given c t) ws ≡ true → is_key (new_part t) ≡ false
-no_key c t ws j = by_test (is_key (new_part t)) (λ e. loose_join (given c t) ws (ap is_loose (given_loose c t) ∙ loose_key (new_part t) e) j)
+no_key c t ws j = false_from_ne_true (is_key (new_part t)) (λ e. loose_join (given c t) ws (ap is_loose (given_loose c t) ∙ loose_key (new_part t) e) j)
 
 -- two tokens in front of others
 second_apart : (b : Bool) (t u : NewToken) (ts : List NewToken) (s : State) (x : Lexeme) → Kept t → Kept u
@@ -504,16 +505,16 @@ second_apart b t u ts s x h k w e ih true g =
     let first = record (given (put (names.keyword_behind b t) u (joins u (all_whole ts))) u)
     { lead = names.deleted (before (given (put (names.keyword_behind b t) u (joins u (all_whole ts))) u).lead) }
     in
-    both_true (is_labelled (new_lexeme t) (new_lexeme first) && is_parted (new_lexeme t) (new_lexeme first)) _
-    (both_true (is_labelled (new_lexeme t) (new_lexeme first)) (is_parted (new_lexeme t) (new_lexeme first))
+    and_from (is_labelled (new_lexeme t) (new_lexeme first) && is_parted (new_lexeme t) (new_lexeme first)) _
+    (and_from (is_labelled (new_lexeme t) (new_lexeme first)) (is_parted (new_lexeme t) (new_lexeme first))
     (ap (is_labelled (new_lexeme t)) (bare_lexeme (put (names.keyword_behind b t) u (joins u (all_whole ts))) u) ∙ labelled_pair t u _ s ts h k e)
     (ap (is_parted (new_lexeme t)) (bare_lexeme (put (names.keyword_behind b t) u (joins u (all_whole ts))) u)
     ∙ parted_other t u _ h (no_key (put b t (joins t (all_whole (u ∷ ts)))) t (all_whole (spaces_put (names.keyword_behind b t) (u ∷ ts))) g)))
     (head_apart (new_lexeme (given (put (names.keyword_behind b t) u (joins u (all_whole ts))) u)) (after first.lead) _ ih)
 second_apart b t u ts s x h k w e ih false g =
     let first = given (put (names.keyword_behind b t) u (joins u (all_whole ts))) u in
-    both_true (is_labelled (new_lexeme t) (new_lexeme first) && is_parted (new_lexeme t) (new_lexeme first)) _
-    (both_true (is_labelled (new_lexeme t) (new_lexeme first)) (is_parted (new_lexeme t) (new_lexeme first))
+    and_from (is_labelled (new_lexeme t) (new_lexeme first) && is_parted (new_lexeme t) (new_lexeme first)) _
+    (and_from (is_labelled (new_lexeme t) (new_lexeme first)) (is_parted (new_lexeme t) (new_lexeme first))
     (ap (is_labelled (new_lexeme t)) (given_lexeme (put (names.keyword_behind b t) u (joins u (all_whole ts))) u) ∙ labelled_pair t u _ s ts h k e)
     (parted_kept b t u s ts h k w e))
     ih

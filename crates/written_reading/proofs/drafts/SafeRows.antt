@@ -1,5 +1,6 @@
 -- No piece with `?->` comes directly behind a variable in the row of an edited file.
 use Rattle.std.proofs.Common.{◌≡◌, ℕ, Bool, true, false, not, ◌&&◌, if◌then◌else◌, List, [], ◌∷◌, ◌++◌, map, refl, sym, ap, ◌∙◌, append_assoc, append-nil}
+use Rattle.std.proofs.lemmas.Bool.{and_from}
 use Rattle.php_tree.specs.declared.token.TokenKind.{TokenKind}
 use Rattle.php_tree.specs.declared.token.TokenKind.TheVariants as kind
 use Rattle.php_parser.specs.Ends.{is_end}
@@ -13,7 +14,7 @@ use Rattle.written_tokens.specs.tokens.Drafted.{all_whole, joins}
 use Rattle.written_tokens.specs.tokens.Parted.{bare, parted}
 use Rattle.written_tokens.specs.tokens.Spaced.{nameless_draft, spaces_put}
 use Rattle.written_tokens.specs.tokens.Written.{begins_question, draft_tokens, is_piece, new_lexeme}
-use Rattle.rewritten_shapes.proofs.paired.Asked.{both_left, both_right, both_true}
+use Rattle.rewritten_shapes.proofs.paired.Asked.{both_left, both_right}
 use Rattle.rewritten_shapes.proofs.paired.Pairing.{shaped_files_are_paired}
 use Rattle.written_reading.specs.drafts.Apart.{TextsAreSafe, texts_apart}
 use Rattle.written_tokens.specs.names.Neighbours.{is_safe, is_variable_kind}
@@ -27,7 +28,7 @@ safe_list v (t ∷ ts) = may_come v t && safe_list (is_variable_kind t.kind) ts
 list_of : (d : Draft) (rest : List NewToken) (v : Bool) → safe v d ≡ true → safe_list (last_variable v d) rest ≡ true → safe_list v (draft_tokens d ++ rest) ≡ true
 list_of no_more rest v p h = h
 list_of (new_leaf t d) rest v p h =
-    both_true (may_come v t) (safe_list (is_variable_kind t.kind) (draft_tokens d ++ rest)) (both_left (may_come v t) (safe (is_variable_kind t.kind) d) p)
+    and_from (may_come v t) (safe_list (is_variable_kind t.kind) (draft_tokens d ++ rest)) (both_left (may_come v t) (safe (is_variable_kind t.kind) d) p)
     (list_of d rest (is_variable_kind t.kind) (both_right (may_come v t) (safe (is_variable_kind t.kind) d) p) h)
 list_of (new_node k c d) rest v p h =
     ap (safe_list v) (append_assoc (draft_tokens c) (draft_tokens d) rest)
@@ -61,11 +62,11 @@ second_safe : (b : Bool) (t u : NewToken) (ts : List NewToken) (x : Lexeme) (j :
     → texts_apart (new_lexeme t ∷ (map new_lexeme (if j then bare (parted (spaces_put b (u ∷ ts))) else parted (spaces_put b (u ∷ ts))) ++ x ∷ [])) ≡ true
 second_safe b t u ts x true h ih =
     let first = given (put b u (joins u (all_whole ts))) u in
-    both_true (is_safe (new_lexeme t) (new_lexeme first)) _ (pair_given t u (put b u (joins u (all_whole ts))) h)
+    and_from (is_safe (new_lexeme t) (new_lexeme first)) _ (pair_given t u (put b u (joins u (all_whole ts))) h)
     (head_safe (new_lexeme first) (after (names.deleted (before first.lead))) _ ih)
 second_safe b t u ts x false h ih =
     let first = given (put b u (joins u (all_whole ts))) u in
-    both_true (is_safe (new_lexeme t) (new_lexeme first)) _ (pair_given t u (put b u (joins u (all_whole ts))) h) ih
+    and_from (is_safe (new_lexeme t) (new_lexeme first)) _ (pair_given t u (put b u (joins u (all_whole ts))) h) ih
 
 row_safe : (ts : List NewToken) (b v : Bool) (x : Lexeme) → x.kind ≡ kind.End → safe_list v ts ≡ true → texts_apart (map new_lexeme (parted (spaces_put b ts)) ++ x ∷ []) ≡ true
 row_safe [] b v x e h = refl

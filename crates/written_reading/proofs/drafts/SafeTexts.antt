@@ -1,5 +1,6 @@
 -- What the rules make of a file's parts: no piece with `?->` comes directly behind a variable.
 use Rattle.std.proofs.Common.{◌≡◌, ℕ, Bool, true, false, not, cond, ◌&&◌, ◌||◌, if◌then◌else◌, nat_eq, codes, List, [], ◌∷◌, ◌++◌, Option, refl, sym, ap, ◌∙◌, subst, append-nil}
+use Rattle.std.proofs.lemmas.Bool.{or_parts, and_from}
 use Rattle.php_tree.specs.declared.kind.NodeKind.{NodeKind}
 use Rattle.php_tree.specs.declared.kind.NodeKind.TheVariants as k
 use Rattle.php_tree.specs.declared.token.Token.{Token}
@@ -27,7 +28,7 @@ use Rattle.written_tokens.specs.tokens.Written as written_file
 use Rattle.rewritten_shapes.specs.paired.Paired as pairs
 use Rattle.rewritten_shapes.specs.paired.Paired.{Paired, Interpolated, IsSimple, IsKey, is_common}
 use Rattle.rewritten_shapes.specs.paired.Tokens.{IsMark, is_code_kind, is_code_token, opens_text}
-use Rattle.rewritten_shapes.proofs.paired.Asked.{both_left, both_right, both_true}
+use Rattle.rewritten_shapes.proofs.paired.Asked.{both_left, both_right}
 use Rattle.written_tokens.specs.names.Neighbours.{is_variable_kind}
 use Rattle.written_reading.proofs.drafts.Drawn.{kind_is, of_kind, of_text, text_is}
 use Rattle.written_reading.proofs.drafts.Texts.{common_changed}
@@ -61,10 +62,10 @@ no_piece v t e = ap (λ (b : Bool). not (v && b && begins_question (after t.text
     go false = refl
 
 safe_leaf : (t : NewToken) (d : Draft) → is_piece t.kind ≡ false → AllSafe d → AllSafe (new_leaf t d)
-safe_leaf t d e o v = both_true (may_come v t) (safe (is_variable_kind t.kind) d) (no_piece v t e) (o (is_variable_kind t.kind))
+safe_leaf t d e o v = and_from (may_come v t) (safe (is_variable_kind t.kind) d) (no_piece v t e) (o (is_variable_kind t.kind))
 
 safe_node : (j : NodeKind) (c d : Draft) → AllSafe c → AllSafe d → AllSafe (new_node j c d)
-safe_node j c d p q v = both_true (safe v c) (safe (last_variable v c) d) (p v) (q (last_variable v c))
+safe_node j c d p q v = and_from (safe v c) (safe (last_variable v c) d) (p v) (q (last_variable v c))
 
 safe_none : AllSafe no_more
 safe_none v = refl
@@ -72,10 +73,10 @@ safe_none v = refl
 safe_after : (d e : Draft) (v : Bool) → safe v d ≡ true → AllSafe e → safe v (d then e) ≡ true
 safe_after no_more e v p q = q v
 safe_after (new_leaf t d) e v p q =
-    both_true (may_come v t) (safe (is_variable_kind t.kind) (d then e)) (both_left (may_come v t) (safe (is_variable_kind t.kind) d) p)
+    and_from (may_come v t) (safe (is_variable_kind t.kind) (d then e)) (both_left (may_come v t) (safe (is_variable_kind t.kind) d) p)
     (safe_after d e (is_variable_kind t.kind) (both_right (may_come v t) (safe (is_variable_kind t.kind) d) p) q)
 safe_after (new_node k c d) e v p q =
-    both_true (safe v c) (safe (last_variable v c) (d then e)) (both_left (safe v c) (safe (last_variable v c) d) p)
+    and_from (safe v c) (safe (last_variable v c) (d then e)) (both_left (safe v c) (safe (last_variable v c) d) p)
     (safe_after d e (last_variable v c) (both_right (safe v c) (safe (last_variable v c) d) p) q)
 
 safe_join : (d e : Draft) → AllSafe d → AllSafe e → AllSafe (d then e)
@@ -123,10 +124,10 @@ abbrev new_here : (Bool → Option Around) → Bool → NodeKind → Forest → 
 new_here a b j c = in_wrappings (wrapping (a b) (j, c)) (changed (j, c) (j, written (within j c) true c))
 
 leaf_step : (v : Bool) (t : NewToken) (d : Draft) → is_piece t.kind ≡ false → safe (is_variable_kind t.kind) d ≡ true → safe v (new_leaf t d) ≡ true
-leaf_step v t d e h = both_true (may_come v t) (safe (is_variable_kind t.kind) d) (no_piece v t e) h
+leaf_step v t d e h = and_from (may_come v t) (safe (is_variable_kind t.kind) d) (no_piece v t e) h
 
 node_step : (v : Bool) (j : NodeKind) (c d : Draft) → safe v c ≡ true → safe (last_variable v c) d ≡ true → safe v (new_node j c d) ≡ true
-node_step v j c d p q = both_true (safe v c) (safe (last_variable v c) d) p q
+node_step v j c d p q = and_from (safe v c) (safe (last_variable v c) d) p q
 
 node_safe : (j : NodeKind) (c f : Forest) (a : Bool → Option Around) (b : Bool)
     → AllSafe (changed (j, c) (j, written (within j c) true c)).1 → AllSafe (written a false f)
@@ -145,10 +146,10 @@ safe_front (leaf x f) g h = safe_front f g h
 safe_front (node j c f) g h =
     let own = not (is_quoted_node j && has_nullsafe c) in
     let rest = both_right (not (is_quoted_node j && has_nullsafe c)) (written_file.is_safe c && written_file.is_safe (f +++ g)) h in
-    both_true (not (is_quoted_node j && has_nullsafe c)) (written_file.is_safe c && written_file.is_safe f)
+    and_from (not (is_quoted_node j && has_nullsafe c)) (written_file.is_safe c && written_file.is_safe f)
     (both_left (not (is_quoted_node j && has_nullsafe c))
     (written_file.is_safe c && written_file.is_safe (f +++ g)) h)
-    (both_true (written_file.is_safe c) (written_file.is_safe f) (both_left (written_file.is_safe c) (written_file.is_safe (f +++ g)) rest)
+    (and_from (written_file.is_safe c) (written_file.is_safe f) (both_left (written_file.is_safe c) (written_file.is_safe (f +++ g)) rest)
     (safe_front f g (both_right (written_file.is_safe c) (written_file.is_safe (f +++ g)) rest)))
 
 safe_rest : (f g : Forest) → IsSafe (f +++ g) → IsSafe g
@@ -169,9 +170,9 @@ next_safe j c f h = both_right (written_file.is_safe c) (written_file.is_safe f)
 
 alone_safe : (j : NodeKind) (c f : Forest) → IsSafe (node j c f) → IsSafe (node j c none)
 alone_safe j c f h =
-    both_true (not (is_quoted_node j && has_nullsafe c)) (written_file.is_safe c && true)
+    and_from (not (is_quoted_node j && has_nullsafe c)) (written_file.is_safe c && true)
     (both_left (not (is_quoted_node j && has_nullsafe c)) (written_file.is_safe c && written_file.is_safe f) h)
-    (both_true (written_file.is_safe c) true (inner_safe j c f h) refl)
+    (and_from (written_file.is_safe c) true (inner_safe j c f h) refl)
 
 -- ---- pieces
 
@@ -218,7 +219,7 @@ TextSafe f = (a : Bool → Option Around) (b v : Bool) → (v ≡ true → piece
 piece_safe : (x : Token) (f : Forest) → TextSafe f → TextSafe (leaf (of_kind kind.Piece x) f)
 piece_safe x f o a b v q =
     let y = if begins_dollar_brace (written a false f) then escaped (hash_comment (of_kind kind.Piece x)) else hash_comment (of_kind kind.Piece x) in
-    both_true (may_come v y) (safe (is_variable_kind y.kind) (parts (written a false f)))
+    and_from (may_come v y) (safe (is_variable_kind y.kind) (parts (written a false f)))
     (come_by v y (λ h. piece_question (of_kind kind.Piece x) (begins_dollar_brace (written a false f)) (q h)))
     (ap (λ (z : TokenKind). safe (is_variable_kind z) (parts (written a false f))) (piece_kind (of_kind kind.Piece x) (begins_dollar_brace (written a false f)))
     ∙ o a false false (λ h. absurd cc))
@@ -316,16 +317,12 @@ simple_safe (pairs.with_property {t} {o} {u} e m a q) =
 no_clash : {b : Bool} → b ≡ false → b ≡ true → ⊥
 no_clash e d = let z : false ≡ true = sym e ∙ d in cc
 
-neither : (a b : Bool) → (a || b) ≡ false → (a ≡ false) × (b ≡ false)
-neither true b e = absurd cc
-neither false b e = (refl, e)
-
 -- what stands behind a simple variable
 simple_next : {j : NodeKind} {c : Forest} (f : Forest) → IsSimple j c → has_nullsafe (node j c f) ≡ false
     → (a : Bool → Option Around) (b v : Bool) → last_variable v
     (in_wrappings (wrapping (a b) (j, c)) (changed (j, c) (j, written (within j c) true c))).1 ≡ true
     → piece_questions f ≡ false
-simple_next f (pairs.alone {t} e) h a b v l = (neither (piece_questions f) (has_nullsafe f) h).0
+simple_next f (pairs.alone {t} e) h a b v l = (or_parts (piece_questions f) (has_nullsafe f) h).0
 simple_next f (pairs.with_offset {t} {o} {f = g} e m q) h a b v l =
     let c = node k.Variable (leaf t none) (leaf o g) in
     absurd (no_clash (wraps_last (wrapping (a b) (k.Offset, c))
@@ -336,7 +333,7 @@ simple_next f (pairs.with_property {t} {o} {u} e m w q) h a b v l =
     absurd (no_clash (wraps_last (wrapping (a b) (k.Prop, c)) (changed (k.Prop, c) (k.Prop, written (within k.Prop c) true c)) (λ z. ap is_variable_kind q) v) l)
 
 rest_null : {j : NodeKind} {c : Forest} (f : Forest) → IsSimple j c → has_nullsafe (node j c f) ≡ false → has_nullsafe f ≡ false
-rest_null {j} f e h = (neither (is_variable_node j && piece_questions f) (has_nullsafe f) h).1
+rest_null {j} f e h = (or_parts (is_variable_node j && piece_questions f) (has_nullsafe f) h).1
 
 -- ---- nodes that are changed
 
@@ -498,7 +495,7 @@ mutual
       (safe_texted o (next_safe j c f w) (rest_null f e n) a false (last_variable v t.1) (simple_next f e n a b v))
   safe_texted (pairs.curly {j} {t} {u} {c} {f} e p m o) w n a b v q =
       let inside = whole_node j c (safe_drawn p (alone_safe j c (leaf u f) w)) in
-      let rest = safe_texted o (next_safe j c (leaf u f) w) (neither (is_variable_node j && false) (has_nullsafe f) (leaf_null j c u f n m)).1 in
+      let rest = safe_texted o (next_safe j c (leaf u f) w) (or_parts (is_variable_node j && false) (has_nullsafe f) (leaf_null j c u f n m)).1 in
       subst (λ (x : Token). safe v (parts (written a b (leaf x (node j c (leaf u f))))) ≡ true) (sym (kind_is kind.CurlyOpen t e))
       (subst (λ (x : Token). safe v (parts (written a b (leaf (of_kind kind.CurlyOpen t) (node j c (leaf x f))))) ≡ true) (sym (text_is 125 u m))
       (curly_safe t u j c f inside rest a b v (λ h. refl)))
@@ -509,7 +506,7 @@ mutual
       (named_safe t y u f (safe_texted o w n) a b v (λ h. refl))))
   safe_texted (pairs.named_offset {j} {t} {n = y} {o = z} {s} {u} {c} {f} e d m p i r o) w n a b v q =
       let inside = whole_node j c (safe_drawn p (alone_safe j c (leaf s (leaf u f)) w)) in
-      let rest = safe_texted o (next_safe j c (leaf s (leaf u f)) w) (neither (is_variable_node j && false) (has_nullsafe f) (mark_null j c s u f n i)).1 in
+      let rest = safe_texted o (next_safe j c (leaf s (leaf u f)) w) (or_parts (is_variable_node j && false) (has_nullsafe f) (mark_null j c s u f n i)).1 in
       subst (λ (x : Token). safe v (parts (written a b (leaf x (leaf y (leaf z (node j c (leaf s (leaf u f)))))))) ≡ true) (sym (kind_is kind.DollarBrace t e))
       (subst (λ (x : Token). safe v (parts (written a b (leaf (of_kind kind.DollarBrace t)
       (leaf x (leaf z (node j c (leaf s (leaf u f)))))))) ≡ true) (sym (kind_is kind.VarName y d))
@@ -524,7 +521,7 @@ mutual
       (offset_safe t y z s u j c f inside rest a b v (λ h. refl))))))
   safe_texted (pairs.expression {j} {t} {u} {c} {f} e p m o) w n a b v q =
       let inside = whole_node j c (safe_drawn p (alone_safe j c (leaf u f) w)) in
-      let rest = safe_texted o (next_safe j c (leaf u f) w) (neither (is_variable_node j && false) (has_nullsafe f) (leaf_null j c u f n m)).1 in
+      let rest = safe_texted o (next_safe j c (leaf u f) w) (or_parts (is_variable_node j && false) (has_nullsafe f) (leaf_null j c u f n m)).1 in
       subst (λ (x : Token). safe v (parts (written a b (leaf x (node j c (leaf u f))))) ≡ true) (sym (kind_is kind.DollarBrace t e))
       (subst (λ (x : Token). safe v (parts (written a b (leaf (of_kind kind.DollarBrace t) (node j c (leaf x f))))) ≡ true) (sym (text_is 125 u m))
       (expression_safe t u j c f inside rest a b v (λ h. refl)))

@@ -2,11 +2,11 @@
 use Rattle.std.proofs.Common.{◌≡◌, ℕ, Bool, true, false, ◌&&◌, if◌then◌else◌, codes, List, [], ◌∷◌, ◌++◌, Option, ◌==◌, nat_eq, refl, sym, ap, ◌∙◌, subst, append_assoc}
 use Rattle.std.specs.Char.{to_ascii_lowercase}
 use Rattle.std.specs.Str.{bytes_eq}
-use Rattle.std.proofs.lemmas.Bool.{eqb-true}
+use Rattle.std.proofs.lemmas.Bool.{eqb-true, false_from_ne_true}
 use Rattle.std.proofs.lemmas.Slice.Eq.{bytes_eq-Decides}
 use Rattle.php_terminals.specs.Words.{is_word}
 use Rattle.rewritten_shapes.proofs.OperatorWords.{low_word}
-use Rattle.rewritten_shapes.proofs.paired.Asked.{both_left, by_test, no_clash}
+use Rattle.rewritten_shapes.proofs.paired.Asked.{both_left, no_clash}
 use Rattle.php_tree.specs.declared.kind.NodeKind.{NodeKind}
 use Rattle.php_tree.specs.declared.kind.NodeKind.TheVariants as k
 use Rattle.php_tree.specs.declared.token.Token.{Token}
@@ -88,7 +88,7 @@ head_of [] = 0
 head_of (y ∷ ys) = y
 
 no_root : (y : ℕ) (zs : List ℕ) → nat_eq y 92 ≡ false → bytes_eq (y ∷ zs) (codes "\\") ≡ false
-no_root y zs e = by_test (bytes_eq (y ∷ zs) (codes "\\")) (λ h. no_clash e (ap (λ (l : List ℕ). nat_eq (head_of l) 92) ((bytes_eq-Decides (y ∷ zs) (codes "\\")).0 h)))
+no_root y zs e = false_from_ne_true (bytes_eq (y ∷ zs) (codes "\\")) (λ h. no_clash e (ap (λ (l : List ℕ). nat_eq (head_of l) 92) ((bytes_eq-Decides (y ∷ zs) (codes "\\")).0 h)))
 
 kept_byte : (x : ℕ) (l : List ℕ) → (x == 32) ≡ false → (x == 9) ≡ false → bare (x ∷ l) ≡ to_ascii_lowercase x ∷ bare l
 kept_byte x l d g = rw (d, g) refl

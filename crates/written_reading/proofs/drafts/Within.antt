@@ -2,7 +2,7 @@
 use Rattle.std.proofs.Common.{◌≡◌, ℕ, Bool, true, false, not, ◌&&◌, ◌||◌, ◌==◌, nat_eq, if◌then◌else◌, codes, List, [], ◌∷◌, ◌++◌, refl, sym, ap, ◌∙◌, append_assoc}
 use Rattle.std.specs.Char.{to_ascii_lowercase}
 use Rattle.std.specs.Str.{bytes_eq, str_to_ascii_lowercase}
-use Rattle.std.proofs.lemmas.Bool.{eqb-true}
+use Rattle.std.proofs.lemmas.Bool.{eqb-true, and_from, false_from_ne_true}
 use Rattle.std.proofs.lemmas.Slice.Eq.{bytes_eq-Decides}
 use Rattle.php_tree.specs.declared.token.TokenKind.{TokenKind}
 use Rattle.php_tree.specs.declared.token.TokenKind.TheVariants as kind
@@ -35,7 +35,7 @@ use Rattle.rewritten_shapes.specs.paired.Names.{
   step,
   worded,
 }
-use Rattle.rewritten_shapes.proofs.paired.Asked.{both_true, by_test, no_clash}
+use Rattle.rewritten_shapes.proofs.paired.Asked.{no_clash}
 use Rattle.rewritten_shapes.proofs.paired.States.{all_are}
 use Rattle.written_reading.specs.drafts.Drafts.{new_part, run_draft}
 use Rattle.written_reading.proofs.drafts.Order.{below_same, below_trans, by_below, edge_above, edge_below, edge_twice, is_below, step_below}
@@ -370,7 +370,7 @@ apart_by t us s other e o h = loose_join t (all_whole us) (ap is_loose e) h
 
 -- no name goes past an edge
 apart_there : (t : NewToken) (us : List NewToken) (s : State) → is_ok (run_list (edge (step s (new_part t))) us) ≡ true → joins t (all_whole us) ≡ false
-apart_there t us s o = by_test (joins t (all_whole us)) (λ h. apart_by t us s (new_part t) refl o h)
+apart_there t us s o = false_from_ne_true (joins t (all_whole us)) (λ h. apart_by t us s (new_part t) refl o h)
 
 last_apart : (ts us : List NewToken) (s : State) → is_ok (run_list (edge (run_list s ts)) us) ≡ true → last_joins ts (all_whole us) ≡ false
 last_apart [] us s o = refl
@@ -402,12 +402,12 @@ ok_front s c d o = go (run_draft s c) o
 pub ok_within : (d : Draft) (s : State) → is_ok (run_draft s d) ≡ true → names_within d ≡ true
 ok_within no_more s o = refl
 ok_within (new_leaf t d) s o =
-    both_true (not (begins_node d && joins t (all_whole (draft_tokens d)))) (names_within d)
+    and_from (not (begins_node d && joins t (all_whole (draft_tokens d)))) (names_within d)
     (leaf_apart t d s (begins_node d) refl o) (ok_within d (step s (new_part t)) o)
 ok_within (new_node k c d) s o =
-    both_true (not (last_joins (draft_tokens c) (all_whole (draft_tokens d)))) (names_within c && names_within d)
+    and_from (not (last_joins (draft_tokens c) (all_whole (draft_tokens d)))) (names_within c && names_within d)
     (ap not (last_apart (draft_tokens c) (draft_tokens d) (edge s)
     (ok_below (run_list (edge (run_list (edge s) (draft_tokens c))) (draft_tokens d)) (run_draft (edge (run_draft (edge s) c)) d)
     (list_below d (edge (run_list (edge s) (draft_tokens c))) (edge (run_draft (edge s) c))
     (edge_below (run_list (edge s) (draft_tokens c)) (run_draft (edge s) c) (list_below c (edge s) (edge s) (below_same (edge s))))) o)))
-    (both_true (names_within c) (names_within d) (ok_within c (edge s) (ok_front (edge s) c d o)) (ok_within d (edge (run_draft (edge s) c)) o))
+    (and_from (names_within c) (names_within d) (ok_within c (edge s) (ok_front (edge s) c d o)) (ok_within d (edge (run_draft (edge s) c)) o))

@@ -1,6 +1,6 @@
 -- From the row of a draft to the row that the rewritten file needs, and to its reading.
 use Rattle.std.proofs.Common.{◌≡◌, ℕ, Bool, true, false, not, ◌&&◌, List, [], ◌∷◌, ◌++◌, map, refl, sym, ap, ◌∙◌}
-use Rattle.std.proofs.lemmas.Bool.{and_parts}
+use Rattle.std.proofs.lemmas.Bool.{and_parts, and_from}
 use Rattle.php_tree.specs.declared.version.Version.TheVariants.{V74}
 use Rattle.php_tree.specs.Tree.{File}
 use Rattle.php_spellings.specs.declared.table.Kind.{Kind}
@@ -38,10 +38,6 @@ clean_tiles : (ts : List Tile) → all_clean ts ≡ all_tiles is_clean ts
 clean_tiles [] = refl
 clean_tiles (tile kind b a ∷ ts) = ap (λ (x : Bool). is_clean kind b a && x) (clean_tiles ts)
 
-both : (x y : Bool) → x ≡ true → y ≡ true → (x && y) ≡ true
-both true y p q = q
-both false y p q = absurd cc
-
 no_brace : (kind : Kind) (b : ℕ) (a : List ℕ) → is_clean kind b a ≡ true → not (is_dollar_brace kind) ≡ true
 no_brace DollarBrace b a h = absurd cc
 no_brace kind b a h = refl
@@ -54,13 +50,13 @@ clean_dollar : (ts : List Tile) → all_tiles is_clean ts ≡ true → none_doll
 clean_dollar [] h = refl
 clean_dollar (tile kind b a ∷ ts) h =
     let p = and_parts (is_clean kind b a) (all_tiles is_clean ts) h in
-    both (not (is_dollar_brace kind)) (none_dollar ts) (no_brace kind b a p.0) (clean_dollar ts p.1)
+    and_from (not (is_dollar_brace kind)) (none_dollar ts) (no_brace kind b a p.0) (clean_dollar ts p.1)
 
 clean_hash : (ts : List Tile) → all_tiles is_clean ts ≡ true → none_hash ts ≡ true
 clean_hash [] h = refl
 clean_hash (tile kind b a ∷ ts) h =
     let p = and_parts (is_clean kind b a) (all_tiles is_clean ts) h in
-    both (not (is_hash kind b a)) (none_hash ts) (no_hash kind b a p.0) (clean_hash ts p.1)
+    and_from (not (is_hash kind b a)) (none_hash ts) (no_hash kind b a p.0) (clean_hash ts p.1)
 
 -- ---- neighbours
 
@@ -74,7 +70,7 @@ apart_by (t ∷ []) p q = refl
 apart_by (t ∷ u ∷ ts) p q =
     let x = and_parts (is_safe t u) (texts_apart (u ∷ ts)) p in
     let y = and_parts (is_labelled t u && is_parted t u) (names_apart (u ∷ ts)) q in
-    both (is_safe t u && is_labelled t u && is_parted t u) (are_apart (u ∷ ts)) (all_three (is_safe t u) (is_labelled t u) (is_parted t u) x.0 y.0) (apart_by (u ∷ ts) x.1 y.1)
+    and_from (is_safe t u && is_labelled t u && is_parted t u) (are_apart (u ∷ ts)) (all_three (is_safe t u) (is_labelled t u) (is_parted t u) x.0 y.0) (apart_by (u ∷ ts) x.1 y.1)
 
 -- ---- files
 

@@ -1,6 +1,6 @@
 -- The trivia before a token, and tokens alone, in code or inline HTML.
 use Rattle.std.proofs.Common.{◌≡◌, ℕ, suc, Bool, true, false, not, ◌&&◌, ◌||◌, nat_eq, List, [], ◌∷◌, ◌++◌, length, Some, refl, sym, ap, ◌∙◌, subst}
-use Rattle.std.proofs.lemmas.Bool.{and_parts}
+use Rattle.std.proofs.lemmas.Bool.{and_parts, and_from}
 use Rattle.php_tree.specs.declared.version.Version.TheVariants.{V74}
 use Rattle.php_tree.specs.declared.token.Token.{Token}
 use Rattle.php_spellings.specs.declared.table.Kind.{Kind}
@@ -62,17 +62,12 @@ clean_by Tag b a p q = refl
 clean_by Comment b a p q = q
 clean_by _ b a p q = absurd cc
 
-both : (x y : Bool) → x ≡ true → y ≡ true → (x && y) ≡ true
-both true true p q = refl
-both true false p q = q
-both false y p q = p
-
 pub clean_trivia : (ts : List Tile) → all_trivia ts ≡ true → none_hash ts ≡ true → all_clean ts ≡ true
 clean_trivia [] p q = refl
 clean_trivia (tile kind b a ∷ ts) p q =
     let f = and_parts (is_trivia kind) (all_trivia ts) p in
     let g = and_parts (not (is_hash kind b a)) (none_hash ts) q in
-    both (is_clean kind b a) (all_clean ts) (clean_by kind b a f.0 g.0) (clean_trivia ts f.1 g.1)
+    and_from (is_clean kind b a) (all_clean ts) (clean_by kind b a f.0 g.0) (clean_trivia ts f.1 g.1)
 
 -- the first token of a row of more than one
 pub front_of : FrontOfRow → (tiles : List Tile) (l : Lexeme) (more : List Lexeme) → has_more more ≡ true → spelled [] tiles ≡ l ∷ more → Front [] tiles l more
@@ -181,7 +176,7 @@ module _ (means : Means) where
     text_is = text;
     spells = λ rest. refl;
     clean_lead = clean_trivia (spaced_trivia f.trivia) (means.spaced f.trivia f.free).0 (means.spaced f.trivia f.free).1;
-    clean = both (is_clean k c e) true clean refl;
+    clean = and_from (is_clean k c e) true clean refl;
     lead = front_becomes h below depth tiles (lexeme t) more f steps;
     row = becomes;
   }

@@ -1,15 +1,11 @@
 -- Files without quoted texts and uses of traits.
 use Rattle.std.proofs.Common.{◌≡◌, Bool, true, false, not, ◌&&◌, ◌||◌, refl, sym, subst}
-use Rattle.std.proofs.lemmas.Bool.{and_parts}
+use Rattle.std.proofs.lemmas.Bool.{and_parts, and_from}
 use Rattle.php_tree.specs.declared.kind.NodeKind.{NodeKind}
 use Rattle.php_tree.specs.Tree.{Forest, none, leaf, node}
 use Rattle.written_tokens.specs.tokens.Written.{has_nullsafe, is_quoted_node, is_safe}
 use Rattle.rewritten_shapes.specs.paired.Traits.{PlainTraits, has_plain_rules, is_trait_use}
 use Rattle.written_reading.specs.edited.Laws.{FilesWithNeitherArePlain, has_neither}
-
-both : (a b : Bool) → a ≡ true → b ≡ true → (a && b) ≡ true
-both true b p q = q
-both false b p q = absurd cc
 
 neither : (a b : Bool) → not (a || b) ≡ true → (a ≡ false) × (b ≡ false)
 neither false false h = (refl, refl)
@@ -41,7 +37,7 @@ safe (leaf t f) h = safe f h
 safe (node k c f) h =
     let p : Parts k c f = parts k c f h in
     subst (λ (q : Bool). (not (q && has_nullsafe c) && (is_safe c && is_safe f)) ≡ true) (sym p.quoted)
-    (both (is_safe c) (is_safe f) (safe c p.within) (safe f p.behind))
+    (and_from (is_safe c) (is_safe f) (safe c p.within) (safe f p.behind))
 
 traits : (f : Forest) → has_neither f ≡ true → PlainTraits f
 traits none h = tt

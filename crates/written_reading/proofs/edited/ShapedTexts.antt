@@ -1,6 +1,6 @@
 -- In a file of the grammar no operator stands leftmost behind `{$` in a quoted text: a variable does.
 use Rattle.std.proofs.Common.{◌≡◌, ℕ, ◌+◌, ◌-◌, Bool, true, false, not, cond, ◌&&◌, ◌||◌, nat_eq, refl, sym, ap, ◌∙◌, subst}
-use Rattle.std.proofs.lemmas.Bool.{and_parts}
+use Rattle.std.proofs.lemmas.Bool.{and_parts, and_from, or_right}
 use Rattle.php_tree.specs.declared.kind.NodeKind.{NodeKind}
 use Rattle.php_tree.specs.declared.kind.NodeKind.TheVariants as k
 use Rattle.php_tree.specs.declared.token.Token.{Token}
@@ -44,14 +44,6 @@ use Rattle.rewritten_shapes.proofs.paired.Marks as told
 use Rattle.rewritten_shapes.proofs.paired.Quotable.{form_names_no_text, names_no_text}
 use Rattle.written_reading.proofs.edited.PlainTexts.{PlainTexts, begins_plainly, has_operands, has_plain_code, is_curly}
 
-both : (a b : Bool) → a ≡ true → b ≡ true → (a && b) ≡ true
-both true b p q = q
-both false b p q = absurd cc
-
-or_last : (a b : Bool) → b ≡ true → (a || b) ≡ true
-or_last true b e = refl
-or_last false b e = e
-
 -- ---- the node behind `{$`
 
 variable_begins : {c : Forest} → Fits V74 variable c → begins_plainly c ≡ true
@@ -79,7 +71,7 @@ led_plainly none j false e w n = let p = and_parts (is_postfixed j) false w in a
 led_plainly (leaf x f) j false e w n = let p = and_parts (is_postfixed j) false w in absurd (let z : false ≡ true = p.1 in cc)
 led_plainly (node i b f) j false e w n =
     let p = and_parts (is_postfixed j) (begins_with_variable (node i b f)) w in
-    both (not (has_operands j)) (not (has_operands i) && begins_plainly b) (no_operands j p.0)
+    and_from (not (has_operands j)) (not (has_operands i) && begins_plainly b) (no_operands j p.0)
     (led_plainly b i (is_variable i) refl p.1 (front_node V74 (the_shape j (node i b f) n) (postfixed_forms V74 j p.0) i b f refl))
 
 -- ---- quoted texts
@@ -92,7 +84,7 @@ free_step : (t : Token) (h : Forest) → is_curly t.kind ≡ false → has_plain
 free_step t h e p = subst (λ (b : Bool). ((not b || begins_plainly h) && has_plain_code h) ≡ true) (sym e) p
 
 curly_step : (t : Token) (h : Forest) → begins_plainly h ≡ true → has_plain_code h ≡ true → has_plain_code (leaf t h) ≡ true
-curly_step t h e p = both (not (is_curly t.kind) || begins_plainly h) (has_plain_code h) (or_last (not (is_curly t.kind)) (begins_plainly h) e) p
+curly_step t h e p = and_from (not (is_curly t.kind) || begins_plainly h) (has_plain_code h) (or_right (not (is_curly t.kind)) (begins_plainly h) e) p
 
 curly_leads : (f : Forest) (x : Token) (j : NodeKind) (c : Forest) (y : Token) → f ≡ leaf x (node j c (leaf y none))
     → may_stand V74 Embedded (j, c) ≡ true → IsNode V74 j c → is_curly y.kind ≡ false → Leads f

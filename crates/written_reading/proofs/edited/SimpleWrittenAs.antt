@@ -1,5 +1,6 @@
 -- Simple variables of quoted texts, which stay as they are.
 use Rattle.std.proofs.Common.{◌≡◌, ℕ, Bool, true, false, cond, ◌&&◌, List, [], ◌∷◌, ◌++◌, map, Some, refl, sym, ap, ◌∙◌, subst}
+use Rattle.std.proofs.lemmas.Bool.{and_from}
 use Rattle.php_tree.specs.declared.version.Version.TheVariants.{V74}
 use Rattle.php_tree.specs.declared.token.Token.{Token}
 use Rattle.php_tree.specs.declared.token.TokenKind.{TokenKind}
@@ -136,10 +137,6 @@ key_no_op : (k : TokenKind) → is_key_token k ≡ true → is_op k ≡ false
 key_no_op token.Op h = absurd cc
 key_no_op k h = refl
 
-with_clean : (x y : Bool) → x ≡ true → y ≡ true → (x && y) ≡ true
-with_clean true y p q = q
-with_clean false y p q = absurd cc
-
 -- A key and its `]`: the tiles, and the steps behind them.
 pub record Keyed (mark : Mark) (label : List ℕ) (over : List Mode) (depth : ℕ) (k u : Token) (tiles : List Tile) (more : List Lexeme) : Type 0 where
   pub key : Next k tiles (lexeme u ∷ more)
@@ -214,7 +211,7 @@ offset_written_as front starts v o k u ss ts is mo key mu written_as mark label 
           (next_spells o n.next.rest (lexeme k ∷ lexeme u ∷ left) o1 inner (new_lexeme (hash_comment k) ∷ new_lexeme (hash_comment u) ∷ map new_lexeme ts)
           (next_spells k q.rest (lexeme u ∷ left) d.key last (new_lexeme (hash_comment u) ∷ map new_lexeme ts)
           (next_spells u d.key.rest left u1 r.ys (map new_lexeme ts) r.spells)));
-      clean = with_clean (is_clean d.key.kind d.key.b d.key.a) (all_clean last) d.clean r.clean;
+      clean = and_from (is_clean d.key.kind d.key.b d.key.a) (all_clean last) d.clean r.clean;
     }
 
 -- the same with `-`
@@ -263,7 +260,7 @@ minus_written_as front starts v o s k u ss ts is mo ms key mu written_as mark la
           (next_spells s q.rest (lexeme k ∷ lexeme u ∷ left) s1 inner two
           (next_spells k w.rest (lexeme u ∷ left) d.key last (new_lexeme (hash_comment u) ∷ map new_lexeme ts)
           (next_spells u d.key.rest left u1 r.ys (map new_lexeme ts) r.spells))));
-      clean = with_clean (is_clean d.key.kind d.key.b d.key.a) (all_clean last) d.clean r.clean;
+      clean = and_from (is_clean d.key.kind d.key.b d.key.a) (all_clean last) d.clean r.clean;
     }
 
 -- ---- with a property

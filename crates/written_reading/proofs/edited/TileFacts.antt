@@ -1,6 +1,6 @@
 -- Modes of code and inline HTML, and what is true of tiles in a row where it is true of each part.
 use Rattle.std.proofs.Common.{◌≡◌, ℕ, Bool, true, false, cond, not, ◌&&◌, ◌||◌, nat_eq, List, [], ◌∷◌, ◌++◌, refl, ap, ◌∙◌}
-use Rattle.std.proofs.lemmas.Bool.{and_parts}
+use Rattle.std.proofs.lemmas.Bool.{and_parts, and_from}
 use Rattle.php_tree.specs.declared.token.Token.{Token}
 use Rattle.php_tree.specs.declared.token.TokenKind.{TokenKind}
 use Rattle.php_tree.specs.declared.token.TokenKind.TheVariants as token
@@ -79,13 +79,8 @@ pub gap_append : (gap : Bool) (ts us : List Tile) → gap_behind gap (ts ++ us) 
 gap_append gap [] us = refl
 gap_append gap (tile kind b a ∷ ts) us = gap_append (is_trivia kind) ts us
 
-both : (x y : Bool) → x ≡ true → y ≡ true → (x && y) ≡ true
-both true true p q = refl
-both true false p q = q
-both false y p q = p
-
 pub clean_append : (ts us : List Tile) → all_clean ts ≡ true → all_clean us ≡ true → all_clean (ts ++ us) ≡ true
 clean_append [] us p q = q
 clean_append (tile kind b a ∷ ts) us p q =
     let h = and_parts (is_clean kind b a) (all_clean ts) p in
-    both (is_clean kind b a) (all_clean (ts ++ us)) h.0 (clean_append ts us h.1 q)
+    and_from (is_clean kind b a) (all_clean (ts ++ us)) h.0 (clean_append ts us h.1 q)

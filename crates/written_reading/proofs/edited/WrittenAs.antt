@@ -1,5 +1,6 @@
 -- What the tiles of some tokens become, wherever they stand in code or inline HTML.
 use Rattle.std.proofs.Common.{◌≡◌, ℕ, Bool, true, false, ◌||◌, List, [], ◌∷◌, ◌++◌, map, Some, refl, sym, ap, ◌∙◌, subst, append_assoc, append-nil}
+use Rattle.std.proofs.lemmas.Bool.{or_right}
 use Rattle.php_tree.specs.declared.version.Version.TheVariants.{V74}
 use Rattle.php_tree.specs.declared.token.Token.{Token}
 use Rattle.php_spellings.specs.declared.table.Kind.{Kind}
@@ -103,10 +104,6 @@ pub or_false : (a : Bool) → (a || false) ≡ a
 or_false true = refl
 or_false false = refl
 
-right : (a b : Bool) → b ≡ true → (a || b) ≡ true
-right true b h = refl
-right false b h = h
-
 pub news_append : (ts us : List NewToken) → map new_lexeme (ts ++ us) ≡ map new_lexeme ts ++ map new_lexeme us
 news_append [] us = refl
 news_append (t ∷ ts) us = ap (λ (l : List Lexeme). new_lexeme t ∷ l) (news_append ts us)
@@ -163,7 +160,7 @@ module _ (join : RewritingsJoin) where
         is = f.is;
         stopped = λ x. stops_append one (g.trivia ++ two)
             ∙ either s1 s2 (any_stops one) (any_stops (g.trivia ++ two)) f.stopped
-            (λ y. stops_append g.trivia two ∙ right (any_stops g.trivia) (any_stops two) (g.stopped y)) x;
+            (λ y. stops_append g.trivia two ∙ or_right (any_stops g.trivia) (any_stops two) (g.stopped y)) x;
         no_cast = open_append one (g.trivia ++ two) f.no_cast (open_append g.trivia two (trivia_open g.trivia g.plain) g.no_cast);
         ends = gap_append (is_trivia f.kind) f.body (g.trivia ++ two)
             ∙ gap_append (gap_behind (is_trivia f.kind) f.body) g.trivia two

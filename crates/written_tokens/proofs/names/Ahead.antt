@@ -1,12 +1,11 @@
 -- Casts and `from` ahead in bytes that are the same up to an edit of names.
 use Rattle.std.proofs.Common.{◌≡◌, ℕ, Bool, true, false, cond, not, ◌&&◌, ◌||◌, nat_eq, List, [], ◌∷◌, length, drop, codes, refl, sym, ap, ◌∙◌, arith}
-use Rattle.std.proofs.lemmas.Bool.{and_parts}
+use Rattle.std.proofs.lemmas.Bool.{and_parts, not-true}
 use Rattle.std.proofs.lemmas.Bool.Decides.{nat_tests}
 use Rattle.php_spellings.specs.Bytes.{is_blank_byte, is_space, lower, starts_word}
 use Rattle.php_lexer.specs.Heredocs.{no_label}
 use Rattle.php_lexer.specs.Tails.{cast_words, word_alone, begins_word, begins_type}
 use Rattle.php_relexing.specs.Words.{comes_from, begins_from, ends_cast, goes_cast, begins_cast}
-use Rattle.php_relexing.proofs.Bools.{not_it}
 use Rattle.written_tokens.proofs.names.Shared.{is_cut, cuts, Share, ended, both, cut, first_cut, cut_low, cut_letter, cuts_blank, uncut, starts_same, starts_cut, no_label_same}
 
 -- ---- words
@@ -31,7 +30,7 @@ all_whole (w ∷ ws) = whole w && all_whole ws
 
 alone_cut : (w r : List ℕ) → whole w ≡ true → cuts r ≡ true → word_alone w r ≡ false
 alone_cut [] r out h = absurd cc
-alone_cut (a ∷ w) r out h = rw (starts_cut lower cut_low a w r (not_it (is_cut a) (and_parts (not (is_cut a)) (uncut w) out).0) h) refl
+alone_cut (a ∷ w) r out h = rw (starts_cut lower cut_low a w r (not-true (is_cut a) (and_parts (not (is_cut a)) (uncut w) out).0) h) refl
 
 whole_uncut : (w : List ℕ) → whole w ≡ true → uncut w ≡ true
 whole_uncut [] h = absurd cc

@@ -1,6 +1,6 @@
 -- 8.3 takes a row of such tokens as 7.4 does.
 use Rattle.std.proofs.Common.{◌≡◌, ℕ, suc, Bool, true, false, cond, not, ◌&&◌, ◌||◌, nat_eq, List, [], ◌∷◌, ◌++◌, length, refl, sym, ap, ◌∙◌, subst}
-use Rattle.std.proofs.lemmas.Bool.{and_parts, eqb-true}
+use Rattle.std.proofs.lemmas.Bool.{and_parts, eqb-true, or_left, and_from}
 use Rattle.php_tree.specs.declared.version.Version.TheVariants.{V74}
 use Rattle.php_spellings.specs.declared.table.Kind.{Kind}
 use Rattle.php_spellings.specs.declared.table.Kind.TheVariants.{
@@ -31,7 +31,6 @@ use Rattle.written_tokens.specs.tokens.Levels.{stack_of}
 use Rattle.written_tokens.specs.tokens.Names.{is_rooted, are_one, in_front, whole_names}
 use Rattle.written_tokens.specs.tokens.Whole.{begins_other, begins_rooted}
 use Rattle.written_tokens.proofs.tiles.Stepping.{longest_in}
-use Rattle.written_tokens.proofs.names.FrontRows.{and_both}
 use Rattle.written_tokens.proofs.names.NamedModes.{mode_ok}
 use Rattle.written_tokens.proofs.names.NameTiles.{wordy_first}
 
@@ -106,17 +105,13 @@ entered : (x : Bool) (m : Mode) (ms : List Mode) → (x || quoted_first (m ∷ [
 entered true m ms h = refl
 entered false m ms h = first_quoted m ms h
 
-either : (x y : Bool) → x ≡ true → (x || y) ≡ true
-either true y h = refl
-either false y h = absurd cc
-
 stepped_sound : (t : ModeStep) (m : Mode) (below : List Mode) (depth : ℕ) → mode_step_sound t below ≡ true → modes_sound below ≡ true → sound (stepped_by t (stack_of m below depth)) ≡ true
 stepped_sound (stay n) m below depth p q = rw (p, q) refl
 stepped_sound (enter above under) m below depth p q =
     let (one, two) = and_parts (not (is_simple above) || quoted_first (under ∷ [])) (not (is_simple under)) p in
-    and_both (not (is_simple above) || quoted_first (under ∷ below)) ((not (is_simple under) || quoted_first below) && modes_sound below)
+    and_from (not (is_simple above) || quoted_first (under ∷ below)) ((not (is_simple under) || quoted_first below) && modes_sound below)
     (entered (not (is_simple above)) under below one)
-    (and_both (not (is_simple under) || quoted_first below) (modes_sound below) (either (not (is_simple under)) (quoted_first below) two) q)
+    (and_from (not (is_simple under) || quoted_first below) (modes_sound below) (or_left (not (is_simple under)) (quoted_first below) two) q)
 stepped_sound leave m [] depth p q = refl
 stepped_sound leave m (n ∷ below) depth p q = q
 

@@ -1,6 +1,6 @@
 -- 8.3 takes the whole row as 7.4 does, with names apart from other words.
 use Rattle.std.proofs.Common.{◌≡◌, ℕ, suc, Bool, true, false, cond, not, ◌&&◌, ◌||◌, nat_eq, List, [], ◌∷◌, ◌++◌, length, Option, Some, None, refl, sym, ap, ◌∙◌, subst, arith}
-use Rattle.std.proofs.lemmas.Bool.{and_parts, eqb-true}
+use Rattle.std.proofs.lemmas.Bool.{and_parts, eqb-true, and_from, not-true}
 use Rattle.std.proofs.lemmas.Bool.Decides.{nat_tests}
 use Rattle.php_tree.specs.declared.version.Version.TheVariants.{V74}
 use Rattle.php_tree.specs.declared.token.TokenKind.{TokenKind}
@@ -15,7 +15,6 @@ use Rattle.php_lexer.specs.Lexed.{Lexeme, Stack, start, stepped_by}
 use Rattle.php_relexing.specs.Tiles.{Tile, tile, joined}
 use Rattle.php_relexing.specs.Spelled.{Steps, lexeme_with, spelled}
 use Rattle.php_relexing.specs.Labels.{all_label}
-use Rattle.php_relexing.proofs.Bools.{not_it}
 use Rattle.php_relexing.proofs.Labels.{words_are_labels}
 use Rattle.php_relexing.proofs.Picked.{longest_meets}
 use Rattle.written_tokens.specs.tokens.Levels.{stack_of}
@@ -296,17 +295,12 @@ module _ (m : Mode) (below : List Mode) (depth : ℕ) (ok : stack_ok (stack_of m
   trivia_both Tag is f = (refl, refl)
   trivia_both _ is f = absurd cc
 
-and_same : (x y : Bool) → x ≡ true → y ≡ true → (x && y) ≡ true
-and_same true true p q = refl
-and_same true false p q = absurd cc
-and_same false y p q = absurd cc
-
 abbrev All : List Tile → Type 0
 All ts = (all_common ts ≡ true) × (all_apart ts ≡ true)
 
 all_of : (kind : Kind) (b : ℕ) (a : List ℕ) (ts : List Tile) → Both kind b a ts → All ts → All (tile kind b a ∷ ts)
 all_of kind b a ts both more =
-    (and_same (is_common kind b a ts) (all_common ts) both.0 more.0, and_same (is_apart kind b a (whole_names ts)) (all_apart ts) both.1 more.1)
+    (and_from (is_common kind b a ts) (all_common ts) both.0 more.0, and_from (is_apart kind b a (whole_names ts)) (all_apart ts) both.1 more.1)
 
 row_by : (m : Mode) (below : List Mode) (depth : ℕ) (kind : Kind) (b : ℕ) (a : List ℕ) (ts : List Tile)
     (lead : List ℕ) → stack_ok (stack_of m below depth) ≡ true → sound (stack_of m below depth) ≡ true
@@ -325,10 +319,10 @@ row_all (tile kind b a ∷ ts) lead k ok fine d f s h =
     let (one, dollars) = and_parts (not (is_dollar_brace kind)) (none_dollar ts) d in
     let (two, hashes) = and_parts (not (is_hash kind b a)) (none_hash ts) f in
     let n : Stack = stepped_by (mode_step_of V74 k.top kind (b ∷ a) (joined ts)) k in
-    let good = behind_ok k.top k.below k.depth kind (b ∷ a) (joined ts) ok (not_it (is_dollar_brace kind) one) in
+    let good = behind_ok k.top k.below k.depth kind (b ∷ a) (joined ts) ok (not-true (is_dollar_brace kind) one) in
     let nice = behind_sound k.top k.below k.depth kind (b ∷ a) (joined ts) fine in
     let tail = steps_behind k n kind b a ts refl s in
-    row_by k.top k.below k.depth kind b a ts lead ok fine (not_it (is_dollar_brace kind) one) (not_it (is_hash kind b a) two) s
+    row_by k.top k.below k.depth kind b a ts lead ok fine (not-true (is_dollar_brace kind) one) (not-true (is_hash kind b a) two) s
     (λ l e. row_all ts l n good nice dollars hashes tail e) (token_of kind (b ∷ a)) refl h
 
 pub rows_are_common : RowsAreCommon

@@ -1,6 +1,6 @@
 -- The front of a row.
 use Rattle.std.proofs.Common.{◌≡◌, ℕ, Bool, true, false, ◌&&◌, List, [], ◌∷◌, ◌++◌, Option, Some, None, refl, sym, ap, ◌∙◌, append_assoc, append-nil}
-use Rattle.std.proofs.lemmas.Bool.{and_parts}
+use Rattle.std.proofs.lemmas.Bool.{and_parts, and_from}
 use Rattle.php_tree.specs.declared.token.TokenKind.{TokenKind}
 use Rattle.php_tree.specs.declared.token.TokenKind.TheVariants as token
 use Rattle.php_spellings.specs.declared.table.Kind.{Kind}
@@ -26,11 +26,6 @@ none_is Space text h = refl
 none_is Comment text h = refl
 none_is Tag text h = refl
 none_is _ text h = absurd cc
-
-pub and_both : (x y : Bool) → x ≡ true → y ≡ true → (x && y) ≡ true
-and_both true true p q = refl
-and_both true false p q = absurd cc
-and_both false y p q = absurd cc
 
 -- ---- lists of tokens
 
@@ -68,7 +63,7 @@ behind_trivia lead kind b a ts first more none f = record {
   a = f.a;
   rest = f.rest;
   whole = ap (λ (l : List Tile). tile kind b a ∷ l) f.whole;
-  free = and_both (is_trivia kind) (all_trivia f.trivia) (none_is kind (b ∷ a) none) f.free;
+  free = and_from (is_trivia kind) (all_trivia f.trivia) (none_is kind (b ∷ a) none) f.free;
   lead = sym (append_assoc lead (b ∷ a) (joined f.trivia)) ∙ f.lead;
   is = f.is;
   text = f.text;
@@ -117,7 +112,7 @@ front_of_row lead row first ts last us h = front lead row first (ts ++ last ∷ 
 end_behind : (lead : List ℕ) (kind : Kind) (b : ℕ) (a : List ℕ) (ts : List Tile) (last : Lexeme)
     → token_of kind (b ∷ a) ≡ None → LastFront (lead ++ b ∷ a) ts last → LastFront lead (tile kind b a ∷ ts) last
 end_behind lead kind b a ts last none f = record {
-  free = and_both (is_trivia kind) (all_trivia ts) (none_is kind (b ∷ a) none) f.free;
+  free = and_from (is_trivia kind) (all_trivia ts) (none_is kind (b ∷ a) none) f.free;
   lead = sym (append_assoc lead (b ∷ a) (joined ts)) ∙ f.lead;
   is = f.is;
   text = f.text;

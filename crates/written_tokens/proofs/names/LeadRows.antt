@@ -1,6 +1,6 @@
 -- The trivia before a token with spaces behind `#`.
 use Rattle.std.proofs.Common.{◌≡◌, ℕ, suc, Bool, true, false, cond, not, ◌&&◌, ◌||◌, nat_eq, List, [], ◌∷◌, ◌++◌, length, refl, sym, ap, ◌∙◌, append_assoc, arith}
-use Rattle.std.proofs.lemmas.Bool.{and_parts}
+use Rattle.std.proofs.lemmas.Bool.{and_parts, not-true}
 use Rattle.std.proofs.lemmas.Bool.Decides.{nat_tests}
 use Rattle.php_tree.specs.declared.version.Version.TheVariants.{V74}
 use Rattle.php_spellings.specs.declared.table.Kind.{Kind}
@@ -17,7 +17,6 @@ use Rattle.php_lexer.specs.Lexed as lexed
 use Rattle.php_relexing.specs.Tiles.{Tile, tile, joined}
 use Rattle.php_relexing.specs.Spelled.{Steps}
 use Rattle.php_relexing.specs.Comments.{stops_line}
-use Rattle.php_relexing.proofs.Bools.{not_it}
 use Rattle.tracked_changes.specs.Pieces.{after}
 use Rattle.syntax_rules.specs.HashComment.{Standing, outside, opening, block, closing, line, next_is, moved, begins_hash, spaced}
 use Rattle.written_tokens.proofs.tokens.Kept.{opened}
@@ -71,7 +70,7 @@ over_line [] rest r st h = refl
 over_line (b ∷ x) rest r st h =
     let (here, more) = and_parts (in_line b (x ++ rest)) (is_run Line [] Plain x rest) h in
     let (goes, other) = and_parts (not (is_line_end b)) (not (nat_eq b 63 && begins_by 62 (x ++ rest))) here in
-    plain_step line line b (x ++ r) refl (line_moves b (x ++ r) (not_it (is_line_end b) goes)) ∙ ap (λ (l : List ℕ). b ∷ l) (over_line x rest r Plain more)
+    plain_step line line b (x ++ r) refl (line_moves b (x ++ r) (not-true (is_line_end b) goes)) ∙ ap (λ (l : List ℕ). b ∷ l) (over_line x rest r Plain more)
 
 -- whether bytes are none or begin with a line end
 abbrev line_front : List ℕ → Bool

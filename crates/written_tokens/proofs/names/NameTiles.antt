@@ -28,7 +28,7 @@ use Rattle.std.proofs.Common.{
   subst,
   arith,
 }
-use Rattle.std.proofs.lemmas.Bool.{and_parts, eqb-true}
+use Rattle.std.proofs.lemmas.Bool.{and_parts, eqb-true, not-true}
 use Rattle.std.proofs.lemmas.Bool.Decides.{nat_tests}
 use Rattle.php_tree.specs.declared.version.Version.TheVariants.{V74}
 use Rattle.php_tree.specs.declared.token.TokenKind.{TokenKind}
@@ -46,7 +46,6 @@ use Rattle.php_lexer.specs.Lexed.{Stack, stepped_by}
 use Rattle.php_relexing.specs.Tiles.{Tile, tile, joined}
 use Rattle.php_relexing.specs.Spelled.{Steps}
 use Rattle.php_relexing.specs.Labels.{all_label}
-use Rattle.php_relexing.proofs.Bools.{not_it}
 use Rattle.php_relexing.proofs.Labels.{words_are_labels}
 use Rattle.php_relexing.proofs.Picked.{longest_meets}
 use Rattle.written_tokens.specs.tokens.Levels.{stack_of}
@@ -312,5 +311,5 @@ reached [] ts k ok d s = record { m = k.top; below = k.below; depth = k.depth; o
 reached (tile kind b a ∷ trivia) ts k ok d s =
     let (one, more) = and_parts (not (is_dollar_brace kind)) (none_dollar (trivia ++ ts)) d in
     let n : Stack = stepped_by (mode_step_of V74 k.top kind (b ∷ a) (joined (trivia ++ ts))) k in
-    reached trivia ts n (behind_ok k.top k.below k.depth kind (b ∷ a) (joined (trivia ++ ts)) ok (not_it (is_dollar_brace kind) one)) more
+    reached trivia ts n (behind_ok k.top k.below k.depth kind (b ∷ a) (joined (trivia ++ ts)) ok (not-true (is_dollar_brace kind) one)) more
     (steps_behind k n kind b a (trivia ++ ts) refl s)

@@ -1,6 +1,6 @@
 -- A row whose names are edited stays a row of 7.4.
 use Rattle.std.proofs.Common.{◌≡◌, ℕ, suc, Bool, true, false, not, ◌||◌, nat_eq, List, [], ◌∷◌, ◌++◌, length, refl, sym, ap, ◌∙◌, subst}
-use Rattle.std.proofs.lemmas.Bool.{and_parts, eqb-true}
+use Rattle.std.proofs.lemmas.Bool.{and_parts, eqb-true, not-true}
 use Rattle.php_tree.specs.declared.version.Version.TheVariants.{V74}
 use Rattle.php_spellings.specs.declared.table.Kind.{Kind}
 use Rattle.php_spellings.specs.declared.table.Kind.TheVariants.{Space, Comment, Word, Text, Quote, Backtick, HeredocStart, Op, Piece}
@@ -11,7 +11,6 @@ use Rattle.php_lexer.specs.Lexed.{Stack, start, stepped_by}
 use Rattle.php_relexing.specs.Tiles.{Tile, tile, joined}
 use Rattle.php_relexing.specs.Spelled.{Steps}
 use Rattle.php_relexing.specs.Labels.{all_label}
-use Rattle.php_relexing.proofs.Bools.{not_it}
 use Rattle.php_relexing.proofs.Picked.{longest_meets}
 use Rattle.php_relexing.proofs.Scanned.{longest_of}
 use Rattle.written_tokens.specs.tokens.Levels.{stack_of}
@@ -229,7 +228,7 @@ named_stays : {gap : Bool} {ts us : List Tile} → Named gap ts us → none_doll
 named_stays none d k ok s = s
 named_stays (same {ts = ts} {us = us} kind b a h) d k ok s =
     let (one, more) = and_parts (not (is_dollar_brace kind)) (none_dollar ts) d in
-    same_step k.top k.below k.depth kind b a ts us ok (not_it (is_dollar_brace kind) one) h (named_stays h more) s
+    same_step k.top k.below k.depth kind b a ts us ok (not-true (is_dollar_brace kind) one) h (named_stays h more) s
 named_stays (spaced {ts = ts} {us = us} h) d k ok s =
     space_put k.top k.below k.depth us (and_parts (mode_ok k.top) (modes_ok k.below) ok).0 (named_stays h d k ok s)
 named_stays (closed {ts = ts} {us = us} trivia f h) d k ok s =

@@ -1,7 +1,7 @@
 -- Which neighbours among a draft's tokens are one name.
 use Rattle.std.proofs.Common.{◌≡◌, ℕ, Bool, true, false, cond, not, ◌&&◌, ◌||◌, nat_eq, List, [], ◌∷◌, ◌++◌, codes, refl, sym, ap, ◌∙◌, append_assoc}
 use Rattle.std.specs.Str.{bytes_eq}
-use Rattle.std.proofs.lemmas.Bool.{and_parts}
+use Rattle.std.proofs.lemmas.Bool.{and_parts, or_left}
 use Rattle.tracked_changes.specs.Pieces.{Piece, changed, old_bytes, new_bytes, before, after}
 use Rattle.tracked_changes.specs.Draft.{NewToken}
 use Rattle.syntax_rules.specs.SplitName as names
@@ -58,10 +58,6 @@ pub data Joined (t u : NewToken) : Type 0 where
   behind : names.is_backslash t ≡ true → Wordy u → Joined t u
   root : names.is_backslash u ≡ true → Wordy t → Joined t u
 
-left_or : (x y : Bool) → x ≡ true → (x || y) ≡ true
-left_or true y h = refl
-left_or false y h = absurd cc
-
 alone_parts : (p l n r d : Bool) → n ≡ false → ((p && (l || (n && not r))) || (d && n && r)) ≡ true → (p ≡ true) × (l ≡ true)
 alone_parts true true n r d e h = (refl, refl)
 alone_parts true false true r d e h = absurd cc
@@ -75,7 +71,7 @@ alone : (t u : NewToken) → Known u → names.is_one t u ≡ true → Joined t 
 alone t u known h =
     let (slash, label) = alone_parts (names.is_backslash t) (names.is_label u.kind) (names.is_name u.kind)
     (names.begins_root (before u.text)) (names.is_label t.kind || names.is_namespace t) known.no_name h in
-    behind slash (left_or (names.is_label u.kind) (names.is_namespace u) label)
+    behind slash (or_left (names.is_label u.kind) (names.is_namespace u) label)
 
 word_parts : (p l n r d : Bool) → p ≡ false → ((p && (l || (n && not r))) || (d && n && r)) ≡ true → d ≡ true
 word_parts true l n r d e h = absurd cc

@@ -1,6 +1,6 @@
 -- A row of a draft's tokens gets spaces before names, and loses the trivia inside.
 use Rattle.std.proofs.Common.{◌≡◌, ℕ, Bool, true, false, cond, not, List, [], ◌∷◌, ◌++◌, map, Some, refl, sym, ◌∙◌, subst}
-use Rattle.std.proofs.lemmas.Bool.{and_parts}
+use Rattle.std.proofs.lemmas.Bool.{and_parts, not-true}
 use Rattle.php_tree.specs.declared.version.Version.TheVariants.{V74}
 use Rattle.php_tree.specs.declared.token.TokenKind.{TokenKind}
 use Rattle.php_spellings.specs.declared.table.Kind.{Kind}
@@ -10,7 +10,6 @@ use Rattle.php_lexer.specs.Modes.{Mode, code, mode_step_of}
 use Rattle.php_lexer.specs.Lexed.{Lexeme, Stack, start, stepped_by}
 use Rattle.php_relexing.specs.Tiles.{Tile, tile, joined}
 use Rattle.php_relexing.specs.Spelled.{Steps, spelled}
-use Rattle.php_relexing.proofs.Bools.{not_it}
 use Rattle.tracked_changes.specs.Pieces.{before, after}
 use Rattle.tracked_changes.specs.Draft.{NewToken}
 use Rattle.syntax_rules.specs.SplitName as names
@@ -77,7 +76,7 @@ module _ (t : NewToken) (kind : Kind) (b : ℕ) (a : List ℕ) (rest : List Tile
   dollar_parts = and_parts (not (is_dollar_brace kind)) (none_dollar rest) r.dollar
 
   onward_ok : stack_ok onward ≡ true
-  onward_ok = behind_ok r.m r.below r.depth kind (b ∷ a) (joined rest) r.ok (not_it (is_dollar_brace kind) dollar_parts.0)
+  onward_ok = behind_ok r.m r.below r.depth kind (b ∷ a) (joined rest) r.ok (not-true (is_dollar_brace kind) dollar_parts.0)
 
   onward_steps : Steps V74 onward rest
   onward_steps = steps_behind (stack_of r.m r.below r.depth) onward kind b a rest refl r.steps

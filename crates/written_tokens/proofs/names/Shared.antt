@@ -28,7 +28,7 @@ use Rattle.std.proofs.Common.{
   arith,
 }
 use Rattle.std.specs.List.{prefix_len}
-use Rattle.std.proofs.lemmas.Bool.{and_parts, eqb-true}
+use Rattle.std.proofs.lemmas.Bool.{and_parts, eqb-true, not-true}
 use Rattle.std.proofs.lemmas.Bool.Decides.{nat_tests}
 use Rattle.php_spellings.specs.declared.table.Mark.{Mark}
 use Rattle.php_spellings.specs.declared.table.Mark.TheVariants.{Double, Back, Here}
@@ -46,7 +46,6 @@ use Rattle.php_lexer.specs.Shapes.{is_binary_digit, is_hex_digit, digits_step, s
 use Rattle.php_lexer.specs.Modes.{begins_arrow}
 use Rattle.php_lexer.specs.Scan.{run_len, shape_len, here_len, behind, nothing_if, last_label_len, end_line_len}
 use Rattle.php_relexing.specs.Labels.{all_label}
-use Rattle.php_relexing.proofs.Bools.{not_it}
 
 -- ---- the bytes where an edit begins
 
@@ -157,7 +156,7 @@ module _ (f : ℕ → ℕ) (fixed : (c : ℕ) → is_cut c ≡ true → f c ≡ 
       let ih = starts_same w (and_parts (not (is_cut a)) (uncut w) out).1 more in
       (rw (ih.0) refl, λ k. ih.1 (and_parts (nat_eq a (f c)) (starts_by f w r) k).1)
   starts_same (a ∷ w) out (cut {r} {s} h k) =
-      let first = not_it (is_cut a) (and_parts (not (is_cut a)) (uncut w) out).0 in
+      let first = not-true (is_cut a) (and_parts (not (is_cut a)) (uncut w) out).0 in
       let one = starts_cut a w r first h in
       let two = starts_cut a w s first k in
       (one ∙ sym two, λ e. absurd (let clash : true ≡ false = sym e ∙ one in cc))
@@ -296,7 +295,7 @@ last_same (a ∷ label) out {r} {s} h = behind_same as_it_is as_is (a ∷ label)
 last_cut : (label : List ℕ) (b : ℕ) (bs : List ℕ) → uncut label ≡ true → is_cut b ≡ true → last_label_len label (b ∷ bs) ≡ None
 last_cut [] b bs out h = refl
 last_cut (a ∷ label) b bs out h =
-    let first = not_it (is_cut a) (and_parts (not (is_cut a)) (uncut label) out).0 in
+    let first = not-true (is_cut a) (and_parts (not (is_cut a)) (uncut label) out).0 in
     let other : nat_eq a b ≡ false = other_byte a b (nat_eq a b) refl h first in
     rw other refl
 

@@ -1,6 +1,6 @@
 -- The first line of a nowdoc.
 use Rattle.std.proofs.Common.{◌≡◌, ℕ, suc, ◌+◌, Bool, true, false, cond, ◌&&◌, nat_eq, List, [], ◌∷◌, ◌++◌, length, take, drop, refl, sym, ap, ◌∙◌, subst, append_assoc, arith}
-use Rattle.std.proofs.lemmas.Bool.{and_parts, eqb-true}
+use Rattle.std.proofs.lemmas.Bool.{and_parts, eqb-true, and_from}
 use Rattle.std.proofs.lemmas.List.{length-append}
 use Rattle.std.proofs.Math.Seq.{take-append_seam, drop-append_seam}
 use Rattle.php_spellings.specs.Bytes.{is_blank_byte, is_line_end, is_letter, is_label_byte, begins, begins_by, skip_blanks, blanks_len, label_len}
@@ -11,10 +11,6 @@ use Rattle.php_relexing.proofs.HeredocFronts.{skip_by}
 abbrev pub all_blank : List ℕ → Bool
 all_blank [] = true
 all_blank (b ∷ k) = is_blank_byte b && all_blank k
-
-both_true : (x y : Bool) → x ≡ true → y ≡ true → (x && y) ≡ true
-both_true true y h k = k
-both_true false y h k = absurd cc
 
 -- ---- blanks before the quote
 
@@ -44,7 +40,7 @@ blanks_by : (b : ℕ) (bs : List ℕ) → (begins_by 39 (skip_blanks bs) ≡ tru
     → is_blank_byte b ≡ t → begins_by 39 (skip_blanks (b ∷ bs)) ≡ true → Blanks (b ∷ bs)
 blanks_by b bs ih true e h =
     let is = ih (sym (ap (begins_by 39) (skip_by b bs true e)) ∙ h) in
-    record { blanks = b ∷ is.blanks; more = is.more; all = both_true (is_blank_byte b) (all_blank is.blanks) e is.all; same = ap (λ (u : List ℕ). b ∷ u) is.same }
+    record { blanks = b ∷ is.blanks; more = is.more; all = and_from (is_blank_byte b) (all_blank is.blanks) e is.all; same = ap (λ (u : List ℕ). b ∷ u) is.same }
 blanks_by b bs ih false e h =
     let quote : nat_eq b 39 ≡ true = sym (ap (begins_by 39) (skip_by b bs false e)) ∙ h in
     record { blanks = []; more = bs; all = refl; same = ap (λ (x : ℕ). x ∷ bs) (eqb-true b 39 quote) }
@@ -75,7 +71,7 @@ run_split : (b : ℕ) (u : List ℕ) → (begins_by 39 (drop (label_len u) u) �
     → is_label_byte b ≡ t → begins_by 39 (drop (label_len (b ∷ u)) (b ∷ u)) ≡ true → Run (b ∷ u)
 run_split b u ih true e h =
     let is = ih (sym (ap (λ (n : ℕ). begins_by 39 (drop n (b ∷ u))) (run_by b u true e)) ∙ h) in
-    record { label = b ∷ is.label; more = is.more; all = both_true (is_label_byte b) (all_label is.label) e is.all; same = ap (λ (v : List ℕ). b ∷ v) is.same }
+    record { label = b ∷ is.label; more = is.more; all = and_from (is_label_byte b) (all_label is.label) e is.all; same = ap (λ (v : List ℕ). b ∷ v) is.same }
 run_split b u ih false e h =
     let quote : nat_eq b 39 ≡ true = sym (ap (λ (n : ℕ). begins_by 39 (drop n (b ∷ u))) (run_by b u false e)) ∙ h in
     record { label = []; more = u; all = refl; same = ap (λ (x : ℕ). x ∷ u) (eqb-true b 39 quote) }

@@ -1,6 +1,6 @@
 -- Casts and `from` among the tiles of code that come first.
 use Rattle.std.proofs.Common.{◌≡◌, ℕ, suc, Bool, true, false, cond, not, ◌&&◌, ◌||◌, nat_eq, List, [], ◌∷◌, ◌++◌, length, refl, sym, ap, ◌∙◌, subst, arith}
-use Rattle.std.proofs.lemmas.Bool.{and_parts, eqb-true}
+use Rattle.std.proofs.lemmas.Bool.{and_parts, eqb-true, not-true}
 use Rattle.std.proofs.lemmas.Bool.Decides.{nat_tests}
 use Rattle.php_tree.specs.declared.version.Version.TheVariants.{V74}
 use Rattle.php_spellings.specs.declared.table.Kind.{Kind}
@@ -12,7 +12,7 @@ use Rattle.php_relexing.specs.Tiles.{Tile, tile, joined}
 use Rattle.php_relexing.specs.Spelled.{Steps}
 use Rattle.php_relexing.specs.Labels.{all_label, is_label}
 use Rattle.php_relexing.specs.Words.{ends_cast, goes_cast, begins_cast}
-use Rattle.php_relexing.proofs.Bools.{not_it, and_false}
+use Rattle.php_relexing.proofs.Bools.{and_false}
 use Rattle.php_relexing.proofs.Labels.{words_are_labels}
 use Rattle.php_relexing.proofs.Spaces.{all_space}
 use Rattle.written_tokens.specs.tokens.Levels.{stack_of}
@@ -259,7 +259,7 @@ casts_go (escaped b c a e d l) t h = and_false (begins_type (c ∷ e))
 -- ---- no cast where the first tile that stops one doesn't begin with `)`
 
 stop_round : (b : ℕ) → not (nat_eq b 41) ≡ true → nat_eq b 41 ≡ false
-stop_round b h = not_it (nat_eq b 41) h
+stop_round b h = not-true (nat_eq b 41) h
 
 uncast_ends_by : (kind : Kind) (b : ℕ) (a : List ℕ) (ts rest : List Tile) → Stand kind
     → (is_uncast ts ≡ true → ends_ahead (ts ++ rest) ≡ false) → is_uncast (tile kind b a ∷ ts) ≡ true

@@ -1,6 +1,6 @@
 -- `from` among the tiles of code that come first, and the end of a line.
 use Rattle.std.proofs.Common.{◌≡◌, ℕ, suc, Bool, true, false, cond, not, ◌&&◌, ◌||◌, nat_eq, List, [], ◌∷◌, ◌++◌, length, codes, inl, inr, refl, sym, ◌∙◌, subst}
-use Rattle.std.proofs.lemmas.Bool.{and_parts, eqb-true}
+use Rattle.std.proofs.lemmas.Bool.{and_parts, eqb-true, or_left}
 use Rattle.php_tree.specs.declared.version.Version.TheVariants.{V74}
 use Rattle.php_spellings.specs.declared.table.Kind.{Kind}
 use Rattle.php_spellings.specs.declared.table.Kind.TheVariants.{Space, Word, Keyword, Piece}
@@ -17,7 +17,6 @@ use Rattle.written_tokens.specs.tiles.ContinuesAs.{stops_cast, begins_token, is_
 use Rattle.written_tokens.specs.tiles.Going.{CodeContinues}
 use Rattle.written_tokens.proofs.tiles.Ahead.{Coded, coded, not_space, cast_is, casts_go}
 use Rattle.written_tokens.proofs.tiles.Behind.{space_all, word_behind, keyword_first, question_behind}
-use Rattle.written_tokens.proofs.tiles.Bools.{or_left}
 use Rattle.written_tokens.proofs.tiles.Going.{first_stays}
 use Rattle.written_tokens.proofs.tiles.Standing.{is_space_kind, is_word_kind, is_token_kind, Stand, space, word, keyword, other, stand, mark_kind, begins_is}
 use Rattle.written_tokens.proofs.tiles.Letters.{alone_same, no_from_stops}

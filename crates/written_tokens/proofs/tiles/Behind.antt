@@ -1,6 +1,6 @@
 -- What the source's tokens of code say of the bytes behind them.
 use Rattle.std.proofs.Common.{◌≡◌, ℕ, suc, Bool, true, false, cond, not, ◌&&◌, ◌||◌, nat_eq, List, [], ◌∷◌, ◌++◌, length, drop, codes, refl, sym, arith}
-use Rattle.std.proofs.lemmas.Bool.{and_parts, eqb-true}
+use Rattle.std.proofs.lemmas.Bool.{and_parts, eqb-true, not-true}
 use Rattle.std.proofs.lemmas.Bool.Decides.{nat_tests}
 use Rattle.php_tree.specs.declared.version.Version.TheVariants.{V74}
 use Rattle.php_spellings.specs.declared.table.Kind.{Kind}
@@ -16,7 +16,6 @@ use Rattle.php_lexer.specs.Rules.{begins_text}
 use Rattle.php_lexer.specs.RulesCode.{code_rows}
 use Rattle.php_lexer.specs.Modes.{code, IsLongest}
 use Rattle.php_relexing.specs.Labels.{all_label}
-use Rattle.php_relexing.proofs.Bools.{not_it}
 use Rattle.php_relexing.proofs.Labels.{words_are_labels}
 use Rattle.php_relexing.proofs.Picked.{longest_meets}
 use Rattle.php_relexing.proofs.Spaces.{all_space}
@@ -133,7 +132,7 @@ third_of true false o x n h = absurd cc
 third_of false r o x n h = absurd cc
 
 not_label : (r : List ℕ) → no_label r ≡ true → begins is_label_byte r ≡ false
-not_label r h = not_it (begins is_label_byte r) h
+not_label r h = not-true (begins is_label_byte r) h
 
 last_is : (f : ℕ) → nat_eq 109 (lower f) ≡ true → nat_eq (lower f) 109 ≡ true
 last_is f e = grind (arith, nat_tests)

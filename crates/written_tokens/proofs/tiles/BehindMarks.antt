@@ -30,7 +30,7 @@ use Rattle.std.proofs.Common.{
   subst,
   arith,
 }
-use Rattle.std.proofs.lemmas.Bool.{and_parts, eqb-true}
+use Rattle.std.proofs.lemmas.Bool.{and_parts, eqb-true, and_from}
 use Rattle.std.proofs.lemmas.Bool.Decides.{nat_tests}
 use Rattle.php_tree.specs.declared.version.Version.TheVariants.{V74}
 use Rattle.php_spellings.specs.declared.table.Kind.{Kind}
@@ -108,9 +108,6 @@ second_line : (a r : List ℕ) → begins_by 47 a ≡ true → IsLongest V74 cod
 second_line [] r e h = absurd cc
 second_line (c ∷ a) r e h = slash_line a r (subst (λ (x : ℕ). IsLongest V74 code (47 ∷ x ∷ a ++ r) Comment (suc (suc (length a)))) (eqb-true c 47 e) h)
 
-and_true : (x y : Bool) → x ≡ true → y ≡ true → (x && y) ≡ true
-and_true x y h k = rw (h, k) refl
-
 -- behind a comment that isn't between `/*` and `*/`
 pub line_behind : (b : ℕ) (a r : List ℕ) → (nat_eq b 47 && begins_by 42 a) ≡ false → IsLongest V74 code (b ∷ a ++ r) Comment (suc (length a)) → stops_line r ≡ true
 line_behind b a r plain h =
@@ -123,7 +120,7 @@ line_behind b a r plain h =
             let (first, more) = and_parts (nat_eq 47 (lower b)) (led lower (42 ∷ []) (is_tail [] (UpTo Block)) a r) block in
             let second = led_second 42 (is_tail [] (UpTo Block)) a r refl more in
             let same : b ≡ 47 = mark_same 47 b refl first in
-            opposite (nat_eq b 47 && begins_by 42 a) (and_true (nat_eq b 47) (begins_by 42 a) (same_byte b 47 same) second) plain
+            opposite (nat_eq b 47 && begins_by 42 a) (and_from (nat_eq b 47) (begins_by 42 a) (same_byte b 47 same) second) plain
         | inr line ↦
             let (first, more) = and_parts (nat_eq 47 (lower b)) (led lower (47 ∷ []) (is_tail [] (AnyRun Line)) a r) (or_none _ line) in
             let second = led_second 47 (is_tail [] (AnyRun Line)) a r refl more in

@@ -14,14 +14,6 @@ and_not_or true true z = refl
 and_not_or true false z = refl
 and_not_or false y z = refl
 
-pub or_left : (x y : Bool) → x ≡ true → (x || y) ≡ true
-or_left true y h = refl
-or_left false y h = absurd cc
-
-pub or_right : (x y : Bool) → y ≡ true → (x || y) ≡ true
-or_right true y h = refl
-or_right false y h = h
-
 pub never : (t x : Bool) → (t && false) ≡ true → x ≡ true
 never true x h = absurd cc
 never false x h = absurd cc

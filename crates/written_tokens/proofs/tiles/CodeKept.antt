@@ -1,6 +1,6 @@
 -- Tokens and trivia of code before bytes that go on as those in the source.
 use Rattle.std.proofs.Common.{◌≡◌, ℕ, suc, Bool, true, false, cond, not, ◌&&◌, ◌||◌, nat_eq, List, [], ◌∷◌, ◌++◌, length, drop, inl, inr, refl, sym, ap, ◌∙◌, subst, arith}
-use Rattle.std.proofs.lemmas.Bool.{and_parts, eqb-true}
+use Rattle.std.proofs.lemmas.Bool.{and_parts, eqb-true, not_from_false, and_from, or_left, or_right, not-true}
 use Rattle.std.proofs.lemmas.Bool.Decides.{nat_tests}
 use Rattle.php_tree.specs.declared.version.Version.TheVariants.{V74}
 use Rattle.php_spellings.specs.declared.table.Kind.{Kind}
@@ -44,7 +44,7 @@ use Rattle.php_relexing.specs.Angles.{slash_ends, less_ends, close_ends}
 use Rattle.php_relexing.specs.Comments.{stops_line}
 use Rattle.php_relexing.specs.Labels.{all_label}
 use Rattle.php_relexing.specs.Words.{begins_from, begins_cast}
-use Rattle.php_relexing.proofs.Bools.{not_it, and_false}
+use Rattle.php_relexing.proofs.Bools.{and_false}
 use Rattle.php_relexing.proofs.Labels.{words_are_labels}
 use Rattle.php_relexing.proofs.Openings.{openings_are_uncast}
 use Rattle.php_relexing.proofs.Operators.{OneOf, one_of, is_op, is_close, mark_same}
@@ -67,21 +67,13 @@ use Rattle.written_tokens.proofs.tiles.Behind.{
   end_alone,
   end_return,
 }
-use Rattle.written_tokens.proofs.tiles.Bools.{or_left, or_right}
 use Rattle.written_tokens.proofs.tiles.Docs.{shift_stays, b_behind, b_stays}
 use Rattle.written_tokens.proofs.tiles.Onward.{Onward}
 use Rattle.written_tokens.proofs.tiles.Yields.{word_from_stays}
 
-to_not : (x : Bool) → x ≡ false → not x ≡ true
-to_not x h = rw h refl
-
 cond_true : (x y z : Bool) → x ≡ true → y ≡ true → cond x y z ≡ true
 cond_true true y z e h = h
 cond_true false y z e h = absurd cc
-
-both_true : (x y : Bool) → x ≡ true → y ≡ true → (x && y) ≡ true
-both_true true y e h = h
-both_true false y e h = absurd cc
 
 -- the kinds of no token of code
 abbrev no_code : Kind → Bool
@@ -198,7 +190,7 @@ module _ (tight gap : Bool) (r s : List ℕ) (on : GoesOn tight gap r s) where
       tight_word : nat_eq (lower b) 98 ≡ true → is_tight b (z ∷ a ++ r) ≡ true → is_tight b (z ∷ a ++ s) ≡ true → stays_before Word b (z ∷ a) r s ≡ true
       tight_word e f h =
           cond_true (nat_eq (lower b) 98) (is_tight b (z ∷ a ++ r) && is_tight b (z ∷ a ++ s)) (not (begins is_label_byte s) && not (begins_from s)) e
-          (both_true (is_tight b (z ∷ a ++ r)) (is_tight b (z ∷ a ++ s)) f h)
+          (and_from (is_tight b (z ∷ a ++ r)) (is_tight b (z ∷ a ++ s)) f h)
 
   other_word : (b : ℕ) (a : List ℕ) → nat_eq (lower b) 98 ≡ false → Old Word b a → (x : Bool) → begins_from r ≡ x → New Word b a
   other_word b a e l true f =
@@ -233,7 +225,7 @@ module _ (tight gap : Bool) (r s : List ℕ) (on : GoesOn tight gap r s) where
   not_first : (p : ℕ → Bool) (x : Bool) → (not (p 35 || p 40 || p 41 || p 91 || p 92 || p 93 || p 123 || p 125)) ≡
       true → p 32 ≡ false → (x || not (begins p r)) ≡ true → (x || not (begins p s)) ≡ true
   not_first p true out blank h = refl
-  not_first p false out blank h = to_not (begins p s) (on.first p out blank (not_it (begins p r) h))
+  not_first p false out blank h = not_from_false (begins p s) (on.first p out blank (not-true (begins p r) h))
 
   slash_so : (a : List ℕ) → slash_ends a r ≡ true → slash_ends a s ≡ true
   slash_so a h = not_first (λ (c : ℕ). nat_eq c 42 || nat_eq c 47 || nat_eq c 61) (not (is_empty a)) refl refl h
@@ -273,7 +265,7 @@ module _ (tight gap : Bool) (r s : List ℕ) (on : GoesOn tight gap r s) where
   question_by b a l false e = refl
   question_by b (c ∷ a) l true e = refl
   question_by b [] l true e =
-      to_not (begins_by 62 s)
+      not_from_false (begins_by 62 s)
       (on.first (λ (x : ℕ). nat_eq x 62) refl refl (question_behind Op r (subst (λ (x : ℕ). Old Op x []) (eqb-true b 63 e) l)))
 
   op_by : (b : ℕ) (a : List ℕ) → (nat_eq b 40 ≡ true → tight ≡ true) → Old Op b a → (x y z : Bool) → nat_eq b 40 ≡ x → nat_eq b 47 ≡ y → nat_eq b 60 ≡ z → New Op b a
@@ -310,7 +302,7 @@ module _ (tight gap : Bool) (r s : List ℕ) (on : GoesOn tight gap r s) where
 
   pub kept : (kind : Kind) (b : ℕ) (a : List ℕ) → Kept kind b a
   kept Space b a h t g l =
-      code_stays Space b a r s on.alike (to_not (begins is_space s) (on.spaces (g refl) (space_behind b a r l))) l
+      code_stays Space b a r s on.alike (not_from_false (begins is_space s) (on.spaces (g refl) (space_behind b a r l))) l
   kept Comment b a h t g l =
       code_stays Comment b a r s on.alike (comment_by (g refl) b a l (nat_eq b 47 && begins_by 42 a) refl) l
   kept Tag b a h t g l = never Tag b a r refl l
@@ -320,7 +312,7 @@ module _ (tight gap : Bool) (r s : List ℕ) (on : GoesOn tight gap r s) where
   kept Word b a h t g l = word_by b a l (nat_eq (lower b) 98) refl
   kept Label b a h t g l = never Label b a r refl l
   kept Keyword b a h t g l =
-      code_stays Keyword b a r s on.alike (to_not (begins is_label_byte s) (on.first is_label_byte refl refl (keyword_behind b a r l))) l
+      code_stays Keyword b a r s on.alike (not_from_false (begins is_label_byte s) (on.first is_label_byte refl refl (keyword_behind b a r l))) l
   kept Name b a h t g l = never Name b a r refl l
   kept Decimal b a h t g l = code_stays Decimal b a r s on.alike refl l
   kept Octal b a h t g l = code_stays Octal b a r s on.alike refl l

@@ -1,6 +1,6 @@
 -- `<<` and the word `b`, before `<`: what goes on so makes no heredoc and no nowdoc of them.
 use Rattle.std.proofs.Common.{◌≡◌, ℕ, ◌+◌, Bool, true, false, cond, not, ◌&&◌, nat_eq, nat_le, nat_lt, List, [], ◌∷◌, drop, Option, Some, None, refl, sym, ap, ◌∙◌, subst, arith}
-use Rattle.std.proofs.lemmas.Bool.{eqb-true}
+use Rattle.std.proofs.lemmas.Bool.{eqb-true, not-true}
 use Rattle.std.proofs.lemmas.Bool.Decides.{nat_tests}
 use Rattle.php_tree.specs.declared.version.Version.TheVariants.{V74}
 use Rattle.php_spellings.specs.declared.table.Kind.{Kind}
@@ -15,7 +15,6 @@ use Rattle.php_lexer.specs.Scan.{scan, scan_by, shape_len, add_to, longer}
 use Rattle.php_lexer.proofs.Dispatch.{other_head, letter_scan, older_scan}
 use Rattle.php_relexing.specs.Angles.{less_ends}
 use Rattle.php_relexing.proofs.Angles.{angles_stay}
-use Rattle.php_relexing.proofs.Bools.{not_it}
 use Rattle.php_relexing.proofs.Operators.{is_op}
 use Rattle.php_relexing.proofs.Picked.{longest_meets}
 use Rattle.php_relexing.proofs.Scanned.{found, scan_of, longest_of}
@@ -47,7 +46,7 @@ start_found (Some n) h = absurd (let clash : false ≡ true = rw (three_more n) 
 shift_no_doc : (r : List ℕ) → IsLongest V74 code (60 ∷ 60 ∷ 60 ∷ r) Op 2 → NoDoc r
 shift_no_doc r h =
     let one : not (begins_nowdoc r) ≡ true = or_none _ (longest_meets is_op V74 code (60 ∷ 60 ∷ []) (60 ∷ r) Op refl h) in
-    let nowdoc = not_it (begins_nowdoc r) one in
+    let nowdoc = not-true (begins_nowdoc r) one in
     record {
       nowdoc = nowdoc;
       heredoc = start_found (shape_len shape.HeredocLine Begin r) (ap op_found (sym (doc_scan r nowdoc) ∙ scan_of V74 code (60 ∷ 60 ∷ 60 ∷ r) Op 2 h));
@@ -131,7 +130,7 @@ small_b = record {
   row = λ s n. rw n refl;
   single = λ r h. let e = longest_meets is_word V74 code (98 ∷ []) (39 ∷ r) Word refl h in cc;
   double = λ r h. let e = longer_in code 98 34 [] r Word h in cc;
-  nowdoc = λ r h. not_it (begins_nowdoc r) (or_none _ (longest_meets is_word V74 code (98 ∷ []) (60 ∷ 60 ∷ 60 ∷ r) Word refl h));
+  nowdoc = λ r h. not-true (begins_nowdoc r) (or_none _ (longest_meets is_word V74 code (98 ∷ []) (60 ∷ 60 ∷ 60 ∷ r) Word refl h));
 }
 
 -- ---- `B`
@@ -155,7 +154,7 @@ large_b = record {
   row = λ s n. rw n refl;
   single = λ r h. let e = longest_meets is_word V74 code (66 ∷ []) (39 ∷ r) Word refl h in cc;
   double = λ r h. let e = longer_in code 66 34 [] r Word h in cc;
-  nowdoc = λ r h. not_it (begins_nowdoc r) (or_none _ (longest_meets is_word V74 code (66 ∷ []) (60 ∷ 60 ∷ 60 ∷ r) Word refl h));
+  nowdoc = λ r h. not-true (begins_nowdoc r) (or_none _ (longest_meets is_word V74 code (66 ∷ []) (60 ∷ 60 ∷ 60 ∷ r) Word refl h));
 }
 
 -- ---- either

@@ -27,7 +27,7 @@ use Rattle.std.proofs.Common.{
   append_assoc,
   arith,
 }
-use Rattle.std.proofs.lemmas.Bool.{and_parts, eqb-true}
+use Rattle.std.proofs.lemmas.Bool.{and_parts, eqb-true, or_right, or_left, and_left, and_right}
 use Rattle.std.proofs.lemmas.Bool.Decides.{nat_tests}
 use Rattle.php_tree.specs.declared.version.Version.TheVariants.{V74}
 use Rattle.php_spellings.specs.declared.table.Kind.{Kind}
@@ -86,15 +86,11 @@ or_last : (x y z : Bool) → y ≡ true → z ≡ true → (x || y && z) ≡ tru
 or_last true y z e f = refl
 or_last false y z e f = rw (e, f) refl
 
-or_2 : (x y : Bool) → y ≡ true → (x || y) ≡ true
-or_2 true y e = refl
-or_2 false y e = e
-
 spaced_tag : (k : ℕ) (y : List ℕ) → is_mark k ≡ true → is_space k ≡ true → starts_word (codes "?php" ++ k ∷ []) y ≡ true → begins_tag y ≡ true
 spaced_tag k y m s h =
     let (front, last) = cut_word (codes "?php") k y h in
     or_last (starts_word (codes "?=") y) (starts_word (codes "?php") y) (is_empty (drop 4 y) || begins is_space (drop 4 y)) front
-    (or_2 (is_empty (drop 4 y)) (begins is_space (drop 4 y)) (space_next k (drop 4 y) m s last))
+    (or_right (is_empty (drop 4 y)) (begins is_space (drop 4 y)) (space_next k (drop 4 y) m s last))
 
 cut_return : (w y : List ℕ) → starts_word (w ++ 13 ∷ 10 ∷ []) y ≡ true → starts_word (w ++ 13 ∷ []) y ≡ true
 cut_return [] [] h = absurd cc
@@ -113,14 +109,10 @@ empty_led (x ∷ w) (b ∷ t) r h =
     let (front, last) = empty_led w t r more in
     (rw (here, front) refl, last)
 
-or_first : (x y : Bool) → x ≡ true → (x || y) ≡ true
-or_first true y e = refl
-or_first false y e = absurd cc
-
 last_tag : (y : List ℕ) → starts_word (codes "?php") y ≡ true → is_empty (drop 4 y) ≡ true → begins_tag y ≡ true
 last_tag y e f = or_last (starts_word (codes "?=") y) (starts_word (codes "?php") y)
     (is_empty (drop 4 y) || begins is_space (drop 4 y)) e
-    (or_first (is_empty (drop 4 y)) (begins is_space (drop 4 y)) f)
+    (or_left (is_empty (drop 4 y)) (begins is_space (drop 4 y)) f)
 
 anything : List ℕ → Bool
 anything bs = true
@@ -138,7 +130,7 @@ tag_opens c e x kind t l =
     elim (or_case (led lower (codes "<?=") (no_more (λ bs. true)) (c ∷ e) x) _ (longest_meets is_tag V74 html (c ∷ e) x kind t l)) [
       | inl echo ↦
           let (angle, more) = angle_of c _ echo in
-          record { angle = angle; tag = or_first (starts_word (codes "?=") (e ++ x)) _ (starts_led (codes "?=") (λ bs. true) e x more) }
+          record { angle = angle; tag = or_left (starts_word (codes "?=") (e ++ x)) _ (starts_led (codes "?=") (λ bs. true) e x more) }
       | inr one ↦ elim (or_case (led lower (codes "<?php ") (no_more (λ bs. true)) (c ∷ e) x) _ one) [
         | inl space ↦
             let (angle, more) = angle_of c _ space in
@@ -246,13 +238,6 @@ fifth false false false true e f h = absurd cc
 fifth false false false false true f h = absurd cc
 fifth false false false false false f h = refl
 
-left_no : (x y : Bool) → x ≡ false → (x && y) ≡ false
-left_no x y e = rw e refl
-
-right_no : (x y : Bool) → y ≡ false → (x && y) ≡ false
-right_no true y e = e
-right_no false y e = refl
-
 feed_longer : (b : ℕ) (a r : List ℕ) → led lower (codes "<?php\r") (no_more (λ bs. true)) (b ∷ a) (10 ∷ r) ≡ true → IsLongest V74 html (b ∷ a ++ 10 ∷ r) Tag (suc (length a)) → ⊥
 feed_longer b a r e l =
     let none =
@@ -281,16 +266,16 @@ return_behind b a (c ∷ r) e l = by_case (nat_eq c 10) refl
 pub tag_behind : (b : ℕ) (a r : List ℕ) → IsLongest V74 html (b ∷ a ++ r) Tag (suc (length a)) → (ends_return (b ∷ a) && begins_by 10 r) ≡ false
 tag_behind b a r l =
     elim (or_case (led lower (codes "<?php ") (no_more (λ bs. true)) (b ∷ a) r) _ (longest_meets is_only_tag V74 html (b ∷ a) r Tag refl l)) [
-      | inl space ↦ left_no (ends_return (b ∷ a)) (begins_by 10 r) (led_return (codes "<?php ") (λ bs. true) (b ∷ a) r space)
+      | inl space ↦ and_left (ends_return (b ∷ a)) (begins_by 10 r) (led_return (codes "<?php ") (λ bs. true) (b ∷ a) r space)
       | inr two ↦ elim (or_case (led lower (codes "<?php\t") (no_more (λ bs. true)) (b ∷ a) r) _ two) [
-        | inl tab ↦ left_no (ends_return (b ∷ a)) (begins_by 10 r) (led_return (codes "<?php\t") (λ bs. true) (b ∷ a) r tab)
+        | inl tab ↦ and_left (ends_return (b ∷ a)) (begins_by 10 r) (led_return (codes "<?php\t") (λ bs. true) (b ∷ a) r tab)
         | inr three ↦ elim (or_case (led lower (codes "<?php\n") (no_more (λ bs. true)) (b ∷ a) r) _ three) [
-          | inl feed ↦ left_no (ends_return (b ∷ a)) (begins_by 10 r) (led_return (codes "<?php\n") (λ bs. true) (b ∷ a) r feed)
+          | inl feed ↦ and_left (ends_return (b ∷ a)) (begins_by 10 r) (led_return (codes "<?php\n") (λ bs. true) (b ∷ a) r feed)
           | inr four ↦ elim (or_case (led lower (codes "<?php\r") (no_more (λ bs. true)) (b ∷ a) r) _ four) [
-            | inl return ↦ right_no (ends_return (b ∷ a)) (begins_by 10 r) (return_behind b a r return l)
+            | inl return ↦ and_right (ends_return (b ∷ a)) (begins_by 10 r) (return_behind b a r return l)
             | inr five ↦ elim (or_case (led lower (codes "<?php\r\n") (no_more (λ bs. true)) (b ∷ a) r) _ five) [
-              | inl both ↦ left_no (ends_return (b ∷ a)) (begins_by 10 r) (led_return (codes "<?php\r\n") (λ bs. true) (b ∷ a) r both)
-              | inr last ↦ left_no (ends_return (b ∷ a)) (begins_by 10 r) (led_return (codes "<?php") is_empty (b ∷ a) r (or_none _ last))
+              | inl both ↦ and_left (ends_return (b ∷ a)) (begins_by 10 r) (led_return (codes "<?php\r\n") (λ bs. true) (b ∷ a) r both)
+              | inr last ↦ and_left (ends_return (b ∷ a)) (begins_by 10 r) (led_return (codes "<?php") is_empty (b ∷ a) r (or_none _ last))
             ]
           ]
         ]

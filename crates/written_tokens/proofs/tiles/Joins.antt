@@ -1,5 +1,6 @@
 -- Rows that become others join.
 use Rattle.std.proofs.Common.{◌≡◌, ℕ, Bool, true, false, not, ◌&&◌, ◌||◌, List, [], ◌∷◌, ◌++◌, refl, sym, subst, append_assoc}
+use Rattle.std.proofs.lemmas.Bool.{or_left, or_right}
 use Rattle.php_tree.specs.declared.version.Version.TheVariants.{V74}
 use Rattle.php_lexer.specs.Modes.{Mode}
 use Rattle.php_relexing.specs.Tiles.{Tile, tile}
@@ -7,7 +8,7 @@ use Rattle.php_relexing.specs.Spelled.{Steps}
 use Rattle.written_tokens.specs.tokens.Levels.{stack_of}
 use Rattle.written_tokens.specs.tiles.ContinuesAs.{is_trivia, ContinuesAs}
 use Rattle.written_tokens.specs.tiles.IsRewrittenTo.{gap_behind, IsRewrittenTo, RewritingsJoin, IsRewrittenLoosely}
-use Rattle.written_tokens.proofs.tiles.Bools.{and_true, and_not_or, or_left, or_right, never}
+use Rattle.written_tokens.proofs.tiles.Bools.{and_true, and_not_or, never}
 use Rattle.written_tokens.proofs.tiles.Going.{tighter}
 
 pub gap_append : (gap : Bool) (ts us : List Tile) → gap_behind gap (ts ++ us) ≡ gap_behind (gap_behind gap ts) us

@@ -29,7 +29,7 @@ use Rattle.std.proofs.Common.{
   subst,
   arith,
 }
-use Rattle.std.proofs.lemmas.Bool.{and_parts, eqb-true}
+use Rattle.std.proofs.lemmas.Bool.{and_parts, eqb-true, and_left}
 use Rattle.std.proofs.lemmas.Bool.Decides.{nat_tests}
 use Rattle.php_tree.specs.declared.version.Version.TheVariants.{V74}
 use Rattle.php_spellings.specs.declared.table.Kind.{Kind}
@@ -53,9 +53,6 @@ use Rattle.written_tokens.proofs.tiles.Standing.{is_space_kind}
 
 -- ---- a word alone, where no label goes on behind
 
-and_false_left : (x y : Bool) → x ≡ false → (x && y) ≡ false
-and_false_left x y h = rw h refl
-
 no_start : (x : ℕ) (w s : List ℕ) → is_small x ≡ true → begins is_label_byte s ≡ false → starts_word (x ∷ w) s ≡ false
 no_start x w [] small e = refl
 no_start x w (c ∷ s) small e = by_case (nat_eq x (lower c)) refl
@@ -73,7 +70,7 @@ alone_step w t s false h = refl
 pub alone_same : (w t s : List ℕ) → all_small w ≡ true → begins is_label_byte s ≡ false → word_alone w (t ++ s) ≡ word_alone w t
 alone_same [] [] s h e = rw e refl
 alone_same [] (b ∷ t) s h e = refl
-alone_same (x ∷ w) [] s h e = and_false_left (starts_word (x ∷ w) s) (no_label (drop (length (x ∷ w)) s)) (no_start x w s (and_parts (is_small x) (all_small w) h).0 e)
+alone_same (x ∷ w) [] s h e = and_left (starts_word (x ∷ w) s) (no_label (drop (length (x ∷ w)) s)) (no_start x w s (and_parts (is_small x) (all_small w) h).0 e)
 alone_same (x ∷ w) (b ∷ t) s h e = alone_step w t s (nat_eq x (lower b)) (alone_same w t s (and_parts (is_small x) (all_small w) h).1 e)
 
 -- each of the words has letters alone

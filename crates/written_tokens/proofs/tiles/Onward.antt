@@ -1,6 +1,6 @@
 -- Bytes that go on as the source's do begin no heredoc and no nowdoc where those begin none.
 use Rattle.std.proofs.Common.{◌≡◌, ℕ, suc, ◌+◌, Bool, true, false, cond, not, ◌&&◌, ◌||◌, nat_eq, List, [], ◌∷◌, ◌++◌, drop, Option, Some, None, refl, sym, ap, ◌∙◌, subst, arith}
-use Rattle.std.proofs.lemmas.Bool.{and_parts, eqb-true}
+use Rattle.std.proofs.lemmas.Bool.{and_parts, eqb-true, or_parts}
 use Rattle.php_spellings.specs.declared.table.Shape.TheVariants as shape
 use Rattle.php_spellings.specs.declared.table.Spot.{Spot}
 use Rattle.php_spellings.specs.declared.table.Spot.TheVariants.{
@@ -85,10 +85,6 @@ none_5 c false false false false false u e f g i j h = record { blank = e; line 
 bar : (c : ℕ) → is_bar c ≡ true → Bar c
 bar c h = none_5 c (is_blank_byte c) (is_line_end c) (is_label_byte c) (nat_eq c 34) (nat_eq c 39) (nat_eq c 60) refl refl refl refl refl h
 
-left_false : (x y : Bool) → (x || y) ≡ false → (x ≡ false) × (y ≡ false)
-left_false true y h = absurd cc
-left_false false y h = (refl, h)
-
 -- ---- the first line of a heredoc
 
 abbrev pub is_some : Option ℕ → Bool
@@ -115,7 +111,7 @@ here_may false h = absurd cc
 
 bar_stuck : (spot : Spot) (c : ℕ) → Bar c → is_stuck (step shape.HeredocLine spot c) ≡ true
 bar_stuck Begin c h =
-    let letter = (left_false (is_letter c) _ h.label).0 in
+    let letter = (or_parts (is_letter c) _ h.label).0 in
     rw (h.blank, letter, h.double) refl
 bar_stuck Whole c h = refl
 bar_stuck WholeGap c h = refl
@@ -128,16 +124,16 @@ bar_stuck Sign c h = refl
 bar_stuck Power c h = refl
 bar_stuck PowerGap c h = refl
 bar_stuck FirstLabel c h =
-    let ends = left_false (nat_eq c 10) (nat_eq c 13) h.line in
+    let ends = or_parts (nat_eq c 10) (nat_eq c 13) h.line in
     rw (h.label, ends.0, ends.1) refl
 bar_stuck Backslash c h = refl
 bar_stuck LaterLabel c h = refl
-bar_stuck OpenedLabel c h = let letter = (left_false (is_letter c) _ h.label).0 in rw letter refl
+bar_stuck OpenedLabel c h = let letter = (or_parts (is_letter c) _ h.label).0 in rw letter refl
 bar_stuck QuotedLabel c h = rw (h.label, h.double) refl
 bar_stuck ClosedLabel c h =
-    let ends = left_false (nat_eq c 10) (nat_eq c 13) h.line in
+    let ends = or_parts (nat_eq c 10) (nat_eq c 13) h.line in
     rw (ends.0, ends.1) refl
-bar_stuck Return c h = let ends = left_false (nat_eq c 10) (nat_eq c 13) h.line in rw ends.0 refl
+bar_stuck Return c h = let ends = or_parts (nat_eq c 10) (nat_eq c 13) h.line in rw ends.0 refl
 bar_stuck Line c h = refl
 bar_stuck Stuck c h = refl
 
@@ -227,7 +223,7 @@ label_closes (same {r = r} {s = s} b more) h = label_by b r s more (label_closes
 
 letter_next : {r s : List ℕ} → Onward r s → begins is_letter s ≡ true → begins is_letter r ≡ true
 letter_next ended h = h
-letter_next (barred c e) h = absurd (let clash : true ≡ false = sym h ∙ (left_false (is_letter c) _ (bar c e).label).0 in cc)
+letter_next (barred c e) h = absurd (let clash : true ≡ false = sym h ∙ (or_parts (is_letter c) _ (bar c e).label).0 in cc)
 letter_next spaced h = absurd cc
 letter_next (same b more) h = h
 

@@ -1,5 +1,6 @@
 -- Parentheses that stay round a row of code, or come in round it.
 use Rattle.std.proofs.Common.{◌≡◌, ℕ, Bool, true, false, not, ◌&&◌, ◌||◌, List, [], ◌∷◌, ◌++◌, refl, sym, ◌∙◌, subst}
+use Rattle.std.proofs.lemmas.Bool.{or_right}
 use Rattle.php_tree.specs.declared.version.Version.TheVariants.{V74}
 use Rattle.php_spellings.specs.declared.table.Kind.TheVariants.{Op}
 use Rattle.php_lexer.specs.Modes.{Mode, code}
@@ -14,7 +15,6 @@ use Rattle.written_tokens.specs.tiles.IsRewrittenTo.{gap_behind, IsRewrittenTo}
 use Rattle.written_tokens.specs.tiles.Edits.{between, is_uncast, RoundsBecome, RoundsComeIn}
 use Rattle.written_tokens.proofs.tiles.Ahead.{coded, cast_is, uncast}
 use Rattle.written_tokens.proofs.tiles.AheadFrom.{code_continues}
-use Rattle.written_tokens.proofs.tiles.Bools.{or_right}
 use Rattle.written_tokens.proofs.tiles.Braces.{between_before, no_gap, both_false}
 use Rattle.written_tokens.proofs.tiles.Going.{tighter}
 use Rattle.written_tokens.proofs.tiles.Standing.{begins_is}

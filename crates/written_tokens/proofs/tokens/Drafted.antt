@@ -1,14 +1,10 @@
 -- The rule on names, on a draft's tokens in order.
 use Rattle.std.proofs.Common.{◌≡◌, Bool, true, false, cond, not, ◌&&◌, List, [], ◌∷◌, ◌++◌, refl, sym, ap, ◌∙◌}
-use Rattle.std.proofs.lemmas.Bool.{and_parts}
+use Rattle.std.proofs.lemmas.Bool.{and_parts, not-true}
 use Rattle.tracked_changes.specs.Draft.{NewToken, Draft, no_more, new_leaf, new_node}
 use Rattle.syntax_rules.specs.SplitName.{is_one, one_name, in_front, whole_names, space_before, keyword_behind, keyword_last, apart}
 use Rattle.written_tokens.specs.tokens.Written.{draft_tokens}
 use Rattle.written_tokens.specs.tokens.Drafted.{before_all, all_whole, all_spaced, joins, last_joins, begins_node, names_within, NamesInOrder}
-
-not_it : (x : Bool) → not x ≡ true → x ≡ false
-not_it true h = absurd cc
-not_it false h = refl
 
 -- ---- names apart from keywords
 
@@ -117,14 +113,14 @@ whole_drafted (new_leaf t d) h =
     let (one, more) = and_parts (not (begins_node d && joins t (all_whole (draft_tokens d)))) (names_within d) h in
     let ih = whole_drafted d more in
     let none : (begins_node (whole_names true d) && joins t (draft_tokens (whole_names true d))) ≡ false =
-    rw (node_whole d, ih) (not_it (begins_node d && joins t (all_whole (draft_tokens d))) one) in
+    rw (node_whole d, ih) (not-true (begins_node d && joins t (all_whole (draft_tokens d))) one) in
     front_drafted t (whole_names true d) none ∙ ap (before_all t) ih
 whole_drafted (new_node k c d) h =
     let (one, more) = and_parts (not (last_joins (draft_tokens c) (all_whole (draft_tokens d)))) (names_within c && names_within d) h in
     let (first, rest) = and_parts (names_within c) (names_within d) more in
     ap (λ (l : List NewToken). l ++ draft_tokens (whole_names true d)) (whole_drafted c first)
     ∙ ap (λ (l : List NewToken). all_whole (draft_tokens c) ++ l) (whole_drafted d rest)
-    ∙ sym (whole_append (draft_tokens c) (draft_tokens d) (not_it (last_joins (draft_tokens c) (all_whole (draft_tokens d))) one))
+    ∙ sym (whole_append (draft_tokens c) (draft_tokens d) (not-true (last_joins (draft_tokens c) (all_whole (draft_tokens d))) one))
 
 pub names_in_order : NamesInOrder
 names_in_order d h = spaced_drafted false (whole_names true d) ∙ ap (all_spaced false) (whole_drafted d h)

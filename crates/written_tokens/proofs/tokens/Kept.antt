@@ -1,6 +1,6 @@
 -- A token or a piece of trivia that 8.3 takes as 7.4 does, in front of a row of 8.3.
 use Rattle.std.proofs.Common.{◌≡◌, ℕ, suc, Bool, true, false, not, ◌||◌, nat_eq, List, [], ◌∷◌, ◌++◌, length, refl, sym, ap, ◌∙◌, subst}
-use Rattle.std.proofs.lemmas.Bool.{eqb-true}
+use Rattle.std.proofs.lemmas.Bool.{eqb-true, not-true}
 use Rattle.std.proofs.Math.Seq.{drop-append_seam}
 use Rattle.php_tree.specs.declared.version.Version.{Version}
 use Rattle.php_tree.specs.declared.version.Version.TheVariants.{V74, V83}
@@ -58,10 +58,6 @@ or_false : (x : Bool) → (x || false) ≡ x
 or_false true = refl
 or_false false = refl
 
-pub not_it : (x : Bool) → not x ≡ true → x ≡ false
-not_it true h = absurd cc
-not_it false h = refl
-
 module _ (mark : Mark) (label : List ℕ) (fresh : Bool) (below : List Mode) (depth b : ℕ) (a : List ℕ) where
   here : Stack
   here = stack_by (quoted mark label fresh) below depth
@@ -77,7 +73,7 @@ module _ (mark : Mark) (label : List ℕ) (fresh : Bool) (below : List Mode) (de
   top_is bs = ap top_before (drop-append_seam a (63 ∷ bs)) ∙ before_63 bs
 
   piece_next : (k : Kind) (e : List ℕ) (us : List Tile) → not (begins_nullsafe (tile k 63 e ∷ us)) ≡ true → Piece ≡ k → begins_arrow (e ++ joined us) ≡ false
-  piece_next k e us h same = not_it (begins_arrow (e ++ joined us)) (subst (λ (x : Kind). not (begins_nullsafe (tile x 63 e ∷ us)) ≡ true) (sym same) h)
+  piece_next k e us h same = not-true (begins_arrow (e ++ joined us)) (subst (λ (x : Kind). not (begins_nullsafe (tile x 63 e ∷ us)) ≡ true) (sym same) h)
 
   next_by : (k : Kind) (c : ℕ) (e : List ℕ) (us : List Tile) (t : Bool) → nat_eq c 63 ≡ t
       → not (begins_nullsafe (tile k c e ∷ us)) ≡ true → IsLongest V74

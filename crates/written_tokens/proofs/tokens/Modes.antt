@@ -1,6 +1,6 @@
 -- What a token does to the modes in both versions.
 use Rattle.std.proofs.Common.{◌≡◌, ℕ, suc, Bool, true, false, cond, not, ◌&&◌, nat_eq, List, [], ◌∷◌, ◌++◌, length, take, drop, Option, Some, None, refl, ap, subst}
-use Rattle.std.proofs.lemmas.Bool.{eqb-true, and_parts}
+use Rattle.std.proofs.lemmas.Bool.{eqb-true, and_parts, not-true}
 use Rattle.php_tree.specs.declared.version.Version.TheVariants.{V74, V83}
 use Rattle.php_spellings.specs.declared.table.Kind.{Kind}
 use Rattle.php_spellings.specs.declared.table.Kind.TheVariants.{
@@ -139,19 +139,15 @@ stepped_plain (enter above under) top below depth p q =
     rw (one, two, q) refl
 stepped_plain leave top below depth p q = left_plain top below depth q
 
-not_it : (x : Bool) → not x ≡ true → x ≡ false
-not_it true h = absurd cc
-not_it false h = refl
-
 pub unnamed_after : (stack : Stack) (kind : Kind) (n : ℕ) (bytes : List ℕ) → is_unnamed stack ≡ true
     → is_dollar_brace kind ≡ false → is_unnamed (after V74 stack kind n bytes) ≡ true
 unnamed_after stack kind n bytes h q =
     let (top, below) = and_parts (not (is_named stack.top)) (none_named stack.below) h in
     stepped_plain (mode_step_at V74 stack kind n bytes) stack.top stack.below stack.depth
-    (mode_step_plain stack.top kind (take n bytes) (drop n bytes) (not_it (is_named stack.top) top) q) below
+    (mode_step_plain stack.top kind (take n bytes) (drop n bytes) (not-true (is_named stack.top) top) q) below
 
 pub unnamed_top : (stack : Stack) → is_unnamed stack ≡ true → is_named stack.top ≡ false
-unnamed_top stack h = not_it (is_named stack.top) (and_parts (not (is_named stack.top)) (none_named stack.below) h).0
+unnamed_top stack h = not-true (is_named stack.top) (and_parts (not (is_named stack.top)) (none_named stack.below) h).0
 
 -- ---- properties of a variable in a text
 

@@ -1,6 +1,6 @@
 -- Tokens of code that look little ahead, before other bytes: variables, numbers, marks and operators.
 use Rattle.std.proofs.Common.{◌≡◌, ℕ, suc, Bool, true, false, cond, not, ◌&&◌, ◌||◌, nat_eq, List, [], ◌∷◌, ◌++◌, length, drop, None, inl, inr, refl, sym, ap, ◌∙◌, subst, arith}
-use Rattle.std.proofs.lemmas.Bool.{and_parts, eqb-true}
+use Rattle.std.proofs.lemmas.Bool.{and_parts, eqb-true, and_left, not-true}
 use Rattle.std.proofs.lemmas.Bool.Decides.{nat_tests}
 use Rattle.php_tree.specs.declared.version.Version.TheVariants.{V74}
 use Rattle.php_spellings.specs.declared.table.Kind.{Kind}
@@ -14,7 +14,6 @@ use Rattle.php_relexing.specs.Alike.{Alike, is_tight}
 use Rattle.php_relexing.specs.Angles.{slash_ends, less_ends, close_ends}
 use Rattle.php_relexing.specs.Words.{begins_cast}
 use Rattle.php_relexing.proofs.Angles.{slashes_stay, angles_stay, closing_tags_stay}
-use Rattle.php_relexing.proofs.Bools.{not_it}
 use Rattle.php_relexing.proofs.Openings.{openings_are_uncast}
 use Rattle.php_relexing.proofs.Operators.{OneOf, one_of, all_words, mark_same, is_op, is_close}
 use Rattle.php_relexing.proofs.Picked.{picked, meets, longest_meets}
@@ -43,16 +42,13 @@ solid_tight : (b : ℕ) (bs : List ℕ) → is_solid b ≡ true → (nat_eq b 63
 solid_tight b bs h e =
     let (near, more) = and_parts (not (is_far b)) (not (begins_words b) && not (is_space b)) h in
     let (words, space) = and_parts (not (begins_words b)) (not (is_space b)) more in
-    rw (not_it (is_far b) near, not_it (begins_words b) words, not_it (is_space b) space, e) refl
-
-plain_and : (x y : Bool) → x ≡ false → (x && y) ≡ false
-plain_and x y h = rw h refl
+    rw (not-true (is_far b) near, not-true (begins_words b) words, not-true (is_space b) space, e) refl
 
 pub solid_stays : (kind : Kind) (b : ℕ) (a r s : List ℕ) → Alike r s → is_solid b ≡ true → nat_eq b 63 ≡ false → Stays kind b a r s
 solid_stays kind b a r s alike h e =
     near_tokens_stay kind b a r s alike
-    (solid_tight b (a ++ r) h (plain_and (nat_eq b 63) (begins_by 62 (a ++ r)) e))
-    (solid_tight b (a ++ s) h (plain_and (nat_eq b 63) (begins_by 62 (a ++ s)) e))
+    (solid_tight b (a ++ r) h (and_left (nat_eq b 63) (begins_by 62 (a ++ r)) e))
+    (solid_tight b (a ++ s) h (and_left (nat_eq b 63) (begins_by 62 (a ++ s)) e))
 
 -- ---- variables and numbers
 
@@ -161,12 +157,12 @@ solid_text (b ∷ a) = is_solid b && not (nat_eq b 63)
 pub semi_stays : (b : ℕ) (a r s : List ℕ) → Alike r s → Stays Semi b a r s
 semi_stays b a r s alike h =
     let (solid, plain) = and_parts (is_solid b) (not (nat_eq b 63)) (passes is_semi solid_text Semi b a r refl refl refl h) in
-    solid_stays Semi b a r s alike solid (not_it (nat_eq b 63) plain) h
+    solid_stays Semi b a r s alike solid (not-true (nat_eq b 63) plain) h
 
 pub backtick_stays : (b : ℕ) (a r s : List ℕ) → Alike r s → Stays Backtick b a r s
 backtick_stays b a r s alike h =
     let (solid, plain) = and_parts (is_solid b) (not (nat_eq b 63)) (passes is_backtick solid_text Backtick b a r refl refl refl h) in
-    solid_stays Backtick b a r s alike solid (not_it (nat_eq b 63) plain) h
+    solid_stays Backtick b a r s alike solid (not-true (nat_eq b 63) plain) h
 
 abbrev pub close_text : List ℕ → Bool
 close_text [] = false
@@ -208,7 +204,7 @@ solid_op b [] r s alike h e k l =
 solid_op b (z ∷ a) r s alike h e k l = near_tokens_stay Op b (z ∷ a) r s alike (solid_tight b (z ∷ a ++ r) h e) (solid_tight b (z ∷ a ++ s) h e) l
 
 opening_is : (a r s : List ℕ) → is_empty a ≡ true → not (begins_cast s) ≡ true → Stays Op 40 a r s
-opening_is [] r s e k h = openings_are_uncast.opens V74 s (not_it (begins_cast s) k)
+opening_is [] r s e k h = openings_are_uncast.opens V74 s (not-true (begins_cast s) k)
 opening_is (c ∷ a) r s e k h = absurd cc
 
 op_by : (b : ℕ) (a r s : List ℕ) → Alike r s → (x y z : Bool) → nat_eq b 40 ≡ x → nat_eq b 47 ≡ y → nat_eq b 60 ≡ z
@@ -220,7 +216,7 @@ op_by b a r s alike false true z e f g t k = subst (λ (x : ℕ). Stays Op x a r
 op_by b a r s alike false false true e f g t k = subst (λ (x : ℕ). Stays Op x a r s) (sym (eqb-true b 60 g)) (angles_stay V74 V74 a r s k)
 op_by b a r s alike false false false e f g t k =
     let (solid, plain) = and_parts (is_solid b) (not (nat_eq b 63 && begins_by 62 a)) t in
-    solid_op b a r s alike solid (not_it (nat_eq b 63 && begins_by 62 a) plain) (not_it (nat_eq b 63 && (is_empty a && begins_by 62 s)) k)
+    solid_op b a r s alike solid (not-true (nat_eq b 63 && begins_by 62 a) plain) (not-true (nat_eq b 63 && (is_empty a && begins_by 62 s)) k)
 
 pub op_stays : (b : ℕ) (a r s : List ℕ) → Alike r s → operator_stays b a s ≡ true → Stays Op b a r s
 op_stays b a r s alike k h = op_by b a r s alike (nat_eq b 40) (nat_eq b 47) (nat_eq b 60) refl refl refl (passes is_op op_text Op b a r refl refl refl h) k h

@@ -1,5 +1,6 @@
 -- Spaces may be put before names that are still in parts.
 use Rattle.std.proofs.Common.{◌≡◌, ℕ, Bool, true, false, cond, not, ◌&&◌, ◌||◌, List, [], ◌∷◌, ◌++◌, codes, refl, sym, ap, ◌∙◌, append_assoc, append-nil}
+use Rattle.std.proofs.lemmas.Bool.{not-true}
 use Rattle.php_tree.specs.declared.token.TokenKind.{TokenKind}
 use Rattle.php_tree.specs.declared.token.TokenKind.TheVariants as token
 use Rattle.tracked_changes.specs.Pieces.{Piece, changed, old_bytes, before}
@@ -24,10 +25,6 @@ use Rattle.written_tokens.specs.tokens.Spaced.{space_put, spaces_put, front_text
 before_append : (ps qs : List Piece) → before (ps ++ qs) ≡ before ps ++ before qs
 before_append [] qs = refl
 before_append (p ∷ ps) qs = ap (λ (l : List ℕ). old_bytes p ++ l) (before_append ps qs) ∙ sym (append_assoc (old_bytes p) (before ps) (before qs))
-
-not_it : (x : Bool) → not x ≡ true → x ≡ false
-not_it true h = absurd cc
-not_it false h = refl
 
 spaced_lead : (ps : List Piece) → before (ps ++ changed [] (codes " ") ∷ []) ≡ before ps
 spaced_lead ps = before_append ps (changed [] (codes " ") ∷ []) ∙ append-nil (before ps)
@@ -154,7 +151,7 @@ module _ (behind : Bool) (t : NewToken) (ts : List NewToken) where
       ∙ ap (λ (x : NewToken). x ∷ all_spaced (keyword_behind behind (one_name t u)) us) (space_is behind t u text)
       ∙ ap (λ (b : Bool). given (wants behind t true) (one_name t u) ∷ all_spaced b us) (behind_name behind t u text) in
       let next : all_spaced flag (u ∷ us) ≡ given spaced u ∷ all_spaced false us =
-      ap (λ (b : Bool). given spaced u ∷ all_spaced b us) (behind_part flag t u h (not_it (is_nothing (before u.text)) first)) in
+      ap (λ (b : Bool). given spaced u ∷ all_spaced b us) (behind_part flag t u h (not-true (is_nothing (before u.text)) first)) in
       let met : is_one (given (wants behind t true) t) (given spaced u) ≡ true = given_one t (given spaced u) (wants behind t true) ∙ one_given t u spaced ∙ h in
       let right : before_all (given (wants behind t true) t) (given spaced u ∷ all_spaced false us) ≡ given (wants behind t true) (one_name t u) ∷ all_spaced false us =
       ap (λ (b : Bool). cond b (one_name (given (wants behind t true) t) (given spaced u) ∷ all_spaced false us)

@@ -1,7 +1,7 @@
 -- The tokens of a row with whole names are whole names.
 use Rattle.std.proofs.Common.{◌≡◌, ℕ, Bool, true, false, cond, not, ◌&&◌, ◌||◌, nat_eq, List, [], ◌∷◌, ◌++◌, Option, Some, None, codes, refl, sym, ap, ◌∙◌, subst}
 use Rattle.std.specs.Str.{bytes_eq}
-use Rattle.std.proofs.lemmas.Bool.{and_parts}
+use Rattle.std.proofs.lemmas.Bool.{and_parts, not-true}
 use Rattle.php_tree.specs.declared.version.Version.TheVariants.{V83}
 use Rattle.php_tree.specs.declared.token.TokenKind.{TokenKind}
 use Rattle.php_tree.specs.declared.token.TokenKind.TheVariants as token
@@ -141,10 +141,6 @@ one_by kind t w c e =
     (kind_op kind && bytes_eq t (codes "\\")) && (kind_label w (c ∷ e) || kind_name w && not (nat_eq c 92))
     || (kind_label kind t || kind_keyword kind t && is_namespace t) && (kind_name w && nat_eq c 92)
 
-not_it : (x : Bool) → not x ≡ true → x ≡ false
-not_it true h = absurd cc
-not_it false h = refl
-
 root_goes : (w : Kind) (c : ℕ) (e : List ℕ) (us : List Tile) → begins_other (tile w c e ∷ us) ≡ false
     → (kind_label w (c ∷ e) || kind_name w && not (nat_eq c 92)) ≡ goes_on_root w c
 root_goes Word c e us h = rw h refl
@@ -157,7 +153,7 @@ op_one : (b : ℕ) (a : List ℕ) (w : Kind) (c : ℕ) (e : List ℕ) (us : List
     && goes_on_root w c
 op_one b a w c e us false p h = rw p refl
 op_one b (d ∷ a) w c e us true p h = absurd cc
-op_one b [] w c e us true p h = rw p (or_false _ ∙ root_goes w c e us (not_it (begins_other (tile w c e ∷ us)) h))
+op_one b [] w c e us true p h = rw p (or_false _ ∙ root_goes w c e us (not-true (begins_other (tile w c e ∷ us)) h))
 
 word_one : (x y z : Bool) → (not x || y || not z) ≡ true → ((not x || x && y) && z) ≡ z
 word_one true true true h = refl
@@ -171,9 +167,9 @@ one_same : (kind : Kind) (b : ℕ) (a : List ℕ) (w : Kind) (c : ℕ) (e : List
 one_same Op b a w c e us h = op_one b a w c e us (nat_eq b 92) refl h
 one_same Word b a Name c e us h = word_one (is_keyword (b ∷ a)) (is_namespace (b ∷ a)) (nat_eq c 92) h
 one_same Word b a _ c e us h = and_false _
-one_same Label b a Name c e us h = not_it (nat_eq c 92) h
+one_same Label b a Name c e us h = not-true (nat_eq c 92) h
 one_same Label b a _ c e us h = refl
-one_same Keyword b a Name c e us h = rw (not_it (is_namespace (b ∷ a)) h) refl
+one_same Keyword b a Name c e us h = rw (not-true (is_namespace (b ∷ a)) h) refl
 one_same Keyword b a _ c e us h = and_false _
 one_same _ b a w c e us h = refl
 

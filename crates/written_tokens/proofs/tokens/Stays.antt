@@ -1,6 +1,6 @@
 -- Each token and trivia of code before other bytes.
 use Rattle.std.proofs.Common.{◌≡◌, ℕ, suc, ◌+◌, Bool, true, false, cond, not, ◌&&◌, ◌||◌, nat_eq, List, [], ◌∷◌, ◌++◌, length, drop, inl, inr, refl, sym, ap, ◌∙◌, subst, arith}
-use Rattle.std.proofs.lemmas.Bool.{and_parts, eqb-true}
+use Rattle.std.proofs.lemmas.Bool.{and_parts, eqb-true, not-true}
 use Rattle.std.proofs.lemmas.Bool.Decides.{nat_tests}
 use Rattle.php_tree.specs.declared.version.Version.TheVariants.{V74}
 use Rattle.php_spellings.specs.declared.table.Kind.{Kind}
@@ -52,7 +52,6 @@ use Rattle.php_relexing.specs.Comments.{stops_line}
 use Rattle.php_relexing.specs.HeredocEnds.{ends_feed}
 use Rattle.php_relexing.specs.Pieces.{part_begins}
 use Rattle.php_relexing.specs.Words.{begins_from}
-use Rattle.php_relexing.proofs.Bools.{not_it}
 use Rattle.php_relexing.proofs.Closed.{quoted_texts_stay, binary_texts_stay, block_comments_stay, casts_stay}
 use Rattle.php_relexing.proofs.Comments.{line_stays, slash_comments_stay}
 use Rattle.php_relexing.proofs.HeredocStarts.{heredoc_starts_stay}
@@ -154,7 +153,7 @@ word_by b a r s alike true e k =
     near_tokens_stay Word b a r s alike old new
 word_by b a r s alike false e k =
     let (label, from) = and_parts (not (begins is_label_byte s)) (not (begins_from s)) k in
-    words_stay b a r s e (not_it (begins is_label_byte s) label) (not_it (begins_from s) from)
+    words_stay b a r s e (not-true (begins is_label_byte s) label) (not-true (begins_from s) from)
 
 -- ---- texts
 
@@ -199,7 +198,7 @@ heredoc_is (c ∷ d ∷ a) r s e f k h =
     let old : IsLongest V74 code (60 ∷ 60 ∷ 60 ∷ a ++ r) HeredocStart (suc (suc (suc (length a)))) =
     subst (λ (y : ℕ). IsLongest V74 code (60 ∷ 60 ∷ y ∷ a ++ r) HeredocStart (suc (suc (suc (length a))))) two
     (subst (λ (x : ℕ). IsLongest V74 code (60 ∷ x ∷ d ∷ a ++ r) HeredocStart (suc (suc (suc (length a))))) one h) in
-    let new = heredoc_starts_stay V74 V74 a r s (not_it (not (ends_feed false a) && begins_by 10 s) k) old in
+    let new = heredoc_starts_stay V74 V74 a r s (not-true (not (ends_feed false a) && begins_by 10 s) k) old in
     subst (λ (x : ℕ). IsLongest V74 code (60 ∷ x ∷ d ∷ a ++ s) HeredocStart (suc (suc (suc (length a))))) (sym one)
     (subst (λ (y : ℕ). IsLongest V74 code (60 ∷ 60 ∷ y ∷ a ++ s) HeredocStart (suc (suc (suc (length a))))) (sym two) new)
 
@@ -213,7 +212,7 @@ heredoc_stays_so b a r s k =
 -- ---- all
 
 pub code_stays : CodeStays
-code_stays Space b a r s alike k h = white_space_stays V74 V74 b a r s (not_it (begins is_space s) k) h
+code_stays Space b a r s alike k h = white_space_stays V74 V74 b a r s (not-true (begins is_space s) k) h
 code_stays Comment b a r s alike k h = comment_stays_so b a r s k h
 code_stays Tag b a r s alike k h = absurd cc
 code_stays OpenEcho b a r s alike k h = absurd cc
@@ -221,7 +220,7 @@ code_stays InlineHtml b a r s alike k h = absurd cc
 code_stays Variable b a r s alike k h = variable_stays b a r s alike h
 code_stays Word b a r s alike k h = word_by b a r s alike (nat_eq (lower b) 98) refl k h
 code_stays Label b a r s alike k h = absurd cc
-code_stays Keyword b a r s alike k h = yield_from_stays b a r s (not_it (begins is_label_byte s) k) h
+code_stays Keyword b a r s alike k h = yield_from_stays b a r s (not-true (begins is_label_byte s) k) h
 code_stays Name b a r s alike k h = absurd cc
 code_stays Decimal b a r s alike k h = decimal_stays b a r s alike h
 code_stays Octal b a r s alike k h = octal_stays b a r s alike h

@@ -1,5 +1,6 @@
 -- Parts of names have a text in the source.
 use Rattle.std.proofs.Common.{◌≡◌, ℕ, Bool, true, false, not, ◌&&◌, ◌||◌, List, [], ◌∷◌, ◌++◌, codes, refl, sym, ap, ◌∙◌, subst, append_assoc}
+use Rattle.std.proofs.lemmas.Bool.{not_from_false}
 use Rattle.php_tree.specs.declared.token.TokenKind.{TokenKind}
 use Rattle.php_tree.specs.declared.token.TokenKind.TheVariants as token
 use Rattle.tracked_changes.specs.Pieces.{Piece, old_bytes, before}
@@ -124,14 +125,10 @@ front_fine no_token = tt
 front_fine (a_token {t} {ts} p r) = front_of t (all_whole ts) p
 front_fine (a_null {p} {q} {ts} x y r) = front_of p (all_whole (null ∷ q ∷ ts)) (quiet_fine p x)
 
-not_true : (x : Bool) → x ≡ false → not x ≡ true
-not_true false h = refl
-not_true true h = absurd cc
-
 joined_front : (t : NewToken) (us : List NewToken) → FrontFine us → joins t us ≡ true → front_text us ≡ true
 joined_front t [] p h = absurd cc
 joined_front t (u ∷ us) p h =
-    not_true (is_nothing (before u.text))
+    not_from_false (is_nothing (before u.text))
     (p (wordy_by (is_backslash t) (is_label u.kind) (is_name u.kind) (begins_root (before u.text)) (is_label t.kind || is_namespace t) h))
 
 joined_text : (t : NewToken) (us : List NewToken) → Fine t → joins t us ≡ true → is_nothing (before t.text) ≡ false

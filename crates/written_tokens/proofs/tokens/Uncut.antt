@@ -1,6 +1,6 @@
 -- Bytes that 8.3 takes as 7.4 does have its tokens and trivia, with each name one token.
 use Rattle.std.proofs.Common.{◌≡◌, ℕ, suc, Bool, true, false, not, ◌||◌, nat_eq, List, [], ◌∷◌, ◌++◌, length, refl, sym, ap, ◌∙◌, subst, arith}
-use Rattle.std.proofs.lemmas.Bool.{eqb-true, and_parts}
+use Rattle.std.proofs.lemmas.Bool.{eqb-true, and_parts, not-true}
 use Rattle.std.proofs.lemmas.Bool.Decides.{nat_tests}
 use Rattle.php_tree.specs.declared.version.Version.TheVariants.{V74, V83}
 use Rattle.php_spellings.specs.declared.table.Kind.{Kind}
@@ -18,7 +18,7 @@ use Rattle.written_tokens.specs.tokens.Names.{goes_on_root, in_front, whole_name
 use Rattle.written_tokens.proofs.tokens.Modes.{is_dollar_brace, unnamed_after, unnamed_top, property_stays, no_word, no_root, no_name_kind}
 use Rattle.written_tokens.proofs.tokens.Follows.{word_ends, word_first, root_kind, root_alone, hash_kind, hash_stays}
 use Rattle.written_tokens.proofs.tokens.Newer.{names_joined, label_name, root_name, name_is, meets, apart, together, rooted_first, goes_first, word_goes}
-use Rattle.written_tokens.proofs.tokens.Kept.{stack_by, is_code, is_wordy, Ended, Good, opened, not_it, stays}
+use Rattle.written_tokens.proofs.tokens.Kept.{stack_by, is_code, is_wordy, Ended, Good, opened, stays}
 
 -- ---- code
 
@@ -82,7 +82,7 @@ module _ (below : List Mode) (depth : ℕ) where
       → Steps V83 (stack_by code below depth) (tile k c e ∷ us) → (is_wordy k ≡ true → ends_name (joined us) ≡ true)
       → Good (stack_by code below depth) (92 ∷ s) (tile Name 92 (c ∷ e) ∷ us)
   root_good Word c e us s m more ends = record { steps = root_word c e us more (ends refl); ended = λ p. ends refl; deeper = λ p q. refl }
-  root_good Name c e us s m more ends = record { steps = root_joins c e us (not_it (nat_eq c 92) m) more (ends refl); ended = λ p. ends refl; deeper = λ p q. refl }
+  root_good Name c e us s m more ends = record { steps = root_joins c e us (not-true (nat_eq c 92) m) more (ends refl); ended = λ p. ends refl; deeper = λ p q. refl }
   root_good _ c e us s m more ends = absurd cc
 
   abbrev AtRoot : List ℕ → List Tile → ℕ → List ℕ → Type 0
@@ -267,7 +267,7 @@ nameless_by b a s kind true true p q old ends deep =
     let there = subst (λ (k : Kind). IsLongest V74 code (b ∷ a ++ s) k (suc (length a))) (sym word) old in
     let stop = ends (ap is_wordy (sym word)) in
     let (one, two) = and_parts (not (begins is_label_byte s)) (not (begins_deeper s)) stop in
-    labels_begin_no_name (b ∷ a) s (words_are_labels V74 b a s there) (not_it (begins is_label_byte s) one) (not_it (begins_deeper s) two)
+    labels_begin_no_name (b ∷ a) s (words_are_labels V74 b a s there) (not-true (begins is_label_byte s) one) (not-true (begins_deeper s) two)
 
 hash_new : (b : ℕ) (a : List ℕ) (kind : Kind) (ts : List Tile) → nat_eq b 35 ≡ true → is_common kind b a ts ≡ true
     → IsLongest V74 code (b ∷ a ++ joined ts) kind (suc (length a))
@@ -279,7 +279,7 @@ hash_new b a kind ts e q old =
     let q1 = subst (λ (x : ℕ). is_common kind x a ts ≡ true) same q in
     let q2 = subst (λ (k : Kind). is_common k 35 a ts ≡ true) (sym comment) q1 in
     let h1 = subst (λ (k : Kind). IsLongest V74 code (35 ∷ a ++ joined ts) k (suc (length a))) (sym comment) there in
-    let new = hash_stays a (joined ts) (not_it (begins_by 91 a) q2) h1 in
+    let new = hash_stays a (joined ts) (not-true (begins_by 91 a) q2) h1 in
     subst (λ (x : ℕ). IsLongest V83 code (x ∷ a ++ joined ts) kind (suc (length a))) (sym same)
     (subst (λ (k : Kind). IsLongest V83 code (35 ∷ a ++ joined ts) k (suc (length a))) comment new)
 
