@@ -2,6 +2,7 @@
 use php_reading::read;
 use php_tree::Version;
 use std::alloc::Global;
+use std::fmt::Write;
 use trivia_printer::{print_into, print_len};
 
 // A number in so many pairs of parentheses, as an `echo` statement.
@@ -22,22 +23,26 @@ fn in_parens(alloc: Global, pairs: usize) -> anyhow::Result<Vec<u8>> {
 // How deep nodes may stand in one another.
 fn depth(rt: &HostRuntime, version: Version, pairs: usize) -> anyhow::Result<()> {
     let source = in_parens(rt.alloc(), pairs)?;
+    let mut line = String::new(rt.alloc());
+    write!(line, "{pairs} parentheses in ")?;
+    write!(line, "{version:?}: ")?;
     match read(rt.alloc(), version, source.as_slice()) {
-        Ok(tree) => println!(rt;
-            "{pairs} parentheses in {version:?}: depth {}",
-            tree.depth()
-        )?,
-        Err(fault) => println!(rt; "{pairs} parentheses in {version:?}: {fault:?}")?,
+        Ok(tree) => write!(line, "depth {}", tree.depth())?,
+        Err(fault) => write!(line, "{fault:?}")?,
     }
+    println!(rt; "{line}")?;
     Ok(())
 }
 
 // How many bytes there may be.
 fn length(rt: &HostRuntime, bytes: &[u8]) -> anyhow::Result<()> {
+    let mut line = String::new(rt.alloc());
+    write!(line, "{} bytes: ", bytes.len())?;
     match read(rt.alloc(), Version::V74, bytes) {
-        Ok(tree) => println!(rt; "{} bytes: {} nodes", bytes.len(), tree.nodes())?,
-        Err(fault) => println!(rt; "{} bytes: {fault:?}", bytes.len())?,
+        Ok(tree) => write!(line, "{} nodes", tree.nodes())?,
+        Err(fault) => write!(line, "{fault:?}")?,
     }
+    println!(rt; "{line}")?;
     Ok(())
 }
 
@@ -54,7 +59,10 @@ fn buffer(rt: &HostRuntime) -> anyhow::Result<()> {
     let len = print_into(&tree, buffer.as_mut_slice());
     let (front, behind) = buffer.as_slice().split_at(len);
     let same = front == source && behind == [7u8; 25].as_slice();
-    println!(rt; "{len} bytes in a buffer: {same}")?;
+    let mut line = String::new(rt.alloc());
+    write!(line, "{len} bytes in a buffer: ")?;
+    line.push_str(if same { "true" } else { "false" })?;
+    println!(rt; "{line}")?;
     Ok(())
 }
 

@@ -19,9 +19,17 @@ static LONGEST: [(&str, usize, u32); 9] = [
     ("<?php 1", 2, 9),
 ];
 
+// Where a row looks, and how deep.
+fn asked(alloc: Global, source: &str, at: usize, depth: u32) -> anyhow::Result<String> {
+    let mut out = String::from_str(alloc, source)?;
+    write!(out, " from {at}")?;
+    write!(out, ", {depth} deep  =>  ")?;
+    Ok(out)
+}
+
 // The expression at a place of a source, and the place behind it, or why there is none.
 fn expr_sketch(alloc: Global, source: &str, at: usize, depth: u32) -> anyhow::Result<String> {
-    let mut out = String::new(alloc);
+    let mut out = asked(alloc, source, at, depth)?;
     let tokens = lex(alloc, Version::V74, source.as_bytes())?;
     if at > tokens.len() || depth > 1500 {
         return Ok(out);
@@ -41,7 +49,7 @@ pub fn longest(rt: &HostRuntime) -> anyhow::Result<()> {
     println!(rt; "## The longest expression from a place on, within a depth.")?;
     for (source, at, depth) in LONGEST {
         let found = expr_sketch(rt.alloc(), source, at, depth)?;
-        println!(rt; "{source} from {at}, {depth} deep  =>  {}", found.as_str())?;
+        println!(rt; "{found}")?;
     }
     Ok(())
 }

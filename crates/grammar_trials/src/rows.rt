@@ -42,17 +42,14 @@ fn print_row(rt: &HostRuntime, row: &str) -> anyhow::Result<()> {
     let newer = sketch(alloc, Version::V83, source.as_str())?;
     let shown = on_one_line(alloc, row)?;
     let tree = on_one_line(alloc, older.as_str())?;
-    if older.as_str() == newer.as_str() {
-        println!(rt; "{}  =>  {}", shown.as_str(), tree.as_str())?;
-    } else {
-        let other = on_one_line(alloc, newer.as_str())?;
-        println!(rt;
-            "{}  =>  {}  8.3: {}",
-            shown.as_str(),
-            tree.as_str(),
-            other.as_str()
-        )?;
+    let mut line = shown;
+    line.push_str("  =>  ")?;
+    line.push_str(tree.as_str())?;
+    if older.as_str() != newer.as_str() {
+        line.push_str("  8.3: ")?;
+        line.push_str(on_one_line(alloc, newer.as_str())?.as_str())?;
     }
+    println!(rt; "{line}")?;
     Ok(())
 }
 

@@ -134,12 +134,9 @@ pub fn sketch(alloc: Global, version: Version, source: &str) -> anyhow::Result<S
     if tree.as_str() == row.as_str() {
         return Ok(tree);
     }
-    let mut out = String::new(alloc);
-    write!(
-        out,
-        "{} as a tree, {} as a row",
-        tree.as_str(),
-        row.as_str()
-    )?;
+    let mut out = tree;
+    out.push_str(" as a tree, ")?;
+    out.push_str(row.as_str())?;
+    out.push_str(" as a row")?;
     Ok(out)
 }
