@@ -1,8 +1,9 @@
-//! Worked rows of settings and of edits: each line of the input is a text of settings or a source with its edits,
-//! and each line of the output is that line with what it comes to.
+//! Worked rows of rules, of settings and of edits: each line of the input is the name of a rule, a text of settings, or a
+//! source with its edits, and each line of the output is that line with what it comes to.
 #![tactic(auto)]
 
 mod edits;
+mod rules;
 mod settings;
 
 use std::alloc::{AllocError, Global};
@@ -14,6 +15,7 @@ fn row(alloc: Global, line: &str) -> Result<String, AllocError> {
     let (form, words) = line.split_once(' ').unwrap_or((line, ""));
     match form {
         "settings" => settings::settings(alloc, words, &mut out)?,
+        "rule" => rules::rule(words, &mut out)?,
         "edits" => edits::edits(alloc, words, &mut out)?,
         _ => {}
     }
