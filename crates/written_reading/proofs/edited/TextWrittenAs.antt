@@ -152,13 +152,13 @@ module _ (t : Token) (is : t.kind ≡ token.Piece) (tiles : List Tile) (more : L
         clean = r.clean;
       }
 
-  piece_written_as : (starts bare : Bool) (ts : List NewToken) (rest : List Lexeme)
+  piece_step : (starts bare : Bool) (ts : List NewToken) (rest : List Lexeme)
       → ends_bare false (before (hash_comment t).text) ≡ bare → TextStep ts starts n.rest rest
       → TextStep (piece_by starts (hash_comment t) ∷ ts) false tiles rest
-  piece_written_as false bare ts rest e r = kept_piece false ts rest r refl
-  piece_written_as true false ts rest e r =
+  piece_step false bare ts rest e r = kept_piece false ts rest r refl
+  piece_step true false ts rest e r =
       rw e (kept_piece true ts rest r (sym (dollar_same false (n.b ∷ n.a)) ∙ ap (ends_bare false) (n.text ∙ sym (append-nil t.text)) ∙ e))
-  piece_written_as true true ts rest e r =
+  piece_step true true ts rest e r =
       rw e (escaped_piece ts rest r (sym (dollar_same false (n.b ∷ n.a)) ∙ ap (ends_bare false) (n.text ∙ sym (append-nil t.text)) ∙ e))
 
 pub piece_written_as : FrontOfRow → (starts : Bool) (t : Token) (ss : List Token) (ts : List NewToken)
@@ -169,5 +169,5 @@ piece_written_as front starts t ss ts is written_as mark label fresh over depth 
     let kind : n.kind ≡ Piece = tile_by token.Piece refl n.kind (n.b ∷ n.a) t.kind is n.is in
     let at : Steps V74 stack (tile Piece n.b n.a ∷ n.rest) =
     subst (λ (x : Kind). Steps V74 stack (tile x n.b n.a ∷ n.rest)) kind (subst (λ (l : List Tile). Steps V74 stack l) n.whole steps) in
-    piece_written_as t is tiles (map lexeme ss ++ more) n kind starts (ends_bare false (before (hash_comment t).text)) ts more refl
+    piece_step t is tiles (map lexeme ss ++ more) n kind starts (ends_bare false (before (hash_comment t).text)) ts more refl
     (written_as mark label (ends_line (n.b ∷ n.a)) over depth n.rest more m (first stack Piece n.b n.a n.rest at).more n.tokens)
