@@ -3,18 +3,30 @@ ghost use Rattle.std.specs.Prelude.{◌≡◌};
 
 use io_ports::{PortFault, Sink, refused};
 use std::alloc::{AllocError, Global};
-use std::fs::File;
-use std::io;
+use std::fs::{File, Files};
 use std::io::Write;
+use std::{fs, io};
 
 /// A file of the working folder, which the first put makes, in place of an older one, also where
-/// that put is empty.
+/// that put is empty. A link that stands there is replaced and never followed.
 #[derive(Drop)]
 pub struct FileSink {
     rt: HostRuntime,
     path: String,
     file: Option<File>,
     faults: u64,
+}
+
+// Makes a file, in place of an older one or of a link.
+fn make(rt: &HostRuntime, path: &str) -> io::Result<File> {
+    let is_link = match fs::symlink_metadata(rt, path) {
+        Ok(found) => found.is_symlink(),
+        Err(_) => false,
+    };
+    if is_link {
+        rt.remove_file(path)?;
+    }
+    File::create(rt, path)
 }
 
 impl FileSink {
@@ -35,7 +47,7 @@ impl FileSink {
     {
         let mut file = match self.file.take() {
             Some(file) => file,
-            None => File::create(&self.rt, self.path.as_str())?,
+            None => make(&self.rt, self.path.as_str())?,
         };
         let written = file.write_all(bytes);
         self.file = Some(file);
