@@ -1,5 +1,10 @@
+pub mod Fields
+pub mod Frame
 pub mod Head
 pub mod HeadBytes
+pub mod Numbers
+pub mod Reading
 pub mod Refusals
+pub mod Routes
 pub mod Stops
 pub mod Taken

@@ -1,30 +1,20 @@
 // How long a body is said to be.
+ghost use Rattle.std.specs.Prelude.{◌≡◌, map};
+ghost use Rattle.review_request.specs.Fields.{stated_length};
+ghost use Rattle.review_request.specs.Head.{field_parts};
+
 use crate::fields::{has, only};
 use crate::head::Field;
+use crate::number::number;
 use crate::refusal::Refusal;
 
 /// How many bytes a body has at most.
-pub const MAX_BODY: usize = 4_194_304;
+pub const MAX_BODY: u64 = 4_194_304;
 
-// The number of 1 to 10 digits.
-fn number(digits: &[u8]) -> Option<u64> {
-    if digits.is_empty() || digits.len() > 10 {
-        return None;
-    }
-    let mut value = 0u64;
-    for digit in digits {
-        if !digit.is_ascii_digit() {
-            return None;
-        }
-        value = value
-            .wrapping_mul(10)
-            .wrapping_add(u64::from(*digit - b'0'));
-    }
-    Some(value)
-}
-
-/// The stated length of a POST.
-pub fn stated_length(fields: &[Field]) -> Result<usize, Refusal> {
+/// The stated length of a POST, or why it has none that is taken.
+pub fn stated_length(fields: &[Field]) -> Result<usize, Refusal>
+    ensures { result ≡ stated_length (map field_parts fields.now) }
+{
     if !has(fields, b"content-length") {
         return Err(Refusal::NoLength);
     }
@@ -37,7 +27,7 @@ pub fn stated_length(fields: &[Field]) -> Result<usize, Refusal> {
     let Some(length) = number(digits) else {
         return Err(Refusal::BadLength);
     };
-    if length > MAX_BODY as u64 {
+    if length > MAX_BODY {
         return Err(Refusal::LongBody);
     }
     Ok(length as usize)

@@ -1,4 +1,10 @@
 // What a request asks for.
+ghost use Rattle.std.specs.Prelude.{◌≡◌, IfOk};
+ghost use Rattle.std.specs.List.{before_first, after_first, position};
+ghost use Rattle.review_request.specs.Frame.{method_of};
+ghost use Rattle.review_request.specs.Routes.{ask_at, ask_in, is_slash, part, routes};
+
+use crate::number::path_number;
 use matchit::{InsertError, Router};
 use std::alloc::Global;
 
@@ -31,17 +37,21 @@ pub enum Ask {
 }
 
 impl Ask {
-    /// Whether it is asked for by POST, and else by GET.
-    pub fn is_post(self) -> bool {
+    /// The method that it is asked for by: GET, or POST where it changes something.
+    pub fn method(self) -> &'static str
+        ensures { result.now ≡ method_of self }
+    {
         match self {
-            Ask::Add | Ask::Judge { .. } | Ask::Close { .. } => true,
-            Ask::Head { .. } | Ask::File { .. } | Ask::Reports { .. } => false,
+            Ask::Add | Ask::Judge { .. } | Ask::Close { .. } => "POST",
+            Ask::Head { .. } | Ask::File { .. } | Ask::Reports { .. } => "GET",
         }
     }
 }
 
-// The table of routes.
-fn routes(alloc: Global) -> Result<Router<Route>, InsertError> {
+// The table of routes. The only error is want of memory.
+fn routes(alloc: Global) -> Result<Router<Route>, InsertError>
+    ensures { IfOk result (λ router. router ≡ routes) }
+{
     let mut router = Router::new(alloc);
     router.insert("/jobs", Route::Jobs)?;
     router.insert("/jobs/{job}", Route::Job)?;
@@ -52,73 +62,72 @@ fn routes(alloc: Global) -> Result<Router<Route>, InsertError> {
     Ok(router)
 }
 
-// The part of a path with this number, between slashes, from 0.
-fn part(path: &[u8], n: usize) -> &[u8] {
-    let mut rest = path;
-    for _ in 0..n {
-        rest = behind_slash(rest);
-    }
-    before_slash(rest)
+// The place of the first slash.
+fn slash_in(path: &[u8]) -> Option<usize>
+    ensures { result ≡ position is_slash path.now }
+{
+    path.iter().position(|b| *b == b'/')
 }
 
-fn before_slash(path: &[u8]) -> &[u8] {
-    match path.iter().position(|b| *b == b'/') {
+// What stands before the first slash, or all.
+#[tactic(auto, using(crate::proofs::SlashLemmas::before_some, crate::proofs::SlashLemmas::before_none))]
+fn before_slash(path: &[u8]) -> &[u8]
+    ensures { result.now ≡ before_first is_slash path.now }
+{
+    match slash_in(path) {
         Some(at) => &path[..at],
         None => path,
     }
 }
 
-fn behind_slash(path: &[u8]) -> &[u8] {
-    match path.iter().position(|b| *b == b'/') {
-        Some(at) => &path[at + 1..],
+// What stands behind the first slash, or nothing.
+#[tactic(auto, using(crate::proofs::SlashLemmas::after_some, crate::proofs::SlashLemmas::after_none))]
+fn behind_slash(path: &[u8]) -> &[u8]
+    ensures { result.now ≡ after_first is_slash path.now }
+{
+    match slash_in(path) {
+        Some(at) => path.split_at(at + 1).1,
         None => &[],
     }
 }
 
-// The number of 1 to 9 digits, of which the first isn't 0.
-fn number(digits: &[u8]) -> Option<u32> {
-    if digits.is_empty() || digits.len() > 9 || digits[0] == b'0' {
-        return None;
-    }
-    let mut value = 0u32;
-    for digit in digits {
-        if !digit.is_ascii_digit() {
-            return None;
-        }
-        value = value
-            .wrapping_mul(10)
-            .wrapping_add(u32::from(*digit - b'0'));
-    }
-    Some(value)
+// What stands behind two slashes of a path, up to the next one.
+fn second_part(path: &[u8]) -> &[u8]
+    ensures { result.now ≡ part 2 path.now }
+{
+    before_slash(behind_slash(behind_slash(path)))
 }
 
-// The route with the numbers of the path.
-fn with_numbers(route: Route, path: &[u8]) -> Option<Ask> {
-    if route == Route::Jobs {
-        return Some(Ask::Add);
-    }
-    let job = number(part(path, 2))?;
+// What stands behind four slashes of a path, up to the next one.
+fn fourth_part(path: &[u8]) -> &[u8]
+    ensures { result.now ≡ part 4 path.now }
+{
+    second_part(behind_slash(behind_slash(path)))
+}
+
+// What a route asks for, with the numbers of the path.
+fn ask_in(route: Route, path: &[u8]) -> Option<Ask>
+    ensures { result ≡ ask_in path.now route }
+{
+    let job = path_number(second_part(path));
+    let n = path_number(fourth_part(path));
     match route {
         Route::Jobs => Some(Ask::Add),
-        Route::Job => Some(Ask::Head { job }),
-        Route::Reports => Some(Ask::Reports { job }),
-        Route::Close => Some(Ask::Close { job }),
-        Route::File => Some(Ask::File {
-            job,
-            n: number(part(path, 4))?,
-        }),
-        Route::Report => Some(Ask::Judge {
-            job,
-            n: number(part(path, 4))?,
-        }),
+        Route::Job => Some(Ask::Head { job: job? }),
+        Route::Reports => Some(Ask::Reports { job: job? }),
+        Route::Close => Some(Ask::Close { job: job? }),
+        Route::File => Some(Ask::File { job: job?, n: n? }),
+        Route::Report => Some(Ask::Judge { job: job?, n: n? }),
     }
 }
 
 /// What a path asks for, if it has a route. The only error is want of memory.
-pub fn ask_of(alloc: Global, path: &str) -> Result<Option<Ask>, InsertError> {
+pub fn ask_of(alloc: Global, path: &str) -> Result<Option<Ask>, InsertError>
+    ensures { IfOk result (λ ask. ask ≡ ask_at path.now) }
+{
     let router = routes(alloc)?;
     match router.at(path) {
-        Ok(found) => Ok(with_numbers(*found.value, path.as_bytes())),
+        Ok(found) => Ok(ask_in(*found.value, path.as_bytes())),
         Err(_) => Ok(None),
     }
 }
