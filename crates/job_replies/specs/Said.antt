@@ -12,7 +12,7 @@ use Rattle.job_core.specs.declared.job.JobFile.{JobFile}
 use Rattle.job_core.specs.declared.job.JobHead.{JobHead}
 use Rattle.review_answers.specs.Bodies.{error, file, head, judged, reports}
 use Rattle.review_answers.specs.declared.code.Code.{Code}
-use Rattle.review_answers.specs.declared.code.Code.TheVariants.{Fine, BadRequest, NotFound, Conflict}
+use Rattle.review_answers.specs.declared.code.Code.TheVariants.{Fine, BadRequest, NotFound, Conflict, UnprocessableContent}
 use Rattle.review_bodies.specs.Json.{Comes}
 use Rattle.review_bodies.specs.Judgement.{judgement_of}
 use Rattle.review_bodies.specs.declared.judgement.Judgement.{Judgement}
@@ -42,6 +42,10 @@ no_job = say NotFound (error (codes "job"))
 
 abbrev pub conflict : List ℕ → Said
 conflict word = say Conflict (error word)
+
+-- the work refuses the files or the settings with this text
+abbrev pub refused : List ℕ → Said
+refused text = say UnprocessableContent (error text)
 
 -- what is shown of a job, a file, or the reports of a job
 abbrev pub head_said : Option StoredJob → Said
