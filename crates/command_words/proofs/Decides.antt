@@ -1,6 +1,6 @@
 -- What a parse that succeeds or fails says of the words.
 use Rattle.std.proofs.Common.{◌≡◌, true, List, [], ◌∷◌, refl, ap, sym, ◌∙◌, subst, codes, inl, inr}
-use Rattle.std.specs.Prelude.{◌⊎◌, Option, None, Some}
+use Rattle.std.specs.Prelude.{◌⊎◌, Option, None}
 use Rattle.clap.specs.Faults.{fault_of, is_simple_and_free}
 use Rattle.clap.specs.Kinds.{Kinds, IsAmong, HasKind}
 use Rattle.clap.specs.Matches.{first_value, found_of}
@@ -35,7 +35,8 @@ taken app name words m t e faults has is =
     is ∙ first_value-rows (found_of m) (codes "settings") ∙ ap (λ (rs : List Row). first_of (codes "settings") rs) rows
     ∙ ap (λ (ks : Kinds). unless_faulty ks (first_of (codes "settings") (matches_of (with_settings name) words))) (sym none)
 
-some_fault : (k : ErrorKind) (ks : Kinds) (t : Option Text) → IsAmong k ks → None ≡ unless_faulty ks t
+-- a fault leaves nothing
+pub some_fault : {X : Type 0} (k : ErrorKind) (ks : Kinds) (t : Option X) → IsAmong k ks → None ≡ unless_faulty ks t
 some_fault k [] t h = absurd h
 some_fault k (x ∷ ks) t h = refl
 

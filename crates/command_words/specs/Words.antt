@@ -19,10 +19,10 @@ settings_rule = record (new_rule (codes "settings")) { long = Some (codes "setti
 abbrev pub with_settings : Text → App
 with_settings name = with_rule (new_app name) settings_rule
 
--- a text, where there is no fault
-abbrev pub unless_faulty : Kinds → Option Text → Option Text
-unless_faulty [] text = text
-unless_faulty (k ∷ ks) text = None
+-- what was read, where there is no fault
+abbrev pub unless_faulty : {X : Type 0} → Kinds → Option X → Option X
+unless_faulty [] read = read
+unless_faulty (k ∷ ks) read = None
 
 -- the option's text, where the command takes the words
 abbrev pub settings_in : App → List Text → Option Text

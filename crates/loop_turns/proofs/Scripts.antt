@@ -10,11 +10,11 @@ use Rattle.php_meaning.specs.values.Value.{Value, Null, Truth, Int, Text, Object
 use Rattle.php_meaning.specs.values.Convert.{to_truth}
 use Rattle.php_meaning.specs.values.Copies.{copied}
 use Rattle.php_meaning.specs.values.Arrays.{Array, Entry, entry_after}
-use Rattle.php_meaning.specs.Cause.{NoRule, Conversion, Error, Outcome, Gives, Outside, ExceptionClass}
+use Rattle.php_meaning.specs.Cause.{NoRule, Conversion, Reference, Error, Outcome, Gives, Outside, ExceptionClass}
 use Rattle.php_meaning.specs.Differences.{ByVersion, Alike, Differs}
 use Rattle.php_meaning.specs.names.Tables.{Tables, declaration_at}
 use Rattle.php_meaning.specs.names.Tables as table
-use Rattle.php_meaning.specs.runs.World.{Bytes, Store}
+use Rattle.php_meaning.specs.runs.World.{Bytes, Member, Store}
 use Rattle.php_meaning.specs.runs.Stores.{cells_of, next_cell, object_at, walking, walked_over}
 use Rattle.php_meaning.specs.runs.Locations.{Change, Changed, Refused, written, shared_at, bound_at, changed_at, shared_element, front, last_of}
 use Rattle.php_meaning.specs.runs.Script.{
@@ -28,7 +28,6 @@ use Rattle.php_meaning.specs.runs.Script.{
   Typed,
   Root,
   InVariable,
-  InCell,
   InProperty,
   InStatic,
   InValue,
@@ -123,7 +122,7 @@ use Rattle.php_meaning.specs.statements.Loops.{
   foreach,
 }
 use Rattle.php_meaning.specs.classes.Types.{of_form, of_type, passes, type_form}
-use Rattle.php_meaning.specs.classes.Properties.{is_barred, Found, found_then, property_found, property_base, property_base_then, properties_at}
+use Rattle.php_meaning.specs.classes.Properties.{is_barred, Found, found_then, property_found, property_base, property_base_then, bind_member, bind_property, properties_at}
 use Rattle.php_meaning.specs.Rules.{rule}
 use Rattle.loop_turns.specs.Laws.{is_loop}
 
@@ -277,9 +276,8 @@ module _ (p : ℕ → Bool) where
 
     root_safe : (b : Bool) (r : Root) (k : Base → Script) → ((x : Base) → Safe b (k x)) → Safe b (root_then (properties_at t site) site r k)
     root_safe b (InVariable name) k h = λ s. h (variable_base site name s)
-    root_safe b (InCell c typing) k h = h (Made c typing)
     root_safe b (InProperty v name) k h = base_safe b v name k h
-    root_safe b (InStatic class name d) k h = λ s. h (static_base class name d s)
+    root_safe b (InStatic class name typing) k h = λ s. h (static_base class name typing s)
     root_safe b (InValue v) k h = tt
 
     part_safe : (b : Bool) (os : List (Option Value)) (x : Base) (k : Script) → Safe b k → Safe b (unless_part os x k)
@@ -318,16 +316,29 @@ module _ (p : ℕ → Bool) where
         (root_safe b l.root (base_cell k) (base_cell_safe b k h))
         (λ key. change_safe b l.root (front l.offsets) (shared_at taker key) k h)
 
-    bind_root_safe : (b : Bool) (r : Root) (c : Cell) (k : Script) → Safe b k → Safe b (bind_root r c k)
+    member_safe : (b : Bool) (typing : Typing) (n : ℕ) (m : Member) (c : Cell) (k : Script) → Safe b k → Safe b (bind_member typing n m c k)
+    member_safe b Untyped n m c k h = λ s. h
+    member_safe b (Typed d) n m c k h = tt
+
+    bound_safe : (b : Bool) (v : Value) (name : Bytes) (c : Cell) (k : Script) → Safe b k → Safe b (bind_property t site v name c k)
+    bound_safe b Null name c k h = tt
+    bound_safe b (Truth x) name c k h = tt
+    bound_safe b (Int i) name c k h = tt
+    bound_safe b (Text w) name c k h = tt
+    bound_safe b (Arr largest next es) name c k h = tt
+    bound_safe b (Object n) name c k h =
+        found_safe b n name (Stop Reference) (λ f. bind_member f.typing n f.member c k) tt (λ f. member_safe b f.typing n f.member c k h)
+
+    bind_root_safe : (b : Bool) (r : Root) (c : Cell) (k : Script) → Safe b k → Safe b (bind_root (properties_at t site) r c k)
     bind_root_safe b (InVariable name) c k h = λ s. h
-    bind_root_safe b (InCell d typing) c k h = tt
-    bind_root_safe b (InProperty v name) c k h = tt
-    bind_root_safe b (InStatic class name d) c k h = tt
+    bind_root_safe b (InProperty v name) c k h = bound_safe b v name c k h
+    bind_root_safe b (InStatic class name Untyped) c k h = λ s. h
+    bind_root_safe b (InStatic class name (Typed d)) c k h = tt
     bind_root_safe b (InValue v) c k h = tt
 
     bind_safe : (b : Bool) (l : Location) (c : Cell) (k : Script) → Safe b k → Safe b (bind (properties_at t site) site l c k)
     bind_safe b l c k h =
-        option_safe b (last_of l.offsets) (bind_root l.root c k)
+        option_safe b (last_of l.offsets) (bind_root (properties_at t site) l.root c k)
         (λ key. change (properties_at t site) site l.root (front l.offsets) (bound_at key c) (λ u. k)) (bind_root_safe b l.root c k h)
         (λ key. change_safe b l.root (front l.offsets) (bound_at key c) (λ u. k) (λ u. h))
 

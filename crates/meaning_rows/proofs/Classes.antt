@@ -8,7 +8,8 @@ use Rattle.builtin_tables.specs.Builtins.{builtin_rows}
 use Rattle.builtin_tables.specs.Constants.{named_constants, word_constants}
 use Rattle.builtin_tables.specs.Named.{is_same_name}
 use Rattle.builtin_tables.specs.Newer.{newer_functions, newer_classes, newer_constants}
-use Rattle.meaning_rows.specs.Words.{t, b, file, ended, Comes}
+use Rattle.php_meaning.specs.Cause.{Reference}
+use Rattle.meaning_rows.specs.Words.{t, b, file, ended, outside, Comes}
 
 -- <?php class A { public $n = 1; function add($k) { $this->n += $k; return $this; } } echo (new A)->add(2)->add(3)->n;
 abbrev methods_tree : Forest
@@ -328,3 +329,274 @@ old_constructor_called : Comes 200 (file old_constructor_called_tree) (file old_
     ((codes "1"), ended)
 unfolding builtin_rows named_constants word_constants is_same_name newer_functions newer_classes newer_constants beyond_functions beyond_classes beyond_constants
 old_constructor_called = (refl, refl)
+
+-- <?php class A { public $p = 1; } $x = 5; $o = new A; $o->p = &$x; $x = 6; echo $o->p; $o->p = 7; echo $x; $o->n
+--  = &$x; $o->n++; echo $x, $o->p;
+abbrev property_bound_tree : Forest
+property_bound_tree =
+    (node kind.Class (t token.Keyword "class" (t token.Label "A" (t token.Op "{" (node kind.Property (t
+    token.Keyword "public" (t token.Variable "$p" (t token.Op "=" (node kind.Number (t token.Int "1" none) (t
+    token.Semi ";" none))))) (t token.Op "}" none))))) (node kind.ExprStmt (node kind.Assign (node kind.Variable
+    (t token.Variable "$x" none) (t token.Op "=" (node kind.Number (t token.Int "5" none) none))) (t token.Semi
+    ";" none)) (node kind.ExprStmt (node kind.Assign (node kind.Variable (t token.Variable "$o" none) (t
+    token.Op "=" (node kind.New (t token.Keyword "new" (t token.Label "A" none)) none))) (t token.Semi ";"
+    none)) (node kind.ExprStmt (node kind.AssignRef (node kind.Prop (node kind.Variable (t token.Variable "$o"
+    none) (t token.Op "->" (t token.Label "p" none))) (t token.Op "=" (t token.Op "&" (node kind.Variable (t
+    token.Variable "$x" none) none)))) (t token.Semi ";" none)) (node kind.ExprStmt (node kind.Assign (node
+    kind.Variable (t token.Variable "$x" none) (t token.Op "=" (node kind.Number (t token.Int "6" none) none)))
+    (t token.Semi ";" none)) (node kind.Echo (t token.Keyword "echo" (node kind.Prop (node kind.Variable (t
+    token.Variable "$o" none) (t token.Op "->" (t token.Label "p" none))) (t token.Semi ";" none))) (node
+    kind.ExprStmt (node kind.Assign (node kind.Prop (node kind.Variable (t token.Variable "$o" none) (t token.Op
+    "->" (t token.Label "p" none))) (t token.Op "=" (node kind.Number (t token.Int "7" none) none))) (t
+    token.Semi ";" none)) (node kind.Echo (t token.Keyword "echo" (node kind.Variable (t token.Variable "$x"
+    none) (t token.Semi ";" none))) (node kind.ExprStmt (node kind.AssignRef (node kind.Prop (node kind.Variable
+    (t token.Variable "$o" none) (t token.Op "->" (t token.Label "n" none))) (t token.Op "=" (t token.Op "&"
+    (node kind.Variable (t token.Variable "$x" none) none)))) (t token.Semi ";" none)) (node kind.ExprStmt (node
+    kind.Postfix (node kind.Prop (node kind.Variable (t token.Variable "$o" none) (t token.Op "->" (t
+    token.Label "n" none))) (t token.Op "++" none)) (t token.Semi ";" none)) (node kind.Echo (t token.Keyword
+    "echo" (node kind.Variable (t token.Variable "$x" none) (t token.Op "," (node kind.Prop (node kind.Variable
+    (t token.Variable "$o" none) (t token.Op "->" (t token.Label "p" none))) (t token.Semi ";" none)))))
+    none)))))))))))
+
+property_bound : Comes 200 (file property_bound_tree) (file property_bound_tree) (codes "a.php")
+    ((codes "6788"), ended)
+    ((codes "6788"), ended)
+unfolding builtin_rows named_constants word_constants is_same_name newer_functions newer_classes newer_constants beyond_functions beyond_classes beyond_constants
+property_bound = (refl, refl)
+
+-- <?php $o = new stdClass; $a = [1, 2]; $o->p = &$a[0]; $o->p = 9; echo $a[0]; unset($o->p); echo isset($o->p) ? 1
+--  : 0; $b = $a; $b[0] = 3; echo $a[0];
+abbrev property_bound_to_an_element_tree : Forest
+property_bound_to_an_element_tree =
+    (node kind.ExprStmt (node kind.Assign (node kind.Variable (t token.Variable "$o" none) (t token.Op "=" (node
+    kind.New (t token.Keyword "new" (t token.Label "stdClass" none)) none))) (t token.Semi ";" none)) (node
+    kind.ExprStmt (node kind.Assign (node kind.Variable (t token.Variable "$a" none) (t token.Op "=" (node
+    kind.Array (t token.Op "[" (node kind.Item (node kind.Number (t token.Int "1" none) none) (t token.Op ","
+    (node kind.Item (node kind.Number (t token.Int "2" none) none) (t token.Op "]" none))))) none))) (t
+    token.Semi ";" none)) (node kind.ExprStmt (node kind.AssignRef (node kind.Prop (node kind.Variable (t
+    token.Variable "$o" none) (t token.Op "->" (t token.Label "p" none))) (t token.Op "=" (t token.Op "&" (node
+    kind.Offset (node kind.Variable (t token.Variable "$a" none) (t token.Op "[" (node kind.Number (t token.Int
+    "0" none) (t token.Op "]" none)))) none)))) (t token.Semi ";" none)) (node kind.ExprStmt (node kind.Assign
+    (node kind.Prop (node kind.Variable (t token.Variable "$o" none) (t token.Op "->" (t token.Label "p" none)))
+    (t token.Op "=" (node kind.Number (t token.Int "9" none) none))) (t token.Semi ";" none)) (node kind.Echo (t
+    token.Keyword "echo" (node kind.Offset (node kind.Variable (t token.Variable "$a" none) (t token.Op "["
+    (node kind.Number (t token.Int "0" none) (t token.Op "]" none)))) (t token.Semi ";" none))) (node kind.Unset
+    (t token.Keyword "unset" (t token.Op "(" (node kind.Prop (node kind.Variable (t token.Variable "$o" none) (t
+    token.Op "->" (t token.Label "p" none))) (t token.Op ")" (t token.Semi ";" none))))) (node kind.Echo (t
+    token.Keyword "echo" (node kind.Ternary (node kind.Isset (t token.Keyword "isset" (t token.Op "(" (node
+    kind.Prop (node kind.Variable (t token.Variable "$o" none) (t token.Op "->" (t token.Label "p" none))) (t
+    token.Op ")" none)))) (t token.Op "?" (node kind.Number (t token.Int "1" none) (t token.Op ":" (node
+    kind.Number (t token.Int "0" none) none))))) (t token.Semi ";" none))) (node kind.ExprStmt (node kind.Assign
+    (node kind.Variable (t token.Variable "$b" none) (t token.Op "=" (node kind.Variable (t token.Variable "$a"
+    none) none))) (t token.Semi ";" none)) (node kind.ExprStmt (node kind.Assign (node kind.Offset (node
+    kind.Variable (t token.Variable "$b" none) (t token.Op "[" (node kind.Number (t token.Int "0" none) (t
+    token.Op "]" none)))) (t token.Op "=" (node kind.Number (t token.Int "3" none) none))) (t token.Semi ";"
+    none)) (node kind.Echo (t token.Keyword "echo" (node kind.Offset (node kind.Variable (t token.Variable "$a"
+    none) (t token.Op "[" (node kind.Number (t token.Int "0" none) (t token.Op "]" none)))) (t token.Semi ";"
+    none))) none))))))))))
+
+property_bound_to_an_element : Comes 200 (file property_bound_to_an_element_tree) (file property_bound_to_an_element_tree) (codes "a.php")
+    ((codes "909"), ended)
+    ((codes "909"), ended)
+unfolding builtin_rows named_constants word_constants is_same_name newer_functions newer_classes newer_constants beyond_functions beyond_classes beyond_constants
+property_bound_to_an_element = (refl, refl)
+
+-- <?php class A { private $q = 2; function bind(&$x) { $this->q = &$x; return $this; } function q() { return
+--  $this->q; } } $y = 4; $o = new A; echo $o->bind($y)->q(); $y = 8; echo $o->q();
+abbrev private_property_bound_tree : Forest
+private_property_bound_tree =
+    (node kind.Class (t token.Keyword "class" (t token.Label "A" (t token.Op "{" (node kind.Property (t
+    token.Keyword "private" (t token.Variable "$q" (t token.Op "=" (node kind.Number (t token.Int "2" none) (t
+    token.Semi ";" none))))) (node kind.Method (t token.Keyword "function" (t token.Label "bind" (t token.Op "("
+    (node kind.Param (t token.Op "&" (t token.Variable "$x" none)) (t token.Op ")" (node kind.Block (t token.Op
+    "{" (node kind.ExprStmt (node kind.AssignRef (node kind.Prop (node kind.Variable (t token.Variable "$this"
+    none) (t token.Op "->" (t token.Label "q" none))) (t token.Op "=" (t token.Op "&" (node kind.Variable (t
+    token.Variable "$x" none) none)))) (t token.Semi ";" none)) (node kind.Return (t token.Keyword "return"
+    (node kind.Variable (t token.Variable "$this" none) (t token.Semi ";" none))) (t token.Op "}" none))))
+    none)))))) (node kind.Method (t token.Keyword "function" (t token.Label "q" (t token.Op "(" (t token.Op ")"
+    (node kind.Block (t token.Op "{" (node kind.Return (t token.Keyword "return" (node kind.Prop (node
+    kind.Variable (t token.Variable "$this" none) (t token.Op "->" (t token.Label "q" none))) (t token.Semi ";"
+    none))) (t token.Op "}" none))) none))))) (t token.Op "}" none))))))) (node kind.ExprStmt (node kind.Assign
+    (node kind.Variable (t token.Variable "$y" none) (t token.Op "=" (node kind.Number (t token.Int "4" none)
+    none))) (t token.Semi ";" none)) (node kind.ExprStmt (node kind.Assign (node kind.Variable (t token.Variable
+    "$o" none) (t token.Op "=" (node kind.New (t token.Keyword "new" (t token.Label "A" none)) none))) (t
+    token.Semi ";" none)) (node kind.Echo (t token.Keyword "echo" (node kind.MethodCall (node kind.MethodCall
+    (node kind.Variable (t token.Variable "$o" none) (t token.Op "->" (t token.Label "bind" (t token.Op "("
+    (node kind.Args (node kind.Variable (t token.Variable "$y" none) none) (t token.Op ")" none)))))) (t
+    token.Op "->" (t token.Label "q" (t token.Op "(" (node kind.Args none (t token.Op ")" none)))))) (t
+    token.Semi ";" none))) (node kind.ExprStmt (node kind.Assign (node kind.Variable (t token.Variable "$y"
+    none) (t token.Op "=" (node kind.Number (t token.Int "8" none) none))) (t token.Semi ";" none)) (node
+    kind.Echo (t token.Keyword "echo" (node kind.MethodCall (node kind.Variable (t token.Variable "$o" none) (t
+    token.Op "->" (t token.Label "q" (t token.Op "(" (node kind.Args none (t token.Op ")" none)))))) (t
+    token.Semi ";" none))) none))))))
+
+private_property_bound : Comes 200 (file private_property_bound_tree) (file private_property_bound_tree) (codes "a.php")
+    ((codes "48"), ended)
+    ((codes "48"), ended)
+unfolding builtin_rows named_constants word_constants is_same_name newer_functions newer_classes newer_constants beyond_functions beyond_classes beyond_constants
+private_property_bound = (refl, refl)
+
+-- <?php $o = new stdClass; $l = [3, 4]; foreach ($l as &$o->p) { $o->p *= 2; } echo $l[0], $l[1]; $o->p = 5; echo
+--  $l[1];
+abbrev property_of_a_loop_tree : Forest
+property_of_a_loop_tree =
+    (node kind.ExprStmt (node kind.Assign (node kind.Variable (t token.Variable "$o" none) (t token.Op "=" (node
+    kind.New (t token.Keyword "new" (t token.Label "stdClass" none)) none))) (t token.Semi ";" none)) (node
+    kind.ExprStmt (node kind.Assign (node kind.Variable (t token.Variable "$l" none) (t token.Op "=" (node
+    kind.Array (t token.Op "[" (node kind.Item (node kind.Number (t token.Int "3" none) none) (t token.Op ","
+    (node kind.Item (node kind.Number (t token.Int "4" none) none) (t token.Op "]" none))))) none))) (t
+    token.Semi ";" none)) (node kind.Foreach (t token.Keyword "foreach" (t token.Op "(" (node kind.Variable (t
+    token.Variable "$l" none) (t token.Keyword "as" (t token.Op "&" (node kind.Prop (node kind.Variable (t
+    token.Variable "$o" none) (t token.Op "->" (t token.Label "p" none))) (t token.Op ")" (node kind.Block (t
+    token.Op "{" (node kind.ExprStmt (node kind.CompoundAssign (node kind.Prop (node kind.Variable (t
+    token.Variable "$o" none) (t token.Op "->" (t token.Label "p" none))) (t token.Op "*=" (node kind.Number (t
+    token.Int "2" none) none))) (t token.Semi ";" none)) (t token.Op "}" none))) none)))))))) (node kind.Echo (t
+    token.Keyword "echo" (node kind.Offset (node kind.Variable (t token.Variable "$l" none) (t token.Op "["
+    (node kind.Number (t token.Int "0" none) (t token.Op "]" none)))) (t token.Op "," (node kind.Offset (node
+    kind.Variable (t token.Variable "$l" none) (t token.Op "[" (node kind.Number (t token.Int "1" none) (t
+    token.Op "]" none)))) (t token.Semi ";" none))))) (node kind.ExprStmt (node kind.Assign (node kind.Prop
+    (node kind.Variable (t token.Variable "$o" none) (t token.Op "->" (t token.Label "p" none))) (t token.Op "="
+    (node kind.Number (t token.Int "5" none) none))) (t token.Semi ";" none)) (node kind.Echo (t token.Keyword
+    "echo" (node kind.Offset (node kind.Variable (t token.Variable "$l" none) (t token.Op "[" (node kind.Number
+    (t token.Int "1" none) (t token.Op "]" none)))) (t token.Semi ";" none))) none))))))
+
+property_of_a_loop : Comes 200 (file property_of_a_loop_tree) (file property_of_a_loop_tree) (codes "a.php")
+    ((codes "685"), ended)
+    ((codes "685"), ended)
+unfolding builtin_rows named_constants word_constants is_same_name newer_functions newer_classes newer_constants beyond_functions beyond_classes beyond_constants
+property_of_a_loop = (refl, refl)
+
+-- <?php $o = new stdClass; $a = [1]; $o->p = &$a[0]; echo 1; $b = $a;
+abbrev array_with_an_element_of_a_property_tree : Forest
+array_with_an_element_of_a_property_tree =
+    (node kind.ExprStmt (node kind.Assign (node kind.Variable (t token.Variable "$o" none) (t token.Op "=" (node
+    kind.New (t token.Keyword "new" (t token.Label "stdClass" none)) none))) (t token.Semi ";" none)) (node
+    kind.ExprStmt (node kind.Assign (node kind.Variable (t token.Variable "$a" none) (t token.Op "=" (node
+    kind.Array (t token.Op "[" (node kind.Item (node kind.Number (t token.Int "1" none) none) (t token.Op "]"
+    none))) none))) (t token.Semi ";" none)) (node kind.ExprStmt (node kind.AssignRef (node kind.Prop (node
+    kind.Variable (t token.Variable "$o" none) (t token.Op "->" (t token.Label "p" none))) (t token.Op "=" (t
+    token.Op "&" (node kind.Offset (node kind.Variable (t token.Variable "$a" none) (t token.Op "[" (node
+    kind.Number (t token.Int "0" none) (t token.Op "]" none)))) none)))) (t token.Semi ";" none)) (node
+    kind.Echo (t token.Keyword "echo" (node kind.Number (t token.Int "1" none) (t token.Semi ";" none))) (node
+    kind.ExprStmt (node kind.Assign (node kind.Variable (t token.Variable "$b" none) (t token.Op "=" (node
+    kind.Variable (t token.Variable "$a" none) none))) (t token.Semi ";" none)) none)))))
+
+array_with_an_element_of_a_property : Comes 200 (file array_with_an_element_of_a_property_tree) (file array_with_an_element_of_a_property_tree) (codes "a.php")
+    ((codes "1"), outside Reference)
+    ((codes "1"), outside Reference)
+unfolding builtin_rows named_constants word_constants is_same_name newer_functions newer_classes newer_constants beyond_functions beyond_classes beyond_constants
+array_with_an_element_of_a_property = (refl, refl)
+
+-- <?php class A { public int $t = 3; } $x = 1; $o = new A; echo 1; $o->t = &$x;
+abbrev typed_property_bound_tree : Forest
+typed_property_bound_tree =
+    (node kind.Class (t token.Keyword "class" (t token.Label "A" (t token.Op "{" (node kind.Property (t
+    token.Keyword "public" (node kind.TypeName (t token.Label "int" none) (t token.Variable "$t" (t token.Op "="
+    (node kind.Number (t token.Int "3" none) (t token.Semi ";" none)))))) (t token.Op "}" none))))) (node
+    kind.ExprStmt (node kind.Assign (node kind.Variable (t token.Variable "$x" none) (t token.Op "=" (node
+    kind.Number (t token.Int "1" none) none))) (t token.Semi ";" none)) (node kind.ExprStmt (node kind.Assign
+    (node kind.Variable (t token.Variable "$o" none) (t token.Op "=" (node kind.New (t token.Keyword "new" (t
+    token.Label "A" none)) none))) (t token.Semi ";" none)) (node kind.Echo (t token.Keyword "echo" (node
+    kind.Number (t token.Int "1" none) (t token.Semi ";" none))) (node kind.ExprStmt (node kind.AssignRef (node
+    kind.Prop (node kind.Variable (t token.Variable "$o" none) (t token.Op "->" (t token.Label "t" none))) (t
+    token.Op "=" (t token.Op "&" (node kind.Variable (t token.Variable "$x" none) none)))) (t token.Semi ";"
+    none)) none)))))
+
+typed_property_bound : Comes 200 (file typed_property_bound_tree) (file typed_property_bound_tree) (codes "a.php")
+    ((codes "1"), outside Reference)
+    ((codes "1"), outside Reference)
+unfolding builtin_rows named_constants word_constants is_same_name newer_functions newer_classes newer_constants beyond_functions beyond_classes beyond_constants
+typed_property_bound = (refl, refl)
+
+-- <?php class A { private $q = 3; } $x = 1; $o = new A; echo 1; $o->q = &$x;
+abbrev unseen_property_bound_tree : Forest
+unseen_property_bound_tree =
+    (node kind.Class (t token.Keyword "class" (t token.Label "A" (t token.Op "{" (node kind.Property (t
+    token.Keyword "private" (t token.Variable "$q" (t token.Op "=" (node kind.Number (t token.Int "3" none) (t
+    token.Semi ";" none))))) (t token.Op "}" none))))) (node kind.ExprStmt (node kind.Assign (node kind.Variable
+    (t token.Variable "$x" none) (t token.Op "=" (node kind.Number (t token.Int "1" none) none))) (t token.Semi
+    ";" none)) (node kind.ExprStmt (node kind.Assign (node kind.Variable (t token.Variable "$o" none) (t
+    token.Op "=" (node kind.New (t token.Keyword "new" (t token.Label "A" none)) none))) (t token.Semi ";"
+    none)) (node kind.Echo (t token.Keyword "echo" (node kind.Number (t token.Int "1" none) (t token.Semi ";"
+    none))) (node kind.ExprStmt (node kind.AssignRef (node kind.Prop (node kind.Variable (t token.Variable "$o"
+    none) (t token.Op "->" (t token.Label "q" none))) (t token.Op "=" (t token.Op "&" (node kind.Variable (t
+    token.Variable "$x" none) none)))) (t token.Semi ";" none)) none)))))
+
+unseen_property_bound : Comes 200 (file unseen_property_bound_tree) (file unseen_property_bound_tree) (codes "a.php")
+    ((codes "1"), outside Reference)
+    ((codes "1"), outside Reference)
+unfolding builtin_rows named_constants word_constants is_same_name newer_functions newer_classes newer_constants beyond_functions beyond_classes beyond_constants
+unseen_property_bound = (refl, refl)
+
+-- <?php class A { static $s = 1; static $r = 2; } class B extends A {} $x = 5; A::$s = &$x; $x = 6; echo A::$s,
+--  B::$s; B::$s = 7; echo $x; A::$r = &A::$s; A::$r++; echo $x; $y = 3; A::$s = &$y; echo A::$s, A::$r, $x;
+abbrev static_property_bound_tree : Forest
+static_property_bound_tree =
+    (node kind.Class (t token.Keyword "class" (t token.Label "A" (t token.Op "{" (node kind.Property (t
+    token.Keyword "static" (t token.Variable "$s" (t token.Op "=" (node kind.Number (t token.Int "1" none) (t
+    token.Semi ";" none))))) (node kind.Property (t token.Keyword "static" (t token.Variable "$r" (t token.Op
+    "=" (node kind.Number (t token.Int "2" none) (t token.Semi ";" none))))) (t token.Op "}" none)))))) (node
+    kind.Class (t token.Keyword "class" (t token.Label "B" (t token.Keyword "extends" (t token.Label "A" (t
+    token.Op "{" (t token.Op "}" none)))))) (node kind.ExprStmt (node kind.Assign (node kind.Variable (t
+    token.Variable "$x" none) (t token.Op "=" (node kind.Number (t token.Int "5" none) none))) (t token.Semi ";"
+    none)) (node kind.ExprStmt (node kind.AssignRef (node kind.StaticProp (t token.Label "A" (t token.Op "::" (t
+    token.Variable "$s" none))) (t token.Op "=" (t token.Op "&" (node kind.Variable (t token.Variable "$x" none)
+    none)))) (t token.Semi ";" none)) (node kind.ExprStmt (node kind.Assign (node kind.Variable (t
+    token.Variable "$x" none) (t token.Op "=" (node kind.Number (t token.Int "6" none) none))) (t token.Semi ";"
+    none)) (node kind.Echo (t token.Keyword "echo" (node kind.StaticProp (t token.Label "A" (t token.Op "::" (t
+    token.Variable "$s" none))) (t token.Op "," (node kind.StaticProp (t token.Label "B" (t token.Op "::" (t
+    token.Variable "$s" none))) (t token.Semi ";" none))))) (node kind.ExprStmt (node kind.Assign (node
+    kind.StaticProp (t token.Label "B" (t token.Op "::" (t token.Variable "$s" none))) (t token.Op "=" (node
+    kind.Number (t token.Int "7" none) none))) (t token.Semi ";" none)) (node kind.Echo (t token.Keyword "echo"
+    (node kind.Variable (t token.Variable "$x" none) (t token.Semi ";" none))) (node kind.ExprStmt (node
+    kind.AssignRef (node kind.StaticProp (t token.Label "A" (t token.Op "::" (t token.Variable "$r" none))) (t
+    token.Op "=" (t token.Op "&" (node kind.StaticProp (t token.Label "A" (t token.Op "::" (t token.Variable
+    "$s" none))) none)))) (t token.Semi ";" none)) (node kind.ExprStmt (node kind.Postfix (node kind.StaticProp
+    (t token.Label "A" (t token.Op "::" (t token.Variable "$r" none))) (t token.Op "++" none)) (t token.Semi ";"
+    none)) (node kind.Echo (t token.Keyword "echo" (node kind.Variable (t token.Variable "$x" none) (t
+    token.Semi ";" none))) (node kind.ExprStmt (node kind.Assign (node kind.Variable (t token.Variable "$y"
+    none) (t token.Op "=" (node kind.Number (t token.Int "3" none) none))) (t token.Semi ";" none)) (node
+    kind.ExprStmt (node kind.AssignRef (node kind.StaticProp (t token.Label "A" (t token.Op "::" (t
+    token.Variable "$s" none))) (t token.Op "=" (t token.Op "&" (node kind.Variable (t token.Variable "$y" none)
+    none)))) (t token.Semi ";" none)) (node kind.Echo (t token.Keyword "echo" (node kind.StaticProp (t
+    token.Label "A" (t token.Op "::" (t token.Variable "$s" none))) (t token.Op "," (node kind.StaticProp (t
+    token.Label "A" (t token.Op "::" (t token.Variable "$r" none))) (t token.Op "," (node kind.Variable (t
+    token.Variable "$x" none) (t token.Semi ";" none))))))) none))))))))))))))
+
+static_property_bound : Comes 200 (file static_property_bound_tree) (file static_property_bound_tree) (codes "a.php")
+    ((codes "6678388"), ended)
+    ((codes "6678388"), ended)
+unfolding builtin_rows named_constants word_constants is_same_name newer_functions newer_classes newer_constants beyond_functions beyond_classes beyond_constants
+static_property_bound = (refl, refl)
+
+-- <?php class A { static $s; } $l = [1, 2]; foreach ($l as &A::$s) { A::$s += 5; } echo $l[0], $l[1]; A::$s = 9;
+--  echo $l[1]; echo 1; $m = $l;
+abbrev static_property_of_a_loop_tree : Forest
+static_property_of_a_loop_tree =
+    (node kind.Class (t token.Keyword "class" (t token.Label "A" (t token.Op "{" (node kind.Property (t
+    token.Keyword "static" (t token.Variable "$s" (t token.Semi ";" none))) (t token.Op "}" none))))) (node
+    kind.ExprStmt (node kind.Assign (node kind.Variable (t token.Variable "$l" none) (t token.Op "=" (node
+    kind.Array (t token.Op "[" (node kind.Item (node kind.Number (t token.Int "1" none) none) (t token.Op ","
+    (node kind.Item (node kind.Number (t token.Int "2" none) none) (t token.Op "]" none))))) none))) (t
+    token.Semi ";" none)) (node kind.Foreach (t token.Keyword "foreach" (t token.Op "(" (node kind.Variable (t
+    token.Variable "$l" none) (t token.Keyword "as" (t token.Op "&" (node kind.StaticProp (t token.Label "A" (t
+    token.Op "::" (t token.Variable "$s" none))) (t token.Op ")" (node kind.Block (t token.Op "{" (node
+    kind.ExprStmt (node kind.CompoundAssign (node kind.StaticProp (t token.Label "A" (t token.Op "::" (t
+    token.Variable "$s" none))) (t token.Op "+=" (node kind.Number (t token.Int "5" none) none))) (t token.Semi
+    ";" none)) (t token.Op "}" none))) none)))))))) (node kind.Echo (t token.Keyword "echo" (node kind.Offset
+    (node kind.Variable (t token.Variable "$l" none) (t token.Op "[" (node kind.Number (t token.Int "0" none) (t
+    token.Op "]" none)))) (t token.Op "," (node kind.Offset (node kind.Variable (t token.Variable "$l" none) (t
+    token.Op "[" (node kind.Number (t token.Int "1" none) (t token.Op "]" none)))) (t token.Semi ";" none)))))
+    (node kind.ExprStmt (node kind.Assign (node kind.StaticProp (t token.Label "A" (t token.Op "::" (t
+    token.Variable "$s" none))) (t token.Op "=" (node kind.Number (t token.Int "9" none) none))) (t token.Semi
+    ";" none)) (node kind.Echo (t token.Keyword "echo" (node kind.Offset (node kind.Variable (t token.Variable
+    "$l" none) (t token.Op "[" (node kind.Number (t token.Int "1" none) (t token.Op "]" none)))) (t token.Semi
+    ";" none))) (node kind.Echo (t token.Keyword "echo" (node kind.Number (t token.Int "1" none) (t token.Semi
+    ";" none))) (node kind.ExprStmt (node kind.Assign (node kind.Variable (t token.Variable "$m" none) (t
+    token.Op "=" (node kind.Variable (t token.Variable "$l" none) none))) (t token.Semi ";" none)) none))))))))
+
+static_property_of_a_loop : Comes 200 (file static_property_of_a_loop_tree) (file static_property_of_a_loop_tree) (codes "a.php")
+    ((codes "6791"), outside Reference)
+    ((codes "6791"), outside Reference)
+unfolding builtin_rows named_constants word_constants is_same_name newer_functions newer_classes newer_constants beyond_functions beyond_classes beyond_constants
+static_property_of_a_loop = (refl, refl)

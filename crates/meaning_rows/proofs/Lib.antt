@@ -14,12 +14,14 @@ mod MixedData
 mod MixedCalls
 mod MixedNames
 mod MixedBodies
+mod MixedClasses
 mod FurtherKinds
 mod AgainstPhp
 mod PlacesAndLoops
 mod MixedOrders
 mod NamesAndClasses
 mod MagicMethods
+mod DeclaredAndIncluded
 mod PageRow
 mod Premises
 mod BuiltinRows

@@ -103,7 +103,7 @@ constant_found_by_new : Comes 200 (file constant_found_by_new_tree) (file consta
 unfolding builtin_rows named_constants word_constants is_same_name newer_functions newer_classes newer_constants beyond_functions beyond_classes beyond_constants
 constant_found_by_new = (refl, refl)
 
--- <?php class A { const K = bar; } $a = new A; define("bar", 2); echo A::K;
+-- <?php class A { const K = bar; } $a = new A; define("ba" . "r", 2); echo A::K;
 abbrev constant_found_once_tree : Forest
 constant_found_once_tree =
     (node kind.Class (t token.Keyword "class" (t token.Label "A" (t token.Op "{" (node kind.ClassConst (t
@@ -111,10 +111,11 @@ constant_found_once_tree =
     token.Semi ";" none))))) (t token.Op "}" none))))) (node kind.ExprStmt (node kind.Assign (node kind.Variable
     (t token.Variable "$a" none) (t token.Op "=" (node kind.New (t token.Keyword "new" (t token.Label "A" none))
     none))) (t token.Semi ";" none)) (node kind.ExprStmt (node kind.Call (t token.Label "define" (t token.Op "("
-    (node kind.Args (node kind.Text (t token.Text "\"bar\"" none) (t token.Op "," (node kind.Number (t token.Int
-    "2" none) none))) (t token.Op ")" none)))) (t token.Semi ";" none)) (node kind.Echo (t token.Keyword "echo"
-    (node kind.ClassConstant (t token.Label "A" (t token.Op "::" (t token.Label "K" none))) (t token.Semi ";"
-    none))) none))))
+    (node kind.Args (node kind.Binary (node kind.Text (t token.Text "\"ba\"" none) (t token.Op "." (node
+    kind.Text (t token.Text "\"r\"" none) none))) (t token.Op "," (node kind.Number (t token.Int "2" none)
+    none))) (t token.Op ")" none)))) (t token.Semi ";" none)) (node kind.Echo (t token.Keyword "echo" (node
+    kind.ClassConstant (t token.Label "A" (t token.Op "::" (t token.Label "K" none))) (t token.Semi ";" none)))
+    none))))
 
 constant_found_once : Comes 200 (file constant_found_once_tree) (file constant_found_once_tree) (codes "a.php")
     ((codes "bar"), ended)
@@ -122,18 +123,20 @@ constant_found_once : Comes 200 (file constant_found_once_tree) (file constant_f
 unfolding builtin_rows named_constants word_constants is_same_name newer_functions newer_classes newer_constants beyond_functions beyond_classes beyond_constants
 constant_found_once = (refl, refl)
 
--- <?php class A { public $p = bar; } try { new A; } catch (Error $e) { echo "e"; } define("bar", 2); $a = new A; echo $a->p;
+-- <?php class A { public $p = bar; } try { new A; } catch (Error $e) { echo "e"; } define("ba" . "r", 2); $a = new
+--  A; echo $a->p;
 abbrev default_found_again_tree : Forest
 default_found_again_tree =
     (node kind.Class (t token.Keyword "class" (t token.Label "A" (t token.Op "{" (node kind.Property (t
     token.Keyword "public" (t token.Variable "$p" (t token.Op "=" (node kind.Constant (t token.Label "bar" none)
     (t token.Semi ";" none))))) (t token.Op "}" none))))) (node kind.Try (t token.Keyword "try" (node kind.Block
     (t token.Op "{" (node kind.ExprStmt (node kind.New (t token.Keyword "new" (t token.Label "A" none)) (t
-    token.Semi ";" none)) (t token.Op "}" none))) (t token.Keyword "catch" (t token.Op "(" (t token.Label "Error"
-    (t token.Variable "$e" (t token.Op ")" (node kind.Block (t token.Op "{" (node kind.Echo (t token.Keyword
-    "echo" (node kind.Text (t token.Text "\"e\"" none) (t token.Semi ";" none))) (t token.Op "}" none)))
-    none)))))))) (node kind.ExprStmt (node kind.Call (t token.Label "define" (t token.Op "(" (node kind.Args (node
-    kind.Text (t token.Text "\"bar\"" none) (t token.Op "," (node kind.Number (t token.Int "2" none) none))) (t
+    token.Semi ";" none)) (t token.Op "}" none))) (t token.Keyword "catch" (t token.Op "(" (t token.Label
+    "Error" (t token.Variable "$e" (t token.Op ")" (node kind.Block (t token.Op "{" (node kind.Echo (t
+    token.Keyword "echo" (node kind.Text (t token.Text "\"e\"" none) (t token.Semi ";" none))) (t token.Op "}"
+    none))) none)))))))) (node kind.ExprStmt (node kind.Call (t token.Label "define" (t token.Op "(" (node
+    kind.Args (node kind.Binary (node kind.Text (t token.Text "\"ba\"" none) (t token.Op "." (node kind.Text (t
+    token.Text "\"r\"" none) none))) (t token.Op "," (node kind.Number (t token.Int "2" none) none))) (t
     token.Op ")" none)))) (t token.Semi ";" none)) (node kind.ExprStmt (node kind.Assign (node kind.Variable (t
     token.Variable "$a" none) (t token.Op "=" (node kind.New (t token.Keyword "new" (t token.Label "A" none))
     none))) (t token.Semi ";" none)) (node kind.Echo (t token.Keyword "echo" (node kind.Prop (node kind.Variable

@@ -8,7 +8,7 @@ use Rattle.builtin_tables.specs.Constants.{named_constants, word_constants}
 use Rattle.builtin_tables.specs.Named.{is_same_name}
 use Rattle.builtin_tables.specs.Beyond.{beyond_functions, beyond_classes, beyond_constants}
 use Rattle.builtin_tables.specs.Newer.{newer_functions, newer_classes, newer_constants}
-use Rattle.php_meaning.specs.Cause.{Offset, Reference}
+use Rattle.php_meaning.specs.Cause.{NoRule, Offset, Reference}
 use Rattle.meaning_rows.specs.Words.{t, b, file, ended, outside, Comes}
 
 -- ---- unsetting below what holds no entries
@@ -1052,8 +1052,8 @@ unfolding builtin_rows named_constants word_constants is_same_name newer_functio
 argument_held_by_reference = (refl, refl)
 
 -- <?php $a = [1]; echo 1; $b = [&$a[0], $c = $a];
-abbrev item_held_by_reference_tree : Forest
-item_held_by_reference_tree =
+abbrev item_of_an_element_tree : Forest
+item_of_an_element_tree =
     (node kind.ExprStmt (node kind.Assign (node kind.Variable (t token.Variable "$a" none) (t token.Op "="
     (node kind.Array (t token.Op "[" (node kind.Item (node kind.Number (t token.Int "1" none) none) (t
     token.Op "]" none))) none))) (t token.Semi ";" none)) (node kind.Echo (t token.Keyword "echo" (node
@@ -1065,11 +1065,11 @@ item_held_by_reference_tree =
     kind.Variable (t token.Variable "$a" none) none))) none) (t token.Op "]" none))))) none))) (t token.Semi
     ";" none)) none)))
 
-item_held_by_reference : Comes 200 (file item_held_by_reference_tree) (file item_held_by_reference_tree) (codes "a.php")
-    ((codes "1"), outside Reference)
-    ((codes "1"), outside Reference)
+item_of_an_element : Comes 200 (file item_of_an_element_tree) (file item_of_an_element_tree) (codes "a.php")
+    ((codes "1"), outside NoRule)
+    ((codes "1"), outside NoRule)
 unfolding builtin_rows named_constants word_constants is_same_name newer_functions newer_classes newer_constants beyond_functions beyond_classes beyond_constants
-item_held_by_reference = (refl, refl)
+item_of_an_element = (refl, refl)
 
 -- <?php function f(&$p) { $p = 5; } $a = [1, 2]; f($a[0]); $b = $a; $b[0] = 9; echo $a[0], $b[0];
 abbrev argument_by_reference_then_copied_tree : Forest

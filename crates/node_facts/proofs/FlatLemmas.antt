@@ -9,7 +9,7 @@ use Rattle.node_names.specs.Slots.{NamedSlot}
 use Rattle.node_facts.specs.declared.ends.Ends.{Ends}
 use Rattle.node_facts.specs.declared.facts.FileFacts.{FileFacts}
 use Rattle.node_facts.specs.declared.node_fact.NodeFact.{NodeFact}
-use Rattle.node_facts.specs.Flat.{Flat, flat_in, between, first_of, items_if, node_in, nodes_in, start, facts_in, lengths_of, IsUpTo, AreEnds, IsWhole}
+use Rattle.node_facts.specs.Flat.{Flat, flat_in, between, first_of, items_if, node_in, nodes_in, start, facts_in, lengths_of, IsNext, IsUpTo, AreEnds, IsWhole, slots_listed, slots_named}
 use Rattle.node_facts.specs.Named.{Named}
 use Rattle.node_facts.specs.Seen.{slot_in, slots_in, uses_in}
 
@@ -75,7 +75,7 @@ up_to_same a b e = subst (λ (c : Ends). IsUpTo a c) e (record { declares = omeg
 -- each node's items stand before the end
 ends_up_to : (from to : Ends) (ns : List NodeFact) → AreEnds from ns to → IsUpTo from to
 ends_up_to from to [] h = up_to_same from to h
-ends_up_to from to (n ∷ ns) h = up_to from n.ends to h.0 (ends_up_to n.ends to ns h.1)
+ends_up_to from to (n ∷ ns) h = up_to from n.ends to h.0.up (ends_up_to n.ends to ns h.1)
 
 sizes_up_to : (x : Flat) (n : Named) → IsUpTo (sizes x) (sizes (with_node x n))
 sizes_up_to x n = record {
@@ -83,6 +83,16 @@ sizes_up_to x n = record {
   uses = omega (arith, length-append x.uses n.uses);
   slots = omega (arith, length-append x.slots (items_if n.slot));
   listed = omega (arith, length-append x.listed n.listed);
+}
+
+one_if_any : (o : Option NamedSlot) → length (items_if o) ≤ 1
+one_if_any None = omega arith
+one_if_any (Some s) = omega arith
+
+sizes_next : (x : Flat) (n : Named) → IsNext (sizes x) (sizes (with_node x n))
+sizes_next x n = record {
+  up = sizes_up_to x n;
+  one = omega (arith, length-append x.slots (items_if n.slot), one_if_any n.slot);
 }
 
 abbrev pub named_with : NodeKind → List Name → List Use → Option NamedSlot → List (NamedSlot × NamedSlot) → Named
@@ -134,7 +144,7 @@ nodes_more x n from (m ∷ ns) h =
 
 ends_more : (x : Flat) (n : Named) (k : NodeKind) (from : Ends) (ns : List NodeFact) → AreEnds from ns (sizes x) →
     AreEnds from (ns ++ fact_with k (sizes (with_node x n)) ∷ []) (sizes (with_node x n))
-ends_more x n k from [] h = (subst (λ (e : Ends). IsUpTo e (sizes (with_node x n))) (sym h) (sizes_up_to x n), refl)
+ends_more x n k from [] h = (subst (λ (e : Ends). IsNext e (sizes (with_node x n))) (sym h) (sizes_next x n), refl)
 ends_more x n k from (m ∷ ns) h = (h.0, ends_more x n k m.ends ns h.1)
 
 -- ---- files
@@ -212,3 +222,62 @@ whole_added path old new n w a =
 -- no node
 pub whole_empty : (x : FileFacts) → x.nodes.items ≡ [] → lengths_of x ≡ start → IsWhole x
 whole_empty x e h = subst (λ (ns : List NodeFact). AreEnds start ns (lengths_of x)) (sym e) (sym h)
+
+-- ---- what all nodes name and list
+
+split_at : {A : Type 0} (k : ℕ) (ys : List A) → take k ys ++ drop k ys ≡ ys
+split_at {A} zero ys = refl
+split_at {A} (suc k) [] = refl
+split_at {A} (suc k) (y ∷ ys) = ap (λ (zs : List A). y ∷ zs) (split_at k ys)
+
+abbrev nil_of : (A : Type 0) → List A
+nil_of A = []
+
+drop_nil : (A : Type 0) (k : ℕ) → drop k (nil_of A) ≡ nil_of A
+drop_nil A zero = refl
+drop_nil A (suc k) = refl
+
+drop_twice : {A : Type 0} (from to : ℕ) (xs : List A) → from ≤ to → drop (to - from) (drop from xs) ≡ drop to xs
+drop_twice {A} zero to xs h = ap (λ n. drop n xs) (less_none to)
+drop_twice {A} (suc from) zero xs h = absurd (none_more from h)
+drop_twice {A} (suc from) (suc to) [] h = drop_nil A (suc to - suc from)
+drop_twice {A} (suc from) (suc to) (x ∷ xs) h = ap (λ n. drop n (drop from xs)) (less_one to from) ∙ drop_twice from to xs (omega (arith, h))
+
+-- the items from a place on are those up to another one, and then those from there on
+between_first : {A : Type 0} (from to : ℕ) (xs : List A) → from ≤ to → drop from xs ≡ between from to xs ++ drop to xs
+between_first {A} from to xs h =
+    sym (split_at (to - from) (drop from xs)) ∙ ap (λ (ys : List A). between from to xs ++ ys) (drop_twice from to xs h)
+
+take_one : {A : Type 0} (k : ℕ) (ys : List A) → k ≤ 1 → items_if (first_of (take k ys)) ≡ take k ys
+take_one zero ys h = refl
+take_one (suc zero) [] h = refl
+take_one (suc zero) (y ∷ ys) h = refl
+take_one (suc (suc k)) ys h = absurd (too_many k h)
+  where
+    too_many : (n : ℕ) → suc (suc n) ≤ 1 → ⊥
+    too_many n l = omega (arith, l)
+
+drop_past : {A : Type 0} (xs : List A) → drop (length xs) xs ≡ []
+drop_past [] = refl
+drop_past (x ∷ xs) = drop_past xs
+
+slots_from : (x : Flat) (from : Ends) (ns : List NodeFact) → AreEnds from ns (sizes x) → drop from.slots x.slots ≡ slots_named (nodes_in x from ns)
+slots_from x from [] h = ap (λ (e : Ends). drop e.slots x.slots) h ∙ drop_past x.slots
+slots_from x from (n ∷ ns) h =
+    between_first from.slots n.ends.slots x.slots h.0.up.slots
+    ∙ ap (λ (ys : List NamedSlot). between from.slots n.ends.slots x.slots ++ ys) (slots_from x n.ends ns h.1)
+    ∙ ap (λ (ys : List NamedSlot). ys ++ slots_named (nodes_in x n.ends ns))
+    (sym (take_one (n.ends.slots - from.slots) (drop from.slots x.slots) (omega (arith, h.0.one))))
+
+listed_from : (x : Flat) (from : Ends) (ns : List NodeFact) → AreEnds from ns (sizes x) → drop from.listed x.listed ≡ slots_listed (nodes_in x from ns)
+listed_from x from [] h = ap (λ (e : Ends). drop e.listed x.listed) h ∙ drop_past x.listed
+listed_from x from (n ∷ ns) h =
+    between_first from.listed n.ends.listed x.listed h.0.up.listed
+    ∙ ap (λ (ys : List (NamedSlot × NamedSlot)). between from.listed n.ends.listed x.listed ++ ys) (listed_from x n.ends ns h.1)
+
+-- the lists of slots are those of the nodes, one after another
+pub slots_whole : (path : List ℕ) (x : FileFacts) → IsWhole x → map (slot_in path) x.slots.items ≡ slots_named (facts_in path x)
+slots_whole path x w = slots_from (flat_in path x) start x.nodes.items (ends_in path x w)
+
+pub listed_whole : (path : List ℕ) (x : FileFacts) → IsWhole x → map (slots_in path) x.listed.items ≡ slots_listed (facts_in path x)
+listed_whole path x w = listed_from (flat_in path x) start x.nodes.items (ends_in path x w)

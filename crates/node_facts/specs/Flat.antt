@@ -1,5 +1,5 @@
 -- What the nodes of a file tell, read from lists of the whole file.
-use Rattle.std.specs.Prelude.{◌≡◌, ◌≤◌, ℕ, ◌-◌, List, [], ◌∷◌, map, length, take, drop, Option, Some, None}
+use Rattle.std.specs.Prelude.{◌≡◌, ◌≤◌, ℕ, ◌+◌, ◌-◌, List, [], ◌∷◌, ◌++◌, map, length, take, drop, Option, Some, None}
 use Rattle.php_tree.specs.declared.kind.NodeKind.{NodeKind}
 use Rattle.node_names.specs.declared.name.Name.{Name}
 use Rattle.node_names.specs.Compared.{Use}
@@ -63,6 +63,15 @@ start = record { declares = 0; uses = 0; slots = 0; listed = 0 }
 abbrev pub facts_in : List ℕ → FileFacts → List Named
 facts_in path x = nodes_in (flat_in path x) start x.nodes.items
 
+-- the slots that nodes name, and those that they list, one node's after another's
+abbrev pub slots_named : List Named → List NamedSlot
+slots_named [] = []
+slots_named (n ∷ ns) = items_if n.slot ++ slots_named ns
+
+abbrev pub slots_listed : List Named → List (NamedSlot × NamedSlot)
+slots_listed [] = []
+slots_listed (n ∷ ns) = n.listed ++ slots_listed ns
+
 -- ---- how far the lists go
 
 abbrev pub lengths_of : FileFacts → Ends
@@ -79,10 +88,15 @@ pub record IsUpTo (from to : Ends) : Type 0 where
   pub slots : from.slots ≤ to.slots
   pub listed : from.listed ≤ to.listed
 
+-- a node's items may stand between these, and one slot at most
+pub record IsNext (from to : Ends) : Type 0 where
+  pub up : IsUpTo from to
+  pub one : to.slots ≤ from.slots + 1
+
 -- the items of each node stand behind those of the node before, and no others do
 abbrev pub AreEnds : Ends → List NodeFact → Ends → Type 0
 AreEnds from [] to = from ≡ to
-AreEnds from (n ∷ ns) to = IsUpTo from n.ends × AreEnds n.ends ns to
+AreEnds from (n ∷ ns) to = IsNext from n.ends × AreEnds n.ends ns to
 
 abbrev pub IsWhole : FileFacts → Type 0
 IsWhole x = AreEnds start x.nodes.items (lengths_of x)

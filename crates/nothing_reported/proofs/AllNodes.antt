@@ -1,5 +1,5 @@
 -- Every node of a file.
-use Rattle.std.proofs.Common.{◌≡◌, ℕ, zero, suc, Bool, true, false, not, ◌&&◌, if◌then◌else◌, List, [], ◌∷◌, ◌++◌, Option, refl, sym, ◌∙◌, subst}
+use Rattle.std.proofs.Common.{◌≡◌, ℕ, zero, suc, Bool, true, false, not, ◌&&◌, if◌then◌else◌, List, [], ◌∷◌, ◌++◌, refl, sym, ◌∙◌, subst}
 use Rattle.std.proofs.lemmas.Bool.{or_from}
 use Rattle.php_tree.specs.declared.kind.NodeKind.{NodeKind}
 use Rattle.php_tree.specs.declared.kind.NodeKind.TheVariants as kind
@@ -13,12 +13,15 @@ use Rattle.php_tree.specs.Places.{behind, end_of}
 use Rattle.php_terminals.specs.declared.terminal.Terminal.{Terminal}
 use Rattle.php_terminals.specs.declared.terminal.Terminal.TheVariants as t
 use Rattle.php_terminals.specs.Classify.{terminal}
+use Rattle.syntax_rules.specs.Casts.{is_cast}
 use Rattle.syntax_rules.specs.UnsetCast.{is_undecided}
 use Rattle.syntax_upgrade.specs.Found.{Report, undecided}
 use Rattle.rule_tables.specs.declared.cause.Cause.TheVariants.{Shape}
 use Rattle.rule_tables.specs.declared.rule.RuleId.TheVariants as rule
 use Rattle.syntax_upgrade.specs.Found.{text_start}
-use Rattle.syntax_upgrade.specs.Reports.{at_node, cast_reports, reports, reports_in}
+use Rattle.syntax_upgrade.specs.NodeRule.{reports_of}
+use Rattle.syntax_upgrade.specs.Reports.{at_node, reports, reports_in}
+use Rattle.syntax_upgrade.specs.UnsetCast.{undecided_casts}
 use Rattle.syntax_upgrade.specs.NameHeads.{head_at}
 use Rattle.syntax_upgrade.specs.ReservedName as own
 use Rattle.syntax_upgrade.specs.ReservedName.{Standing, at_first, class_by, of_reserved, past, past_node, refused_if, refused_tokens}
@@ -84,11 +87,19 @@ pub empty_both : (ps qs : List Report) → ps ++ qs ≡ [] → (ps ≡ []) × (q
 empty_both [] qs e = (refl, e)
 empty_both (p ∷ ps) qs e = absurd cc
 
+no_cast : (x : Tree) → is_cast x.0 ≡ false → is_undecided x ≡ false
+no_cast x e = rw e refl
+
+unsaid : (cast there : Bool) (r : Report) → (cast ≡ false → there ≡ false)
+    → (if cast && true then (if there then r ∷ [] else []) else []) ≡ [] → there ≡ false
+unsaid false there r g e = g refl
+unsaid true there r g e = only_if there r e
+
 -- the first rule that reports nodes
 cast_decided : (at : ℕ) (x : Tree) → at_node at x ≡ [] → is_undecided x ≡ false
 cast_decided at x e =
-    only_if (is_undecided x) (undecided rule.UnsetCast Shape (text_start at (leaves x.1)) (end_of at x.1))
-    (empty_both (cast_reports at x) _ e).0
+    unsaid (is_cast x.0) (is_undecided x) (undecided rule.UnsetCast Shape (text_start at (leaves x.1)) (end_of at x.1)) (no_cast x)
+    (empty_both (reports_of undecided_casts at x) _ e).0
 
 -- ---- all nodes
 

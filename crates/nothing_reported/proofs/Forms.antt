@@ -1,12 +1,12 @@
 -- Files in which no form is reported: no `?->` directly behind a variable in a quoted text, and no use of traits.
-use Rattle.std.proofs.Common.{◌≡◌, ℕ, zero, suc, Bool, true, false, not, ◌&&◌, ◌||◌, if◌then◌else◌, List, [], ◌∷◌, ◌++◌, refl, sym, ap, ◌∙◌, nat_eq}
+use Rattle.std.proofs.Common.{◌≡◌, ℕ, zero, suc, Bool, true, false, not, ◌&&◌, ◌||◌, if◌then◌else◌, List, [], ◌∷◌, ◌++◌, Some, refl, ap, nat_eq}
 use Rattle.std.proofs.lemmas.Bool.{false≢true, or_parts}
 use Rattle.php_spellings.specs.Bytes.{is_letter}
 use Rattle.php_tree.specs.declared.kind.NodeKind.{NodeKind}
 use Rattle.php_tree.specs.declared.kind.NodeKind.TheVariants as kind
 use Rattle.php_tree.specs.declared.token.TokenKind.{TokenKind}
 use Rattle.php_tree.specs.declared.token.TokenKind.TheVariants as token
-use Rattle.php_tree.specs.Tree.{Forest, none, leaf, node, Tree, File, file_leaves, leaves}
+use Rattle.php_tree.specs.Tree.{Forest, none, leaf, node, File, file_leaves, leaves}
 use Rattle.php_tree.specs.Places.{behind, end_of}
 use Rattle.php_terminals.specs.declared.terminal.Terminal.TheVariants as t
 use Rattle.php_terminals.specs.Classify.{terminal}
@@ -14,10 +14,12 @@ use Rattle.rewritten_shapes.specs.paired.Traits.{PlainTraits, is_trait_use}
 use Rattle.syntax_upgrade.specs.Enums.{enums}
 use Rattle.syntax_upgrade.specs.Found.{Report, outside, text_start}
 use Rattle.syntax_upgrade.specs.NameHeads.{head_at}
-use Rattle.syntax_upgrade.specs.NullsafeText as own
-use Rattle.syntax_upgrade.specs.Reports.{at_node, cast_reports, reports, reports_in}
+use Rattle.syntax_upgrade.specs.NodeRule.{has_sought, reports_of}
+use Rattle.syntax_upgrade.specs.Reports.{at_node, reports, reports_in}
 use Rattle.syntax_upgrade.specs.ReservedName.{Standing, at_first, class_by, past, past_node, refused_if}
-use Rattle.syntax_upgrade.specs.Traits as traits
+use Rattle.syntax_upgrade.specs.UnsetCast.{undecided_casts}
+use Rattle.syntax_upgrade.specs.node_rules.NullsafeText as own
+use Rattle.syntax_upgrade.specs.node_rules.Traits as traits
 use Rattle.written_tokens.specs.tokens.Written as written
 use Rattle.nothing_reported.proofs.AllNodes.{empty_both, only_if}
 
@@ -80,12 +82,31 @@ joined_none : (b : Bool) (c : Forest) → (b && own.has_question false c) ≡ fa
 joined_none false c h = refl
 joined_none true c h = (no_nullsafe false c h).1
 
-safe_node : (k : NodeKind) (c : Forest) → own.is_nullsafe_text (k, c) ≡ false → not (written.is_quoted_node k && written.has_nullsafe c) ≡ true
+-- where no piece begins so, none stands behind a variable
+none_behind : (b : Bool) (f : Forest) → has_sought (Some own.is_question) f ≡ false → own.has_question b f ≡ false
+none_behind b none h = refl
+none_behind b (leaf x f) h =
+    let p = or_parts (own.is_question x) (has_sought (Some own.is_question) f) h in
+    rw (p.0, and_none b) (none_behind false f p.1)
+none_behind b (node k c f) h = none_behind (own.is_variable k) f h
+
+unsaid : (quoted sought there : Bool) (r : Report) → (sought ≡ false → there ≡ false)
+    → (if quoted && (false || sought) then (if there then r ∷ [] else []) else []) ≡ [] → (quoted && there) ≡ false
+unsaid false sought there r g e = refl
+unsaid true false there r g e = g refl
+unsaid true true there r g e = only_if there r e
+
+no_text : (k : NodeKind) (c : Forest) (at : ℕ) → reports_of own.nullsafe_texts at (k, c) ≡ [] → (own.is_quoted k && own.has_question false c) ≡ false
+no_text k c at e =
+    unsaid (own.is_quoted k) (has_sought (Some own.is_question) c) (own.has_question false c)
+    (outside own.number (text_start at (leaves c)) (end_of at c)) (none_behind false c) e
+
+safe_node : (k : NodeKind) (c : Forest) → (own.is_quoted k && own.has_question false c) ≡ false → not (written.is_quoted_node k && written.has_nullsafe c) ≡ true
 safe_node k c h =
     let e : (written.is_quoted_node k && written.has_nullsafe c) ≡ false = rw (quoted_is k) (joined_none (own.is_quoted k) c h) in
     ap not e
 
-no_use : (k : NodeKind) (c : Forest) (at : ℕ) → traits.trait_reports at (k, c) ≡ [] → is_trait_use k ≡ true → ⊥
+no_use : (k : NodeKind) (c : Forest) (at : ℕ) → reports_of traits.traits at (k, c) ≡ [] → is_trait_use k ≡ true → ⊥
 no_use kind.TraitUse c at h i = let no : ⊥ = cc in no
 no_use _ c at h i = absurd (false≢true i)
 
@@ -95,7 +116,7 @@ pub record Clear (f : Forest) : Type 0 where
   pub safe : written.is_safe f ≡ true
   pub plain : PlainTraits f
 
-clear_node : (k : NodeKind) (c f : Forest) → own.is_nullsafe_text (k, c) ≡ false → (is_trait_use k ≡ true → ⊥) → Clear c → Clear f → Clear (node k c f)
+clear_node : (k : NodeKind) (c f : Forest) → (own.is_quoted k && own.has_question false c) ≡ false → (is_trait_use k ≡ true → ⊥) → Clear c → Clear f → Clear (node k c f)
 clear_node k c f q u i r = record {
   safe = rw (safe_node k c q, i.safe, r.safe) refl;
   plain = (λ e. absurd (u e), i.plain, r.plain);
@@ -114,11 +135,11 @@ clear k st more at (node j b f) e =
     let here = reports_in j at_first zero at b ++ at_node at (j, b) in
     let p = empty_both here (reports_in k (past_node st) zero (end_of at b) f) e in
     let q = empty_both (reports_in j at_first zero at b) (at_node at (j, b)) p.0 in
-    let own_reports = empty_both (cast_reports at (j, b)) (own.nullsafe_reports at (j, b) ++ (traits.trait_reports at (j, b) ++ [])) q.1 in
-    let forms = empty_both (own.nullsafe_reports at (j, b)) (traits.trait_reports at (j, b) ++ []) own_reports.1 in
-    let uses = empty_both (traits.trait_reports at (j, b)) [] forms.1 in
+    let forms = empty_both (reports_of undecided_casts at (j, b)) _ q.1 in
+    let texts = empty_both (reports_of own.nullsafe_texts at (j, b)) _ forms.1 in
+    let uses = empty_both (reports_of traits.traits at (j, b)) _ texts.1 in
     clear_node j b f
-    (only_if (own.is_nullsafe_text (j, b)) (outside own.nullsafe_text (text_start at (leaves b)) (end_of at b)) forms.0)
+    (no_text j b at texts.0)
     (no_use j b at uses.0)
     (clear j at_first zero at b q.0)
     (clear k (past_node st) zero (end_of at b) f p.1)

@@ -1,32 +1,5 @@
 -- Parts with whole names begin with a token that stands alone, or with a name.
-use Rattle.std.proofs.Common.{
-  ◌≡◌,
-  ℕ,
-  zero,
-  suc,
-  Bool,
-  true,
-  false,
-  cond,
-  ◌&&◌,
-  ◌||◌,
-  if◌then◌else◌,
-  ◌⊎◌,
-  inl,
-  inr,
-  codes,
-  List,
-  [],
-  ◌++◌,
-  Option,
-  Some,
-  None,
-  refl,
-  sym,
-  ap,
-  ◌∙◌,
-  append-nil,
-}
+use Rattle.std.proofs.Common.{◌≡◌, ℕ, zero, suc, Bool, true, false, cond, ◌&&◌, if◌then◌else◌, ◌⊎◌, inl, inr, codes, List, [], ◌++◌, Option, Some, None, refl, sym, ap, ◌∙◌, append-nil}
 use Rattle.php_tree.specs.declared.token.Token.{Token}
 use Rattle.php_tree.specs.declared.token.TokenKind.TheVariants.{Name}
 use Rattle.php_tree.specs.Tree.{Forest, leaf}

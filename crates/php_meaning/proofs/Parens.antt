@@ -16,7 +16,22 @@ use Rattle.scope_names.specs.Form.{Form, Part, word, child, part_of, part_before
 use Rattle.scope_names.specs.Sites.{Site, file_site, is_declaration, declarations, one_if, declared_here, within, within_form, beside, names_beside}
 use Rattle.php_meaning.specs.runs.Kinds.{is_expression}
 use Rattle.php_meaning.specs.names.Refused.{kid_forms, kid_form, kid_before, is_type, is_parameter, type_bits, Around, no_loops, refuses, inside, judged, refused}
-use Rattle.php_meaning.specs.names.Tables.{Tables, tables_of, listed, entry, holder, keeps_top, refused_file, file_entry}
+use Rattle.php_meaning.specs.names.Tables.{
+  Tables,
+  tables_of,
+  listed,
+  is_told,
+  entry,
+  holder,
+  keeps_top,
+  refused_file,
+  file_entry,
+  written_of,
+  first_written,
+  defined_by,
+  defines,
+  defining,
+}
 use Rattle.php_meaning.specs.statements.Loops.{switch}
 use Rattle.php_meaning.specs.calls.Bodies.{global_all}
 use Rattle.php_meaning.specs.expressions.Expressions.{array_literal, isset, unset_all}
@@ -105,6 +120,7 @@ declarations_same (parens {k} {j} {c} {d} {f} {g} h p q) =
 -- what an expression is not
 pub record Plain (k : NodeKind) : Type 0 where
   pub declaration : is_declaration k ≡ false
+  pub told : is_told k ≡ false
   pub top : keeps_top k ≡ false
   pub beside : (f : Form) (s : Site) → names_beside k f s ≡ s
 
@@ -118,8 +134,10 @@ expression_plain kind.Method h = absurd (true≢false (sym h))
 expression_plain kind.Statics h = absurd (true≢false (sym h))
 expression_plain kind.Namespace h = absurd (true≢false (sym h))
 expression_plain kind.Declare h = absurd (true≢false (sym h))
+expression_plain kind.Block h = absurd (true≢false (sym h))
 expression_plain kind.Use h = absurd (true≢false (sym h))
-expression_plain k h = record { declaration = refl; top = refl; beside = λ f s. refl }
+expression_plain kind.Const h = absurd (true≢false (sym h))
+expression_plain k h = record { declaration = refl; told = refl; top = refl; beside = λ f s. refl }
 
 within_same : (k : NodeKind) (s : Site) {c d : Forest} → Parenthesized c d → within k d s ≡ within k c s
 within_same k s p = ap (λ f. within_form k f s) (forms_same p)
@@ -198,24 +216,53 @@ refused_same (parens {k} {j} {c} {d} {f} {g} h p q) a =
     refused_same q a
     ∙ ap (λ b. judged b (refuses a k (form c)) (refused (inside a k (form c) (kid_forms c)) c) || refused a f) (sym h)
 
+-- ---- constants by `define`
+
+written_same : {f g : Forest} → Parenthesized f g → first_written g ≡ first_written f
+written_same ends = refl
+written_same (token k e d) = written_same d
+written_same (inner {k} {c} {d} p q) =
+    ap (λ x. written_of k x (first_written d)) (forms_same p) ∙ ap (λ ws. written_of k (form c) ws) (written_same p)
+written_same (parens h p q) = written_same p
+
+pub defined_by_same : (k : NodeKind) (f g : Form) (ws vs : List Bytes) → g ≡ f → vs ≡ ws → defined_by k g vs ≡ defined_by k f ws
+defined_by_same k f g ws vs e h = ap (λ x. defined_by k x vs) e ∙ ap (λ x. defined_by k f x) h
+
+pub without_end : {a b : List Bytes} → b ++ [] ≡ a ++ [] → b ≡ a
+without_end {a} {b} e = sym (append-nil b) ∙ e ∙ append-nil a
+
+pub joined_same : {a b x y : List Bytes} → b ≡ a → y ≡ x → b ++ y ≡ a ++ x
+joined_same {a} {b} {x} {y} e h = ap (λ z. z ++ y) e ∙ ap (λ z. a ++ z) h
+
+-- an expression but a call defines nothing by itself
+defines_same : {f g : Forest} → Parenthesized f g → defines g ≡ defines f
+defines_same ends = refl
+defines_same (token k e d) = defines_same d
+defines_same (inner {k} {c} {d} p q) =
+    joined_same (joined_same (defined_by_same k (form c) (form d) (first_written c) (first_written d) (forms_same p) (written_same p)) (defines_same p))
+    (defines_same q)
+defines_same (parens {k} {j} {c} {d} h p q) =
+    joined_same (append-nil (defined_by j (form d) (first_written d) ++ defines d) ∙ without_end (defines_same p)) (defines_same q)
+
 entry_same : {f g : Forest} → Parenthesized f g → (path : Bytes) → file_entry path g ≡ file_entry path f
 entry_same {f} {g} p path =
-    ap (λ b. entry b (refused_file path (declarations g)) []) (refused_same p no_loops)
-    ∙ ap (λ n. entry (refused no_loops f) (refused_file path n) []) (declarations_same p)
+    ap (λ b. entry b (refused_file path (declarations g)) (defining path (declarations g) (defines g) ∷ [])) (refused_same p no_loops)
+    ∙ ap (λ n. entry (refused no_loops f) (refused_file path n) (defining path n (defines g) ∷ [])) (declarations_same p)
+    ∙ ap (λ ns. entry (refused no_loops f) (refused_file path (declarations f)) (defining path (declarations f) ns ∷ [])) (defines_same p)
 
 listed_same : {f g : Forest} → Parenthesized f g → (s : Site) (of : Option Declared) (top : Bool) → listed s of top g ≡ listed s of top f
 listed_same ends s of top = refl
 listed_same (token k e d) s of top = listed_same d s of top
 listed_same (inner {k} {c} {d} {f} {g} p q) s of top =
-    ap (λ x. entry (is_declaration k) (record { at = declared_here s; kind = k; site = s; form = x; kids = kid_forms d; of = of; is_top = top })
+    ap (λ x. entry (is_told k) (record { at = declared_here s; kind = k; site = s; form = x; kids = kid_forms d; of = of; is_top = top })
     (listed (within_form k x s) (holder k s) (keeps_top k && top) d) ++ listed (beside k d s) of top g) (forms_same p)
-    ∙ ap (λ x. entry (is_declaration k) (record { at = declared_here s; kind = k; site = s; form = form c; kids = x; of = of; is_top = top })
+    ∙ ap (λ x. entry (is_told k) (record { at = declared_here s; kind = k; site = s; form = form c; kids = x; of = of; is_top = top })
     (listed (within k c s) (holder k s) (keeps_top k && top) d) ++ listed (beside k d s) of top g) (kid_forms_same p)
-    ∙ ap (λ x. entry (is_declaration k) (record { at = declared_here s; kind = k; site = s; form = form c; kids = kid_forms c; of = of; is_top = top })
+    ∙ ap (λ x. entry (is_told k) (record { at = declared_here s; kind = k; site = s; form = form c; kids = kid_forms c; of = of; is_top = top })
     x ++ listed (beside k d s) of top g) (listed_same p (within k c s) (holder k s) (keeps_top k && top))
-    ∙ ap (λ x. entry (is_declaration k) (record { at = declared_here s; kind = k; site = s; form = form c; kids = kid_forms c; of = of; is_top = top })
+    ∙ ap (λ x. entry (is_told k) (record { at = declared_here s; kind = k; site = s; form = form c; kids = kid_forms c; of = of; is_top = top })
     (listed (within k c s) (holder k s) (keeps_top k && top) c) ++ listed x of top g) (beside_same k s p)
-    ∙ ap (λ x. entry (is_declaration k) (record { at = declared_here s; kind = k; site = s; form = form c; kids = kid_forms c; of = of; is_top = top })
+    ∙ ap (λ x. entry (is_told k) (record { at = declared_here s; kind = k; site = s; form = form c; kids = kid_forms c; of = of; is_top = top })
     (listed (within k c s) (holder k s) (keeps_top k && top) c) ++ x) (listed_same q (beside k c s) of top)
 listed_same (parens {k} {j} {c} {d} {f} {g} {o} {p} h q r) s of top =
     let plain : Plain k = expression_plain k h in
@@ -226,13 +273,13 @@ listed_same (parens {k} {j} {c} {d} {f} {g} {o} {p} h q r) s of top =
   where
     alone_same : (k : NodeKind) (c : Forest) (s : Site) (of : Option Declared) (top : Bool) → Plain k
         → listed s None false (node k c none)
-        ≡ entry (is_declaration k) (record { at = declared_here s; kind = k; site = s; form = form c; kids = kid_forms c; of = of; is_top = top })
+        ≡ entry (is_told k) (record { at = declared_here s; kind = k; site = s; form = form c; kids = kid_forms c; of = of; is_top = top })
         (listed (within k c s) (holder k s) (keeps_top k && top) c)
     alone_same k c s of top h =
         subst (λ b. entry b (record { at = declared_here s; kind = k; site = s; form = form c; kids = kid_forms c; of = None; is_top = false })
         (listed (within k c s) (holder k s) (keeps_top k && false) c) ++ []
         ≡ entry b (record { at = declared_here s; kind = k; site = s; form = form c; kids = kid_forms c; of = of; is_top = top })
-        (listed (within k c s) (holder k s) (keeps_top k && top) c)) (sym h.declaration)
+        (listed (within k c s) (holder k s) (keeps_top k && top) c)) (sym h.told)
         (subst (λ b. listed (within k c s) (holder k s) (b && false) c ++ [] ≡ listed (within k c s) (holder k s) (b && top) c) (sym h.top)
         (append-nil (listed (within k c s) (holder k s) false c)))
 

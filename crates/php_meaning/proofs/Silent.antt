@@ -187,9 +187,9 @@ echo_all_never : (i n : ℕ) → NeverAsks (echo_all i n)
 echo_all_never i zero = tt
 echo_all_never i (suc n) = value_then_never _ (λ v. given_never (to_text v) _ (λ bytes. echo_all_never (suc i) n))
 
-constant_never : (s : Site) (name : Bytes) (o : Option Value) → IsTrue (not (not (is_some o))) → NeverAsks (constant s name o)
-constant_never s name (Some v) h = tt
-constant_never s name None h = cc
+constant_never : (t : Tables) (s : Site) (name : Bytes) (o : Option Value) → IsTrue (not (not (is_some o))) → NeverAsks (constant t s name o)
+constant_never t s name (Some v) h = tt
+constant_never t s name None h = cc
 
 ternary_never : (n : ℕ) → NeverAsks (ternary n)
 ternary_never zero = tt
@@ -225,7 +225,7 @@ reading_never t s kind.Echo f h = echo_all_never 0 (kids f)
 reading_never t s kind.If f h = choices_never 0 (kids f)
 reading_never t s kind.Number f h = tt
 reading_never t s kind.Text f h = given_never (text_literal (first_text (texts f))) _ (λ bytes. tt)
-reading_never t s kind.Constant f h = constant_never s (name_of (texts f)) (constant_named (texts f)) h
+reading_never t s kind.Constant f h = constant_never t s (name_of (texts f)) (constant_named (texts f)) h
 reading_never t s kind.Binary f h = dot_never (bytes_eq (codes ".") (first_text (texts f))) _ (is_dot _ h)
 reading_never t s kind.Paren f h = tt
 reading_never t s kind.Ternary f h = ternary_never (kids f)

@@ -77,7 +77,6 @@ use Rattle.php_meaning.specs.runs.Script.{
   Entered,
   Item,
   InProperty,
-  InCell,
   File,
   Script,
   Give,
@@ -249,10 +248,11 @@ abbrev pub or_nothing : Option Bytes → Bytes
 or_nothing None = []
 or_nothing (Some b) = b
 
--- the constants that are known from their place; `__DIR__` stands for the folder of the file, from which includes go on
+-- The constants that are known from their place. `__DIR__` stands for the folder of the file, from which includes go on: `.`
+-- there.
 abbrev pub constant_of_place : Site → Bytes → Option Value
 constant_of_place s name =
-    if bytes_eq name (codes "__dir__") then Some (Text [])
+    if bytes_eq name (codes "__dir__") then Some (Text (codes "."))
     else (if bytes_eq name (codes "__class__") then Some (Text (or_nothing s.class))
     else (if bytes_eq name (codes "__namespace__") then Some (Text s.space) else None))
 
@@ -262,16 +262,16 @@ is_other_magic name =
     bytes_eq name (codes "__line__") || bytes_eq name (codes "__file__") || bytes_eq name (codes "__function__")
     || bytes_eq name (codes "__method__") || bytes_eq name (codes "__trait__")
 
-abbrev pub other_constant : Site → Bytes → Script
-other_constant s name = elim (constant_of_place s (str_to_ascii_lowercase name)) [
+abbrev pub other_constant : Tables → Site → Bytes → Script
+other_constant t s name = elim (constant_of_place s (str_to_ascii_lowercase name)) [
   | Some v ↦ give v
-  | None ↦ if is_other_magic (str_to_ascii_lowercase name) then Stop NoRule else constant_value s name
+  | None ↦ if is_other_magic (str_to_ascii_lowercase name) then Stop NoRule else constant_value t s name
 ]
 
 -- the value of a constant
-abbrev pub constant : Site → Bytes → Option Value → Script
-constant s name (Some v) = give v
-constant s name None = other_constant s name
+abbrev pub constant : Tables → Site → Bytes → Option Value → Script
+constant t s name (Some v) = give v
+constant t s name None = other_constant t s name
 
 -- ---- expressions
 
@@ -384,14 +384,17 @@ is_started (p ∷ ps) path = bytes_eq p path || is_started ps path
 abbrev pub is_once : Bytes → Bool
 is_once w = bytes_eq (str_to_ascii_lowercase w) (codes "include_once") || bytes_eq (str_to_ascii_lowercase w) (codes "require_once")
 
-abbrev pub include_path : Site → Bytes → Bytes → Script
-include_path s w path = Look (λ st.
-    if is_some st.here.item then Stop Call
-    else (if is_once w && is_started st.started path then give (Truth true) else Run (File path) included))
+abbrev pub include_path : Bytes → Bytes → Script
+include_path w path = Look (λ st.
+    if is_once w && is_started st.started path then give (Truth true) else Run (File path) included)
 
+-- None starts in a value that a declaration writes down. In a method it is outside, since the code of the file would be code of
+-- the method's class. (PHP manual, "include".)
 abbrev pub include : Site → Bytes → Script
-include s w = child_value 0 (λ v. given (to_text v) (λ t.
-    elim (path_from s.file t) [ None ↦ Stop NoRule | Some path ↦ include_path s w path ]))
+include s w = Look (λ st.
+    if is_some st.here.item || is_some s.class then Stop Call
+    else child_value 0 (λ v. given (to_text v) (λ t.
+    elim (path_from s.file t) [ None ↦ Stop NoRule | Some path ↦ include_path w path ])))
 
 -- ---- files
 
@@ -453,7 +456,7 @@ reading t s kind.Variable f = cond (nat_eq (kids f) 0) (variable_value (plain_na
 reading t s kind.Number f = give (Int (int_literal (first_text (texts f))))
 reading t s kind.Text f = given (text_literal (first_text (texts f))) (λ bytes. give (Text bytes))
 reading t s kind.Quoted f = quoted_text f
-reading t s kind.Constant f = constant s (name_of (texts f)) (constant_named (texts f))
+reading t s kind.Constant f = constant t s (name_of (texts f)) (constant_named (texts f))
 reading t s kind.ClassConstant f = class_constant t s f
 reading t s kind.StaticProp f = static_value t s f
 reading t s kind.InstanceOf f = instance_of t s f

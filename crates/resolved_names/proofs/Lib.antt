@@ -1,6 +1,8 @@
 mod ClashLemmas
+mod FilesLemmas
 mod IndexLemmas
 mod NamesLemmas
 mod ReadLemmas
 mod ResolveLemmas
+mod SlotLemmas
 mod ToldLemmas

@@ -31,7 +31,7 @@ pick_map f g (Some x) = refl
 pick_got : {A B C : Type 0} (f : B → List C) (g : A → B) (xs : List A) (i : ℕ) → pick f (slice_get (map g xs) i) ≡ pick (λ x. f (g x)) (slice_get xs i)
 pick_got f g xs i = ap (λ o. pick f o) (slice_get-map g xs i) ∙ pick_map f g (slice_get xs i)
 
-between_map : {A B : Type 0} (f : A → B) (from to : ℕ) (xs : List A) → between from to (map f xs) ≡ map f (between from to xs)
+pub between_map : {A B : Type 0} (f : A → B) (from to : ℕ) (xs : List A) → between from to (map f xs) ≡ map f (between from to xs)
 between_map f from to xs = ap (λ ys. take (to - from) ys) (drop-map f from xs) ∙ take-map f (to - from) (drop from xs)
 
 -- ---- nodes
@@ -66,15 +66,15 @@ node_is es ds others v flat from n x l h = record {
       ∙ ap (λ (y : Named). numbers_of others y.declares) h;
 }
 
-abbrev first_or : Named → List Named → Named
+abbrev pub first_or : Named → List Named → Named
 first_or d [] = d
 first_or d (x ∷ xs) = x
 
-abbrev behind : List Named → List Named
+abbrev pub behind : List Named → List Named
 behind [] = []
 behind (x ∷ xs) = xs
 
-abbrev is_there : List Named → Type 0
+abbrev pub is_there : List Named → Type 0
 is_there [] = ⊥
 is_there (x ∷ xs) = Unit {0}
 
@@ -243,21 +243,3 @@ none_behind (x ∷ xs) zero h = absurd (some_none h)
     some_none : Some x ≡ None → ⊥
     some_none e = cc
 none_behind (x ∷ xs) (suc k) h = none_behind xs k h
-
--- ---- files one after another
-
-pub files_done : (es : Entries) (ds : List Declaration) (others : List (List ℕ)) (rows : List FileNames) (fs : Files) (i : ℕ) → length fs ≤ i →
-    ((vs : List FileNames) → AreFiles es ds others vs (table_of (drop i fs)) → AreFiles es ds others (rows ++ vs) (table_of fs)) →
-    AreFiles es ds others rows (table_of fs)
-files_done es ds others rows fs i past h =
-    subst (λ (vs : List FileNames). AreFiles es ds others vs (table_of fs)) (append-nil rows)
-    (h [] (subst (λ (gs : Files). AreFiles es ds others [] (table_of gs)) (sym (drop_all fs i past)) tt))
-  where
-    none_past : (m : ℕ) → suc m ≤ zero → ⊥
-    none_past m l = omega (arith, l)
-
-    drop_all : (gs : Files) (k : ℕ) → length gs ≤ k → drop k gs ≡ []
-    drop_all [] zero l = refl
-    drop_all [] (suc k) l = refl
-    drop_all (g ∷ gs) zero l = absurd (none_past (length gs) l)
-    drop_all (g ∷ gs) (suc k) l = drop_all gs k (omega (arith, l))

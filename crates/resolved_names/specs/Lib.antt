@@ -5,3 +5,4 @@ pub mod Reads
 pub mod Refusals
 pub mod Resolved
 pub mod SlotNumbers
+pub mod SlotReads

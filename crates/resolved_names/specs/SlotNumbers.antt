@@ -1,9 +1,10 @@
 -- Slots by number: each slot that some node of the program names or lists has one number.
-use Rattle.std.specs.Prelude.{◌≡◌, ℕ, List, Contains, slice_get, Option, Some, None, ◌⊎◌}
+use Rattle.std.specs.Prelude.{◌≡◌, ℕ, List, slice_get, Option, Some, None, ◌⊎◌}
 use Rattle.file_declarations.specs.declared.node_ref.NodeRef.{NodeRef}
 use Rattle.node_names.specs.Slots.{NamedSlot}
 use Rattle.program_names.specs.declared.slot_id.SlotId.{SlotId}
 use Rattle.program_names.specs.Table.{Table, fact_at}
+use Rattle.slot_numbers.specs.Growing.{AreApart, Has}
 
 -- the slot that a node names, if any
 abbrev pub slot_at : Table → NodeRef → Option NamedSlot
@@ -21,9 +22,9 @@ IsNamed t s =
 
 -- the slots of a program, a slot's number being its place
 pub record AreSlots (t : Table) (slots : List NamedSlot) : Type 0 where
-  pub apart : (i j : ℕ) (s : NamedSlot) → slice_get slots i ≡ Some s → slice_get slots j ≡ Some s → i ≡ j
-  pub named : (s : NamedSlot) → Contains slots s → IsNamed t s
-  pub all : (s : NamedSlot) → IsNamed t s → Contains slots s
+  pub apart : AreApart slots
+  pub named : (s : NamedSlot) → Has slots s → IsNamed t s
+  pub all : (s : NamedSlot) → IsNamed t s → Has slots s
 
 -- the number of a slot, if there is one
 abbrev pub IsNumber : List NamedSlot → Option NamedSlot → Option SlotId → Type 0

@@ -1,6 +1,7 @@
 //! What the names of a program stand for: resolved once, and then read by number.
 #![tactic(auto)]
 
+mod all_files;
 mod class_kinds;
 mod file_names;
 mod files;

@@ -6,7 +6,7 @@ use crate::names_fault::NamesFault;
 use crate::ranges::{item, node_at};
 use crate::resolve::{checked, resolved};
 use indexmap::IndexMap;
-use program_names::{NodeRef, Program};
+use program_names::{NodeRef, Program, SlotId};
 use span_edits::PathText;
 use std::alloc::Global;
 
@@ -15,18 +15,20 @@ use std::alloc::Global;
 pub struct Names {
     pub(crate) index: IndexMap<Vec<u8>, Vec<NodeRef>>,
     pub(crate) files: Vec<FileNames>,
+    pub(crate) slots: u32,
     pub(crate) entries: Vec<u32>,
     pub(crate) prepend: Option<u32>,
 }
 
 impl Names {
-    ghost use Rattle.std.specs.Prelude.{◌≡◌, option_copied, IfOk, IfErr};
+    ghost use Rattle.std.specs.Prelude.{◌≡◌, length, option_copied, IfOk, IfErr};
     ghost use Rattle.program_names.specs.Classes.{class_number as class_number_of};
     ghost use Rattle.program_names.specs.Entries.{paths_of};
     ghost use Rattle.program_names.specs.Table.{Table, table_of, declarations as declarations_of};
     ghost use Rattle.program_names.specs.Whole.{files_of};
-    ghost use Rattle.resolved_names.specs.Reads.{AreNames, class_in, entries_of, prepend_of, read_in};
+    ghost use Rattle.resolved_names.specs.Reads.{AreNames, class_in, entries_of, listed_in, prepend_of, read_in, slot_in};
     ghost use Rattle.resolved_names.specs.Resolved.{IsNamesFault, IsResolved, IsUnrefused};
+    ghost use Rattle.resolved_names.specs.SlotNumbers.{AreNumbers, IsNumber, listed_at as listed_there, slot_at as slot_there};
 
     /// What the names of a program stand for: the entries are all files, or those that are listed and then each file that
     /// none so far reaches by includes; `prepend` is the path of the file that runs before each entry.
@@ -116,6 +118,62 @@ impl Names {
         ensures { (t : Table) → (a : AreNames self.now t) → result ≡ class_number_of t a.others at }
     {
         self.class_at(at)
+    }
+
+    // The number of the slot that a node names.
+    fn slot_at(&self, at: NodeRef) -> Option<SlotId>
+        ensures { result ≡ slot_in self.now.files.items at }
+    {
+        let Some(file) = self.files.get(at.file as usize) else {
+            return None;
+        };
+        let Some((from, node)) = node_at(file.nodes.as_slice(), at.node as usize) else {
+            return None;
+        };
+        match item(file.slots.as_slice(), from.slots, node.ends.slots, 0) {
+            None => None,
+            Some(slot) => Some(*slot),
+        }
+    }
+
+    /// The number of the slot that a node names. None exactly where the node is no variable, property, static property or
+    /// parameter with a literal name.
+    pub fn slot(&self, at: NodeRef) -> Option<SlotId>
+        ensures { (t : Table) → (a : AreNames self.now t) → IsNumber a.slots (slot_there t at) result }
+    {
+        self.slot_at(at)
+    }
+
+    // The numbers of the slots that a node lists at a place.
+    fn listed_pair(&self, at: NodeRef, n: u32) -> Option<(SlotId, SlotId)>
+        ensures { result ≡ listed_in self.now.files.items at n }
+    {
+        let Some(file) = self.files.get(at.file as usize) else {
+            return None;
+        };
+        let Some((from, node)) = node_at(file.nodes.as_slice(), at.node as usize) else {
+            return None;
+        };
+        match item(file.listed.as_slice(), from.listed, node.ends.listed, n) {
+            None => None,
+            Some(pair) => Some(*pair),
+        }
+    }
+
+    /// The numbers of variable n, from 0 in the order of the source, that a `global`, a `static`, a property declaration or
+    /// the catch parts of a `try` list by a literal name: of a `global` or `static` the variable of the body, and the one to
+    /// which it is linked there; of the others the same twice. None exactly where there is no such variable.
+    pub fn listed(&self, at: NodeRef, n: u32) -> Option<(SlotId, SlotId)>
+        ensures { (t : Table) → (a : AreNames self.now t) → AreNumbers a.slots (listed_there t at n) result }
+    {
+        self.listed_pair(at, n)
+    }
+
+    /// How many slots the nodes of the program name or list; their numbers are those below.
+    pub fn slots(&self) -> u32
+        ensures { (t : Table) → (a : AreNames self.now t) → result ≡ length a.slots }
+    {
+        self.slots
     }
 
     /// The entries by number, in their order.

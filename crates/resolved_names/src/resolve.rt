@@ -171,10 +171,11 @@ fn built(
 {
     let index = indexed(alloc, told)?;
     let others = other_classes(alloc, told)?;
-    let files = all_names(alloc, program, &index, told, others.as_slice())?;
+    let all = all_names(alloc, program, &index, told, others.as_slice())?;
     Ok(Names {
         index,
-        files,
+        files: all.files,
+        slots: all.slots,
         entries: asked.files,
         prepend: asked.prepend,
     })

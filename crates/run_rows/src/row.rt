@@ -6,6 +6,13 @@ use std::alloc::{AllocError, Global};
 /// A file that a row names.
 pub type File = (PathText, Bytes);
 
+/// A link and what it leads to.
+#[derive(Drop)]
+pub struct Link {
+    pub path: PathText,
+    pub original: PathText,
+}
+
 /// The numbers of the calls that fail, of each object.
 #[derive(Drop)]
 pub struct Failing {
@@ -17,7 +24,7 @@ pub struct Failing {
 }
 
 /// What stands before a run: its words, the settings file and the sources, a file that the target holds, and which calls
-/// fail, or find no memory.
+/// fail, or find no memory; before a run over folders also other files, and links.
 #[derive(Drop)]
 pub struct Row {
     pub name: String,
@@ -25,6 +32,8 @@ pub struct Row {
     pub settings: Option<File>,
     pub files: Vec<File>,
     pub held: Option<File>,
+    pub others: Vec<File>,
+    pub links: Vec<Link>,
     pub failing: Failing,
     pub short: u64,
 }
@@ -61,6 +70,15 @@ fn file_of(alloc: Global, line: &str) -> Result<File, AllocError> {
     Ok((path, Bytes::new(plain(alloc, text)?)))
 }
 
+// A link of a path and what it leads to.
+fn link_of(alloc: Global, line: &str) -> Result<Link, AllocError> {
+    let (path, original) = line.split_once(' ').unwrap_or((line, ""));
+    Ok(Link {
+        path: PathText::new(String::from_str(alloc, path)?),
+        original: PathText::new(String::from_str(alloc, original)?),
+    })
+}
+
 // A file of a name and so many times one byte.
 fn long_file(alloc: Global, line: &str, byte: u8) -> Result<Option<File>, AllocError> {
     let Some((path, count)) = line.split_once(' ') else {
@@ -82,6 +100,8 @@ impl Row {
             settings: None,
             files: Vec::new(alloc),
             held: None,
+            others: Vec::new(alloc),
+            links: Vec::new(alloc),
             failing: Failing::new(alloc),
             short: 0,
         }
@@ -138,6 +158,8 @@ impl Row {
             "long-settings" => self.settings = long_file(alloc, rest, b'#')?,
             "file" => self.files.push(file_of(alloc, rest)?)?,
             "held" => self.held = Some(file_of(alloc, rest)?),
+            "other" => self.others.push(file_of(alloc, rest)?)?,
+            "link" => self.links.push(link_of(alloc, rest)?)?,
             "empty" => return self.add_empty(alloc, rest),
             "long" => return self.add_long(alloc, rest),
             "fails" => return self.add_failing(rest),

@@ -89,6 +89,8 @@ pub fn run_row(rt: &HostRuntime, row: Row, number: u64) -> io::Result<String> {
         settings,
         files,
         held,
+        others: _,
+        links: _,
         failing,
         short,
     } = row;

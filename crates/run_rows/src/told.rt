@@ -9,8 +9,12 @@ const MOST_FILES: usize = 8;
 /// The most bytes of a file that are told one by one.
 const MOST_BYTES: usize = 2_000;
 
-// A file: its path and its bytes, or how many.
-fn push_file(alloc: Global, text: &mut String, file: &(PathText, Bytes)) -> Result<(), AllocError> {
+/// A file: its path and its bytes, or how many.
+pub fn push_file(
+    alloc: Global,
+    text: &mut String,
+    file: &(PathText, Bytes),
+) -> Result<(), AllocError> {
     text.push_str(" ")?;
     text.push_str(file.0.as_str())?;
     let bytes = file.1.as_slice();

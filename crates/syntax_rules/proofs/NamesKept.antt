@@ -44,10 +44,24 @@ use Rattle.scope_names.specs.Form.{Form, Part, child, part_before, parts, bits, 
 use Rattle.scope_names.specs.Sites.{Site, file_site, is_declaration, declarations, one_if, declared_here, within, within_form, beside, names_beside}
 use Rattle.php_meaning.specs.runs.Kinds.{is_expression}
 use Rattle.php_meaning.specs.names.Refused.{kid_forms, kid_form, kid_before, is_type, is_parameter, type_bits, Around, no_loops, refuses, inside, judged, refused}
-use Rattle.php_meaning.specs.names.Tables.{Tables, tables_of, listed, entry, holder, keeps_top, refused_file, file_entry}
+use Rattle.php_meaning.specs.names.Tables.{
+  Tables,
+  tables_of,
+  listed,
+  is_told,
+  entry,
+  holder,
+  keeps_top,
+  refused_file,
+  file_entry,
+  written_of,
+  first_written,
+  defines,
+  defining,
+}
 use Rattle.php_meaning.specs.Rules.{rule}
 use Rattle.php_meaning.specs.laws.SameScripts.{HasScriptsOf, nothing, token_before, token_behind, same, HaveScriptsOf, no_more, one_more}
-use Rattle.php_meaning.proofs.Parens.{same_before, names_joined}
+use Rattle.php_meaning.proofs.Parens.{same_before, names_joined, defined_by_same, joined_same}
 use Rattle.tracked_changes.specs.Pieces.{before, after, changed}
 use Rattle.tracked_changes.specs.Draft as draft
 use Rattle.tracked_changes.specs.Draft.{NewToken, Draft, new_leaf, new_node, rewritten, rewritten_token}
@@ -425,20 +439,36 @@ named_lists (token_first p) s of top = named_lists p s of top
 named_lists (token_last p) s of top = named_lists p s of top
 named_lists (inner {k} {c} {d} {f} {g} e p q) s of top =
     both_joined
-    (ap (λ x. entry (is_declaration k) (record { at = declared_here s; kind = k; site = s; form = x; kids = kid_forms d; of = of; is_top = top })
+    (ap (λ x. entry (is_told k) (record { at = declared_here s; kind = k; site = s; form = x; kids = kid_forms d; of = of; is_top = top })
     (listed (within k d s) (holder k s) (keeps_top k && top) d)) (ap bits e)
-    ∙ ap (λ x. entry (is_declaration k) (record { at = declared_here s; kind = k; site = s; form = form c; kids = x; of = of; is_top = top })
+    ∙ ap (λ x. entry (is_told k) (record { at = declared_here s; kind = k; site = s; form = form c; kids = x; of = of; is_top = top })
     (listed (within k d s) (holder k s) (keeps_top k && top) d)) (kid_forms_are p)
-    ∙ ap (λ x. entry (is_declaration k) (record { at = declared_here s; kind = k; site = s; form = form c; kids = kid_forms c; of = of; is_top = top })
+    ∙ ap (λ x. entry (is_told k) (record { at = declared_here s; kind = k; site = s; form = form c; kids = kid_forms c; of = of; is_top = top })
     (listed x (holder k s) (keeps_top k && top) d)) (within_is k s c d e)
-    ∙ ap (λ x. entry (is_declaration k) (record { at = declared_here s; kind = k; site = s; form = form c; kids = kid_forms c; of = of; is_top = top }) x)
+    ∙ ap (λ x. entry (is_told k) (record { at = declared_here s; kind = k; site = s; form = form c; kids = kid_forms c; of = of; is_top = top }) x)
     (named_lists p (within k c s) (holder k s) (keeps_top k && top)))
     (ap (λ x. listed x of top g) (beside_is k s e p) ∙ named_lists q (beside k c s) of top)
 
+written_is : {f g : Forest} → Named f g → first_written g ≡ first_written f
+written_is ends = refl
+written_is (token_first p) = written_is p
+written_is (token_last p) = written_is p
+written_is (inner {k} {c} {d} e p q) =
+    ap (λ x. written_of k x (first_written d)) (ap bits e) ∙ ap (λ ws. written_of k (form c) ws) (written_is p)
+
+defines_are : {f g : Forest} → Named f g → defines g ≡ defines f
+defines_are ends = refl
+defines_are (token_first p) = defines_are p
+defines_are (token_last p) = defines_are p
+defines_are (inner {k} {c} {d} e p q) =
+    joined_same (joined_same (defined_by_same k (form c) (form d) (first_written c) (first_written d) (ap bits e) (written_is p)) (defines_are p))
+    (defines_are q)
+
 entry_is : {f g : Forest} → Named f g → (path : Bytes) → file_entry path g ≡ file_entry path f
 entry_is {f} {g} p path =
-    ap (λ b. entry b (refused_file path (declarations g)) []) (refused_is p no_loops)
-    ∙ ap (λ n. entry (refused no_loops f) (refused_file path n) []) (declarations_are p)
+    ap (λ b. entry b (refused_file path (declarations g)) (defining path (declarations g) (defines g) ∷ [])) (refused_is p no_loops)
+    ∙ ap (λ n. entry (refused no_loops f) (refused_file path n) (defining path n (defines g) ∷ [])) (declarations_are p)
+    ∙ ap (λ ns. entry (refused no_loops f) (refused_file path (declarations f)) (defining path (declarations f) ns ∷ [])) (defines_are p)
 
 -- the same of files by their paths
 pub data AreNamed : List (Bytes × Forest) → List (Bytes × Forest) → Type 0 where

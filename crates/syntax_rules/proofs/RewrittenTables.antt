@@ -41,8 +41,23 @@ use Rattle.scope_names.specs.Form.{Form, Word, Child, Part, word, child, part_of
 use Rattle.scope_names.specs.Sites.{Site, file_site, is_declaration, declarations, one_if, declared_here, within, within_form, beside, names_beside}
 use Rattle.php_meaning.specs.runs.Kinds.{is_expression}
 use Rattle.php_meaning.specs.names.Refused.{kid_forms, kid_form, kid_before, is_type, is_parameter, type_bits, Around, no_loops, refuses, inside, judged, refused}
-use Rattle.php_meaning.specs.names.Tables.{Tables, tables_of, listed, entry, holder, keeps_top, refused_file, file_entry}
-use Rattle.php_meaning.proofs.Parens.{same_before, no_type, Plain, expression_plain}
+use Rattle.php_meaning.specs.names.Tables.{
+  Tables,
+  tables_of,
+  listed,
+  is_told,
+  entry,
+  holder,
+  keeps_top,
+  refused_file,
+  file_entry,
+  written_of,
+  first_written,
+  defined_by,
+  defines,
+  defining,
+}
+use Rattle.php_meaning.proofs.Parens.{same_before, no_type, Plain, expression_plain, defined_by_same, without_end, joined_same}
 use Rattle.syntax_rules.specs.Keeps.{token_of}
 use Rattle.syntax_rules.proofs.Rewrites.{
   IsToken,
@@ -230,10 +245,65 @@ refused_same (parens {k} {j} {c} {d} {f} {g} e p q) a =
     refused_same q a
     ∙ ap (λ b. judged b (refuses a k (form c)) (refused (inside a k (form c) (kid_forms c)) c) || refused a f) (sym e)
 
+-- ---- constants by `define`
+
+written_same : {f g : Forest} → Rewrites f g → first_written g ≡ first_written f
+written_same ends = refl
+written_same (same_token i r) = written_same r
+written_same (inner {k} {c} {d} p q) =
+    ap (λ x. written_of k x (first_written d)) (forms_same p) ∙ ap (λ ws. written_of k (form c) ws) (written_same p)
+written_same (changed (brackets p q) r) = refl
+written_same (changed (float e d p) r) = refl
+written_same (changed (null e d) r) = refl
+written_same (changed (curled e p) r) = refl
+written_same (parens e p q) = written_same p
+
+-- what a node defines
+abbrev own : NodeKind → Forest → List Bytes
+own k c = defined_by k (form c) (first_written c) ++ defines c
+
+-- a node's own part and what follows it, the node by itself or in one of its own
+alone : (a b x y : List Bytes) → b ++ [] ≡ a ++ [] → y ≡ x → b ++ y ≡ a ++ x
+alone a b x y e h = joined_same (without_end e) h
+
+held : (a b x y : List Bytes) → b ++ [] ≡ a ++ [] → y ≡ x → (b ++ []) ++ y ≡ a ++ x
+held a b x y e h = joined_same (append-nil b ∙ without_end e) h
+
+mutual
+  defines_same : {f g : Forest} → Rewrites f g → defines g ≡ defines f
+  defines_same ends = refl
+  defines_same (same_token i r) = defines_same r
+  defines_same (inner {k} {c} {d} p q) =
+      joined_same (joined_same (defined_by_same k (form c) (form d) (first_written c) (first_written d) (forms_same p) (written_same p)) (defines_same p))
+      (defines_same q)
+  defines_same (changed p q) = joined_same (changed_defines p) (defines_same q)
+  defines_same (parens {k} {j} {c} {d} {f} {g} e p q) = held (own k c) (own j d) (defines f) (defines g) (defines_same p) (defines_same q)
+
+  changed_defines : {k j : NodeKind} {c d : Forest} → Changed k c j d → own j d ≡ own k c
+  changed_defines (brackets {k} {j} {l} {i} {c} {d} {e} {b} p q) =
+      alone (own k c) (own l e) (own j d ++ []) (own i b ++ []) (defines_same p) (defines_same q)
+  changed_defines (float e d p) = defines_same p
+  changed_defines (null e d) = refl
+  changed_defines (curled e p) = curled_defines p
+
+  curled_defines : {f g : Forest} → Curled f g → defines g ≡ defines f
+  curled_defines (closing i) = refl
+  curled_defines (piece i p) = curled_defines p
+  curled_defines (escaped b h i p) = curled_defines p
+  curled_defines (simple {k} {j} {c} {d} {f} {g} r p) = alone (own k c) (own j d) (defines f) (defines g) (defines_same r) (curled_defines p)
+  curled_defines (code {k = k} {j = j} {c = c} {d = d} {f = f} {g = g} i l r p) =
+      alone (own k c) (own j d) (defines f) (defines g) (defines_same r) (curled_defines p)
+  curled_defines (name e x j p) = curled_defines p
+  curled_defines (offset {k = k} {j = j} {c = c} {d = d} {f = f} {g = g} e x i z r p) =
+      held (own k c) (own j d) (defines f) (defines g) (defines_same r) (curled_defines p)
+  curled_defines (expression {k = k} {j = j} {c = c} {d = d} {f = f} {g = g} e i z r p) =
+      held (own k c) (own j d) (defines f) (defines g) (defines_same r) (curled_defines p)
+
 entry_same : {f g : Forest} → Rewrites f g → (path : Bytes) → file_entry path g ≡ file_entry path f
 entry_same {f} {g} p path =
-    ap (λ b. entry b (refused_file path (declarations g)) []) (refused_same p no_loops)
-    ∙ ap (λ n. entry (refused no_loops f) (refused_file path n) []) (declarations_same p)
+    ap (λ b. entry b (refused_file path (declarations g)) (defining path (declarations g) (defines g) ∷ [])) (refused_same p no_loops)
+    ∙ ap (λ n. entry (refused no_loops f) (refused_file path n) (defining path n (defines g) ∷ [])) (declarations_same p)
+    ∙ ap (λ ns. entry (refused no_loops f) (refused_file path (declarations f)) (defining path (declarations f) ns ∷ [])) (defines_same p)
 
 both_joined : {a b x y : Tables} → a ≡ b → x ≡ y → a ++ x ≡ b ++ y
 both_joined {a} {b} {x} {y} e d = ap (λ z. z ++ x) e ∙ ap (λ z. b ++ z) d
@@ -243,7 +313,7 @@ node_and_rest : (k : NodeKind) (c f : Forest) (s : Site) (of : Option Declared) 
     → listed s of top (node k c f) ≡ listed s of top (node k c none) ++ listed (beside k c s) of top f
 node_and_rest k c f s of top =
     ap (λ x. x ++ listed (beside k c s) of top f)
-    (sym (append-nil (entry (is_declaration k) (record { at = declared_here s; kind = k; site = s; form = form c; kids = kid_forms c; of = of; is_top = top })
+    (sym (append-nil (entry (is_told k) (record { at = declared_here s; kind = k; site = s; form = form c; kids = kid_forms c; of = of; is_top = top })
     (listed (within k c s) (holder k s) (keeps_top k && top) c))))
 
 -- an expression holds the same declarations wherever it stands
@@ -253,7 +323,7 @@ anywhere k c s of top h =
     subst (λ b. entry b (record { at = declared_here s; kind = k; site = s; form = form c; kids = kid_forms c; of = None; is_top = false })
     (listed (within k c s) (holder k s) (keeps_top k && false) c) ++ []
     ≡ entry b (record { at = declared_here s; kind = k; site = s; form = form c; kids = kid_forms c; of = of; is_top = top })
-    (listed (within k c s) (holder k s) (keeps_top k && top) c) ++ []) (sym h.declaration)
+    (listed (within k c s) (holder k s) (keeps_top k && top) c) ++ []) (sym h.told)
     (subst (λ b. listed (within k c s) (holder k s) (b && false) c ++ [] ≡ listed (within k c s) (holder k s) (b && top) c ++ []) (sym h.top) refl)
 
 pub changed_beside : {k j : NodeKind} {c d : Forest} → Changed k c j d → (s : Site) → beside j d s ≡ beside k c s
@@ -264,13 +334,13 @@ inner_lists : (k : NodeKind) {c d : Forest} → Rewrites c d → (s : Site) (of 
     → listed (beside k c s) of top g ≡ listed (beside k c s) of top f → listed s of top (node k d g) ≡ listed s of top (node k c f)
 inner_lists k {c} {d} p s of top f g i h =
     both_joined
-    (ap (λ x. entry (is_declaration k) (record { at = declared_here s; kind = k; site = s; form = x; kids = kid_forms d; of = of; is_top = top })
+    (ap (λ x. entry (is_told k) (record { at = declared_here s; kind = k; site = s; form = x; kids = kid_forms d; of = of; is_top = top })
     (listed (within k d s) (holder k s) (keeps_top k && top) d)) (forms_same p)
-    ∙ ap (λ x. entry (is_declaration k) (record { at = declared_here s; kind = k; site = s; form = form c; kids = x; of = of; is_top = top })
+    ∙ ap (λ x. entry (is_told k) (record { at = declared_here s; kind = k; site = s; form = form c; kids = x; of = of; is_top = top })
     (listed (within k d s) (holder k s) (keeps_top k && top) d)) (kid_forms_same p)
-    ∙ ap (λ x. entry (is_declaration k) (record { at = declared_here s; kind = k; site = s; form = form c; kids = kid_forms c; of = of; is_top = top })
+    ∙ ap (λ x. entry (is_told k) (record { at = declared_here s; kind = k; site = s; form = form c; kids = kid_forms c; of = of; is_top = top })
     (listed x (holder k s) (keeps_top k && top) d)) (within_same k s p)
-    ∙ ap (λ x. entry (is_declaration k) (record { at = declared_here s; kind = k; site = s; form = form c; kids = kid_forms c; of = of; is_top = top }) x) i)
+    ∙ ap (λ x. entry (is_told k) (record { at = declared_here s; kind = k; site = s; form = form c; kids = kid_forms c; of = of; is_top = top }) x) i)
     (ap (λ x. listed x of top g) (beside_same k s p) ∙ h)
 
 parens_list : (k j : NodeKind) (c d : Forest) (o p : Token) → IsTrue (is_expression k) → (q : Rewrites (node k c none) (node j d none))

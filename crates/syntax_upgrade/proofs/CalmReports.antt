@@ -1,47 +1,71 @@
 -- Nothing is reported of parts that no rule touches.
-use Rattle.std.proofs.lemmas.Bool.{false≢true}
-use Rattle.std.proofs.Common.{◌≡◌, ℕ, zero, suc, Bool, true, false, ◌&&◌, List, [], ◌∷◌, ◌++◌, None, refl, ap, ◌∙◌, append-nil}
+use Rattle.std.proofs.lemmas.Bool.{and_parts, and_right, not-true, or_parts}
+use Rattle.std.proofs.Common.{◌≡◌, ℕ, zero, suc, Bool, true, false, not, ◌&&◌, ◌||◌, if◌then◌else◌, List, [], ◌∷◌, ◌++◌, None, refl, ap, ◌∙◌, append-nil}
 use Rattle.php_tree.specs.declared.kind.NodeKind.{NodeKind}
-use Rattle.php_tree.specs.declared.kind.NodeKind.TheVariants as kind
 use Rattle.php_tree.specs.declared.token.Token.{Token}
 use Rattle.php_tree.specs.Tree.{Forest, none, leaf, node, leaves}
 use Rattle.php_tree.specs.Places.{behind, end_of}
 use Rattle.php_terminals.specs.declared.terminal.Terminal.{Terminal}
 use Rattle.php_terminals.specs.Classify.{terminal}
-use Rattle.syntax_rules.specs.UnsetCast.{is_undecided}
-use Rattle.syntax_upgrade.specs.Calm.{AreCalm, IsCalm, is_calm_kind, last_class}
+use Rattle.syntax_upgrade.specs.Calm.{AreCalm, IsCalm, is_calm_kind, is_edited_kind, last_class}
 use Rattle.syntax_upgrade.specs.Found.{Report}
 use Rattle.syntax_upgrade.specs.Labels.{Labels, label_next, labels_in}
-use Rattle.syntax_upgrade.specs.NullsafeText.{has_question, is_nullsafe_text, is_quoted, is_variable}
+use Rattle.syntax_upgrade.specs.NodeRule.{NodeRule, all_of, has_sought, is_reported_kind, is_reported_token, is_sought, needs_token}
+use Rattle.syntax_upgrade.specs.node_rules.{node_rules}
 use Rattle.syntax_upgrade.specs.Reports.{at_node, reports_in}
 use Rattle.syntax_upgrade.specs.ReservedName.{Standing, at_first, next, past_node, refused_if}
-use Rattle.syntax_upgrade.specs.Traits.{trait_reports}
-use Rattle.syntax_upgrade.proofs.CalmDrafts.{and_none, no_cast}
+use Rattle.syntax_upgrade.proofs.CalmDrafts.{and_none}
 use Rattle.syntax_upgrade.proofs.QuietNodes.{not_doubtful, not_doubtful_last}
 
 -- ---- words and nodes
 
-not_undecided : (k : NodeKind) (c : Forest) → is_calm_kind k ≡ true → is_undecided (k, c) ≡ false
-not_undecided k c h = rw (no_cast k h) refl
-
 none_if : (b c : Bool) (at : ℕ) (x : Token) (rs : List Report) → c ≡ false → refused_if (b && c) at x ++ rs ≡ rs
 none_if b c at x rs e = rw (e, and_none b) refl
 
-no_question : (b : Bool) (f : Forest) → AreCalm f → has_question b f ≡ false
-no_question b none h = refl
-no_question b (leaf t f) h = rw (h.0.no_question, and_none b) (no_question false f h.1)
-no_question b (node k c f) h = no_question (is_variable k) f h.1.1
+-- no token among the own parts of a node is one that these rules look for
+abbrev NoneSought : List NodeRule → Forest → Type 0
+NoneSought rules none = Unit {0}
+NoneSought rules (leaf x f) = (is_reported_token rules x ≡ false) × NoneSought rules f
+NoneSought rules (node k c f) = NoneSought rules f
 
-no_nullsafe : (k : NodeKind) (c : Forest) → AreCalm c → is_nullsafe_text (k, c) ≡ false
-no_nullsafe k c h = rw (no_question false c h) (and_none (is_quoted k))
+none_sought : (f : Forest) → AreCalm f → NoneSought node_rules f
+none_sought none h = tt
+none_sought (leaf x f) h = (h.0.unreported, none_sought f h.1)
+none_sought (node k c f) h = none_sought f h.1.1
 
-no_trait : (k : NodeKind) (c : Forest) (at : ℕ) → is_calm_kind k ≡ true → trait_reports at (k, c) ≡ []
-no_trait kind.Trait c at h = absurd (false≢true h)
-no_trait kind.TraitUse c at h = absurd (false≢true h)
-no_trait _ c at h = refl
+first_sought : (rule : NodeRule) (rules : List NodeRule) (f : Forest) → NoneSought (rule ∷ rules) f → has_sought rule.looks_for f ≡ false
+first_sought rule rules none h = refl
+first_sought rule rules (leaf x f) h =
+    rw ((or_parts (is_sought rule.looks_for x) (is_reported_token rules x) h.0).0) (first_sought rule rules f h.1)
+first_sought rule rules (node k c f) h = first_sought rule rules f h
+
+rest_sought : (rule : NodeRule) (rules : List NodeRule) (f : Forest) → NoneSought (rule ∷ rules) f → NoneSought rules f
+rest_sought rule rules none h = tt
+rest_sought rule rules (leaf x f) h =
+    ((or_parts (is_sought rule.looks_for x) (is_reported_token rules x) h.0).1, rest_sought rule rules f h.1)
+rest_sought rule rules (node k c f) h = rest_sought rule rules f h
+
+-- by its kind it is none, and where a token is needed there is none
+passed_by : (looks needs has : Bool) (rs : List Report) → (not needs && looks) ≡ false → has ≡ false
+    → (if looks && (not needs || has) then rs else []) ≡ []
+passed_by looks true has rs h e = rw (and_right looks has e) refl
+passed_by looks false has rs h e = rw h refl
+
+-- of a node of a kind that no rule looks at whatever stands in it, and in which no token is looked for, none says anything
+pub rules_pass : (rules : List NodeRule) (k : NodeKind) (c : Forest) (at : ℕ) → is_reported_kind rules k ≡ false → NoneSought rules c
+    → all_of rules at (k, c) ≡ []
+rules_pass [] k c at h i = refl
+rules_pass (rule ∷ rules) k c at h i =
+    let e = or_parts (not (needs_token rule.looks_for) && rule.looks_at k) (is_reported_kind rules k) h in
+    ap (λ (rs : List Report). rs ++ all_of rules at (k, c))
+    (passed_by (rule.looks_at k) (needs_token rule.looks_for) (has_sought rule.looks_for c) (rule.says at (k, c)) e.0 (first_sought rule rules c i))
+    ∙ rules_pass rules k c at e.1 (rest_sought rule rules c i)
+
+not_reported : (k : NodeKind) → is_calm_kind k ≡ true → is_reported_kind node_rules k ≡ false
+not_reported k h = not-true (is_reported_kind node_rules k) ((and_parts (not (is_edited_kind k)) _ h).1)
 
 no_nodes : (k : NodeKind) (c : Forest) (at : ℕ) → is_calm_kind k ≡ true → AreCalm c → at_node at (k, c) ≡ []
-no_nodes k c at h i = rw (not_undecided k c h, no_nullsafe k c i, no_trait k c at h) refl
+no_nodes k c at h i = rules_pass node_rules k c at (not_reported k h) (none_sought c i)
 
 pub nothing_found : (k : NodeKind) (s : Standing) (more at : ℕ) (f : Forest) → AreCalm f → reports_in k s more at f ≡ []
 nothing_found k s more at none h = refl

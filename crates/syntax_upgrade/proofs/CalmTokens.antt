@@ -77,7 +77,8 @@ use Rattle.syntax_upgrade.specs.Calm.{
   may_join,
   may_take,
 }
-use Rattle.syntax_upgrade.specs.NullsafeText.{is_question}
+use Rattle.syntax_upgrade.specs.NodeRule.{is_reported_token}
+use Rattle.syntax_upgrade.specs.node_rules.{node_rules}
 use Rattle.syntax_upgrade.specs.ReservedName.{is_doubtful}
 use Rattle.syntax_upgrade.specs.CalmRuns.{AllCalm, AreRun, Stays, behind_mark, runs}
 
@@ -122,7 +123,7 @@ token_is x h =
     let b = both (not (is_doubtful (terminal x))) _ a.1 in
     let c = both (is_calm_text x.text) _ b.1 in
     let d = both (not (has_hash x.lead)) _ c.1 in
-    let e = both (not (is_enum x.kind x.text)) (not (is_question x)) d.1 in
+    let e = both (not (is_enum x.kind x.text)) (not (is_reported_token node_rules x)) d.1 in
     let t = text_is x.text c.0 in
     record {
       lead = not_so (has_hash x.lead) d.0;
@@ -132,7 +133,7 @@ token_is x h =
       no_root = t.no_root;
       sure = not_so (is_doubtful (terminal x)) b.0;
       no_enum = not_so (is_enum x.kind x.text) e.0;
-      no_question = not_so (is_question x) e.1;
+      unreported = not_so (is_reported_token node_rules x) e.1;
     }
 
 -- ---- some tokens

@@ -14,20 +14,23 @@ use Rattle.php_terminals.specs.Words.{is_word}
 use Rattle.syntax_rules.specs.DollarBrace.{is_dollar_brace}
 use Rattle.syntax_rules.specs.SplitName.{is_keyword, is_name, is_nothing}
 use Rattle.syntax_upgrade.specs.Enums.{is_label}
-use Rattle.syntax_upgrade.specs.NullsafeText.{is_question}
+use Rattle.syntax_upgrade.specs.NodeRule.{is_reported_kind, is_reported_token}
+use Rattle.syntax_upgrade.specs.node_rules.{node_rules}
 use Rattle.syntax_upgrade.specs.ReservedName.{is_doubtful}
 
--- whether no rule edits nodes of this kind, or has them in parentheses within others, and they are no form that is reported
-abbrev pub is_calm_kind : NodeKind → Bool
-is_calm_kind kind.Ternary = false
-is_calm_kind kind.ShortTernary = false
-is_calm_kind kind.BraceOffset = false
-is_calm_kind kind.Cast = false
-is_calm_kind kind.Trait = false
-is_calm_kind kind.TraitUse = false
-is_calm_kind _ = true
+-- whether a rule edits nodes of this kind, or has them in parentheses within others
+abbrev pub is_edited_kind : NodeKind → Bool
+is_edited_kind kind.Ternary = true
+is_edited_kind kind.ShortTernary = true
+is_edited_kind kind.BraceOffset = true
+is_edited_kind kind.Cast = true
+is_edited_kind _ = false
 
--- whether no rule looks for tokens of this kind
+-- whether no rule touches nodes of this kind
+abbrev pub is_calm_kind : NodeKind → Bool
+is_calm_kind k = not (is_edited_kind k) && not (is_reported_kind node_rules k)
+
+-- whether no rule edits tokens of this kind
 abbrev pub is_calm_token : TokenKind → Bool
 is_calm_token token.Name = false
 is_calm_token token.DollarBrace = false
@@ -63,7 +66,7 @@ is_enum kind text = is_label kind && is_word (codes "enum") text
 -- whether no rule touches a token
 abbrev pub is_calm : Token → Bool
 is_calm x =
-    is_calm_token x.kind && (not (is_doubtful (terminal x)) && (is_calm_text x.text && (not (has_hash x.lead) && (not (is_enum x.kind x.text) && not (is_question x)))))
+    is_calm_token x.kind && (not (is_doubtful (terminal x)) && (is_calm_text x.text && (not (has_hash x.lead) && (not (is_enum x.kind x.text) && not (is_reported_token node_rules x)))))
 
 -- No rule touches the token.
 pub record IsCalm (x : Token) : Type 0 where
@@ -74,7 +77,7 @@ pub record IsCalm (x : Token) : Type 0 where
   pub no_root : bytes_eq x.text (codes "\\") ≡ false
   pub sure : is_doubtful (terminal x) ≡ false
   pub no_enum : (is_label x.kind && is_word (codes "enum") x.text) ≡ false
-  pub no_question : is_question x ≡ false
+  pub unreported : is_reported_token node_rules x ≡ false
 
 -- all tokens and all nodes are so
 abbrev pub AreCalm : Forest → Type 0

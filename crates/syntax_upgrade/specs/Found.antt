@@ -7,7 +7,8 @@ use Rattle.rule_tables.specs.declared.rule.RuleId.{RuleId}
 use Rattle.rule_tables.specs.declared.cause.Cause.TheVariants.{Off, Always}
 use Rattle.rule_tables.specs.Rules.{number_of, undecided_weight_of, weight_of}
 use Rattle.php_tree.specs.declared.token.Token.{Token}
-use Rattle.php_tree.specs.Places.{behind}
+use Rattle.php_tree.specs.Tree.{Forest, leaves}
+use Rattle.php_tree.specs.Places.{behind, end_of}
 use Rattle.syntax_upgrade.specs.declared.found.Found.{Found}
 
 -- A place that stays as it is: its first byte, the byte behind its last one, the number of its rule or of its form, why it
@@ -45,6 +46,10 @@ outside form start end = record { start = start; end = end; code = form; cause =
 abbrev pub text_start : ℕ → List Token → ℕ
 text_start at [] = at
 text_start at (x ∷ xs) = at + length x.lead
+
+-- such a form whose place is a node with these parts, from its first text on
+abbrev pub outside_parts : ℕ → ℕ → Forest → List Report
+outside_parts form at f = outside form (text_start at (leaves f)) (end_of at f) ∷ []
 
 -- the text of a token whose trivia begin at a place
 abbrev pub at_token : RuleId → Cause → ℕ → Token → Report

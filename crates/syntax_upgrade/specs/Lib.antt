@@ -8,6 +8,8 @@ pub mod Inside
 pub mod Heads
 pub mod Steps
 pub mod Roles
+pub mod Behind
+pub mod NodeRule
 pub mod UnsetCast
 pub mod Progress
 pub mod Words
@@ -21,8 +23,7 @@ pub mod Labels
 pub mod Spans
 pub mod OffPlaces
 pub mod RulesOn
-pub mod NullsafeText
-pub mod Traits
+pub mod node_rules
 pub mod Reports
 pub mod Walk
 pub mod Calm

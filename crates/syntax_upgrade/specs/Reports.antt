@@ -1,42 +1,22 @@
 -- The reports of a file, in the order of a walk: the places at which a rule on syntax is undecided, those of forms of which
 -- nothing is claimed, and those of rules that are off.
-use Rattle.std.specs.Prelude.{ℕ, zero, suc, ◌&&◌, if◌then◌else◌, List, [], ◌∷◌, ◌++◌}
-use Rattle.rule_tables.specs.declared.cause.Cause.TheVariants.{Shape}
-use Rattle.rule_tables.specs.declared.rule.RuleId.TheVariants as rule
+use Rattle.std.specs.Prelude.{ℕ, zero, suc, ◌&&◌, List, [], ◌++◌}
 use Rattle.php_tree.specs.declared.kind.NodeKind.{NodeKind}
 use Rattle.php_tree.specs.declared.kind.NodeKind.TheVariants as kind
-use Rattle.php_tree.specs.Tree.{Forest, none, leaf, node, Tree, File, leaves, file_leaves}
+use Rattle.php_tree.specs.Tree.{Forest, none, leaf, node, Tree, File, file_leaves}
 use Rattle.php_tree.specs.Places.{behind, end_of}
 use Rattle.php_terminals.specs.declared.terminal.Terminal.TheVariants as t
 use Rattle.php_terminals.specs.Classify.{terminal}
-use Rattle.syntax_rules.specs.UnsetCast.{is_undecided}
-use Rattle.syntax_upgrade.specs.Found.{Report, text_start, undecided}
+use Rattle.syntax_upgrade.specs.Found.{Report}
 use Rattle.syntax_upgrade.specs.NameHeads.{head_at}
-use Rattle.syntax_upgrade.specs.NullsafeText.{nullsafe_reports}
-use Rattle.syntax_upgrade.specs.Traits.{trait_reports}
+use Rattle.syntax_upgrade.specs.NodeRule.{all_of}
+use Rattle.syntax_upgrade.specs.node_rules.{node_rules}
 use Rattle.syntax_upgrade.specs.ReservedName.{Standing, at_first, past, past_node, class_by, next, is_last, refuses, refuses_last, refused_if}
 use Rattle.syntax_rules.specs.declared.rules.Rules.{Rules}
 use Rattle.syntax_upgrade.specs.Enums.{enums}
 use Rattle.syntax_upgrade.specs.OffPlaces.{off_reports}
 
--- a cast `(unset)` of anything but a plain variable: it stays, for its shape
-abbrev pub cast_reports : ℕ → Tree → List Report
-cast_reports at n =
-    if is_undecided n then undecided rule.UnsetCast Shape (text_start at (leaves n.1)) (end_of at n.1) ∷ [] else []
-
--- The rules and forms that report nodes whose trivia begin at a place: one line each.
-abbrev pub node_rules : List (ℕ → Tree → List Report)
-node_rules =
-    cast_reports
-    ∷ nullsafe_reports
-    ∷ trait_reports
-    ∷ []
-
--- what these say of a node
-abbrev pub all_of : List (ℕ → Tree → List Report) → ℕ → Tree → List Report
-all_of [] at n = []
-all_of (rule ∷ rules) at n = rule at n ++ all_of rules at n
-
+-- what the rules and forms that report nodes say of one whose trivia begin at a place
 abbrev pub at_node : ℕ → Tree → List Report
 at_node at n = all_of node_rules at n
 

@@ -1,14 +1,20 @@
--- The tokens of a cast `(unset)` of a plain variable, and the token that comes in their place.
+-- Casts `(unset)`: the tokens of one of a plain variable with the token that comes in their place, and the report of any other.
 use Rattle.std.specs.Prelude.{ℕ, List, [], ◌∷◌, ◌++◌, ◌&&◌, if◌then◌else◌, Option, Some, None, codes}
 use Rattle.php_tree.specs.declared.token.Token.{Token}
 use Rattle.php_tree.specs.declared.token.TokenKind.TheVariants as token
 use Rattle.php_tree.specs.declared.kind.NodeKind.{NodeKind}
-use Rattle.php_tree.specs.Tree.{Forest, none, leaf, node, Tree}
+use Rattle.php_tree.specs.Tree.{Forest, none, leaf, node, Tree, leaves}
+use Rattle.php_tree.specs.Places.{end_of}
+use Rattle.rule_tables.specs.declared.cause.Cause.TheVariants.{Shape}
+use Rattle.rule_tables.specs.declared.rule.RuleId.TheVariants as rule
 use Rattle.tracked_changes.specs.Pieces.{changed, also}
 use Rattle.tracked_changes.specs.Draft.{NewToken}
 use Rattle.syntax_rules.specs.declared.rules.Rules.{Rules}
 use Rattle.syntax_rules.specs.HashComment.{lead_by}
-use Rattle.syntax_rules.specs.UnsetCast.{is_unset_cast, is_variable}
+use Rattle.syntax_rules.specs.Casts.{is_cast}
+use Rattle.syntax_rules.specs.UnsetCast.{is_undecided, is_unset_cast, is_variable}
+use Rattle.syntax_upgrade.specs.Found.{Report, text_start, undecided}
+use Rattle.syntax_upgrade.specs.NodeRule.{NodeRule}
 
 -- the token of a node that is a plain variable
 abbrev pub variable_in : NodeKind → Forest → Option Token
@@ -48,3 +54,11 @@ null_token r cast variable = record {
   lead = lead_by r.hash_comments cast.lead;
   text = changed (taken_out cast variable) (codes "(") ∷ also (codes "null") ∷ also (codes ")") ∷ [];
 }
+
+-- a cast `(unset)` of anything but a plain variable: it stays, for its shape
+abbrev pub says : ℕ → Tree → List Report
+says at n =
+    if is_undecided n then undecided rule.UnsetCast Shape (text_start at (leaves n.1)) (end_of at n.1) ∷ [] else []
+
+abbrev pub undecided_casts : NodeRule
+undecided_casts = record { looks_at = is_cast; looks_for = None; says = says }

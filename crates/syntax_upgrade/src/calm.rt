@@ -10,9 +10,10 @@ ghost use Rattle.syntax_upgrade.specs.CalmRuns.{AreRun, Stays, behind_mark, runs
 
 use crate::hash_comment::has_hash;
 use crate::labels::is_enum;
-use crate::nullsafe_text::is_question;
+use crate::node_rules::{is_reported_kind, is_reported_token};
 use crate::reserved_name::is_doubtful;
 use crate::split_name::is_keyword;
+use crate::words::word_at;
 use php_rows::{Flat, Parts};
 use php_terminals::mark::Mark;
 use php_terminals::marked::{lead_of, text_of};
@@ -72,18 +73,19 @@ pub(crate) struct Calm {
     pub(crate) last: Last,
 }
 
+fn is_edited_kind(kind: NodeKind) -> bool
+    ensures { result ≡ spec.is_edited_kind kind }
+{
+    matches!(
+        kind,
+        NodeKind::Ternary | NodeKind::ShortTernary | NodeKind::BraceOffset | NodeKind::Cast
+    )
+}
+
 fn is_calm_kind(kind: NodeKind) -> bool
     ensures { result ≡ spec.is_calm_kind kind }
 {
-    match kind {
-        NodeKind::Ternary
-        | NodeKind::ShortTernary
-        | NodeKind::BraceOffset
-        | NodeKind::Cast
-        | NodeKind::Trait
-        | NodeKind::TraitUse => false,
-        _ => true,
-    }
+    !is_edited_kind(kind) && !is_reported_kind(kind)
 }
 
 fn are_calm_kinds(nodes: &[Flat]) -> bool
@@ -143,7 +145,7 @@ fn is_calm(bytes: &[u8], mark: Mark) -> bool
         && (!is_doubtful(mark.class)
             && (is_calm_text(text)
                 && (!has_hash(lead_of(bytes, mark))
-                    && (!is_enum(mark.kind, text) && !is_question(mark.kind, text)))))
+                    && (!is_enum(mark.kind, text) && !is_reported_token(word_at(bytes, mark))))))
 }
 
 // Behind a token that stands behind another one.

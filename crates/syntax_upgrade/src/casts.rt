@@ -21,7 +21,8 @@ pub(crate) fn first_text<'a>(parts: Parts<'a>) -> &'a [u8]
     }
 }
 
-fn is_cast(kind: NodeKind) -> bool
+/// Whether a node is a cast.
+pub(crate) fn is_cast(kind: NodeKind) -> bool
     ensures { result ≡ cast kind }
 {
     matches!(kind, NodeKind::Cast)

@@ -2,8 +2,12 @@
 ghost use Rattle.std.specs.Prelude.{◌≡◌, ◌≤◌, ◌+◌, ◌*◌, ◌^◌, ◌++◌, ◌∷◌, [], map, IfOk, OnOk};
 ghost use Rattle.std.specs.List.Sorted.{IsNonDecreasingBy, IsPermutation};
 ghost use Rattle.rule_tables.specs.Rules.{number_of, undecided_weight_of};
-ghost use Rattle.syntax_upgrade.specs.Found.{found_of, off, order_of, outside};
+ghost use Rattle.syntax_upgrade.specs.Found.{found_of, off, order_of, outside, outside_parts};
+ghost use Rattle.php_rows.specs.Reading.{forest_in};
+ghost use Rattle.php_tree.specs.Places.{end_of};
 
+use crate::start_of::start_of;
+use php_rows::Parts;
 use rule_tables::{Cause, RuleId, Span, Weight};
 use std::alloc::AllocError;
 
@@ -73,6 +77,22 @@ pub(crate) fn add_outside(
         weight: Weight::Compile,
     })?;
     Ok(())
+}
+
+/// The same of a form whose place is a node with these parts, which begins and ends at these places.
+pub(crate) fn add_outside_parts(
+    parts: Parts,
+    at: u32,
+    end: u32,
+    form: u16,
+    out: &mut Vec<Found>,
+) -> Result<(), AllocError>
+    requires { end ≡ end_of at (forest_in parts) }
+    ensures { OnOk result (map found_of out.new.items ≡ map found_of out.old.items
+        ++ outside_parts form at (forest_in parts.entry)) }
+{
+    let start = start_of(parts, at)?.unwrap_or(at);
+    add_outside(start, end, form, out)
 }
 
 // A number by which places are in order of start, then end, then code.

@@ -2,6 +2,7 @@
 //! file here.
 #![tactic(auto)]
 
+mod behind;
 mod brace_offset;
 mod calm;
 mod casts;
@@ -13,12 +14,12 @@ mod labels;
 mod laws;
 mod nested_ternary;
 mod next;
-mod nullsafe_text;
+mod node_rule;
+mod node_rules;
 mod off_places;
 mod past;
 mod progress;
 mod recorder;
-mod reports;
 mod reserved_name;
 mod rounds;
 mod rules_on;
@@ -26,7 +27,6 @@ mod split_name;
 mod start_of;
 mod steps;
 mod token_standing;
-mod traits;
 mod unset_cast;
 mod walk;
 mod whole;

@@ -2,19 +2,17 @@
 //
 // Before: (unset)$a
 // After:  (null)
-ghost use Rattle.std.specs.Prelude.{◌≡◌, ◌<◌, ◌++◌, length, map, OnOk, option_map};
+ghost use Rattle.std.specs.Prelude.{◌≡◌, ◌<◌, length, OnOk, option_map};
 ghost use Rattle.php_rows.specs.Reading.{forest_in};
 ghost use Rattle.syntax_upgrade.specs.Words.{both_seen, seen};
 ghost use Rattle.syntax_rules.specs.UnsetCast.{is_edited as edited, is_undecided as undecided, is_variable as variable};
-ghost use Rattle.php_tree.specs.Places.{end_of};
-ghost use Rattle.syntax_upgrade.specs.Found.{found_of};
-ghost use Rattle.syntax_upgrade.specs.Reports.{cast_reports};
-ghost use Rattle.syntax_upgrade.specs.UnsetCast.{null_token, tokens_in as tokens_among, unset_in, variable_in as variable_among};
+ghost use Rattle.syntax_upgrade.specs.UnsetCast.{null_token, undecided_casts, tokens_in as tokens_among, unset_in, variable_in as variable_among};
 ghost use Rattle.syntax_upgrade.specs.Written.{token_next};
 
-use crate::casts::is_unset_cast;
+use crate::casts::{is_cast, is_unset_cast};
 use crate::found::{Found, add};
 use crate::next::{first_node, first_word, has_none, others};
+use crate::node_rule::NodeRule;
 use crate::past::past_bytes;
 use crate::split_name::as_kind;
 use crate::word::Word;
@@ -117,29 +115,43 @@ pub(crate) fn is_edited(kind: NodeKind, parts: Parts) -> bool
     is_unset_cast(kind, parts) && tokens_in(parts).is_some()
 }
 
-/// Puts a cast `(unset)` of anything but a plain variable, which begins and ends at these places, behind other places.
-pub(crate) fn report(
-    kind: NodeKind,
-    parts: Parts,
-    at: u32,
-    end: u32,
-    out: &mut Vec<Found>,
-) -> Result<(), AllocError>
-    requires { end ≡ end_of at (forest_in parts) }
-    ensures { OnOk result (map found_of out.new.items ≡ map found_of out.old.items
-        ++ cast_reports at (kind, forest_in parts.entry)) }
-{
-    if !is_undecided(kind, parts) {
-        return Ok(());
+/// Casts `(unset)` of anything but a plain variable.
+pub(crate) struct UndecidedCasts;
+
+impl NodeRule for UndecidedCasts {
+    ghost rule = { undecided_casts };
+
+    fn looks_at(kind: NodeKind) -> bool {
+        is_cast(kind)
     }
-    match first_word(parts) {
-        Some(cast) => add(
-            past_bytes(at, cast.lead)?,
-            end,
-            RuleId::UnsetCast,
-            Cause::Shape,
-            out,
-        ),
-        None => Ok(()),
+
+    fn needs_token() -> bool {
+        false
+    }
+
+    fn looks_for(_token: Word) -> bool {
+        false
+    }
+
+    fn report(
+        kind: NodeKind,
+        parts: Parts,
+        at: u32,
+        end: u32,
+        out: &mut Vec<Found>,
+    ) -> Result<(), AllocError> {
+        if !is_undecided(kind, parts) {
+            return Ok(());
+        }
+        match first_word(parts) {
+            Some(cast) => add(
+                past_bytes(at, cast.lead)?,
+                end,
+                RuleId::UnsetCast,
+                Cause::Shape,
+                out,
+            ),
+            None => Ok(()),
+        }
     }
 }

@@ -6,26 +6,19 @@ use Rattle.span_edits.specs.EditList.{AreApart}
 use Rattle.span_edits.specs.Splice.{spliced}
 use Rattle.php_tree.specs.Tree.{File, file_printed}
 use Rattle.php_tree.specs.declared.version.Version.TheVariants.{V74}
-use Rattle.php_shapes.specs.Shapes.{Shape}
 use Rattle.php_reading.specs.Reading.{Reads}
 use Rattle.php_reading.proofs.Trees.{is_printed}
-use Rattle.php_meaning.specs.runs.World.{Bytes}
-use Rattle.php_meaning.proofs.Silent.{inside_is_covered}
 use Rattle.rule_tables.specs.SettingsView.{SettingsView}
 use Rattle.tracked_changes.proofs.Splicing.{edits_are_apart}
-use Rattle.syntax_rules.specs.NestedTernary.{program}
 use Rattle.syntax_rules.specs.Rewritten.{patches_by, draft_by}
 use Rattle.syntax_upgrade.specs.RulesOn.{rules_in}
 use Rattle.syntax_rules.proofs.TogetherKeeps.{syntax_is_rewritten}
 use Rattle.syntax_upgrade.proofs.NextEdit.{makes_rewritten_by}
-use Rattle.rewriting_keeps.specs.Laws.{NamesAreDirect}
-use Rattle.rewriting_keeps.proofs.DirectNames.{read_names_are_direct}
-use Rattle.rewriting_keeps.proofs.Kept.{shaped_files_keep_meaning}
 use Rattle.written_reading.specs.edited.Laws.{WrittenFilesAreRead}
 use Rattle.io_ports.specs.Files as ports
 use Rattle.io_ports.specs.Files.{content}
 use Rattle.report_handing.specs.Sinks.{Sinks}
-use Rattle.upgrade_core.proofs.Refusals.{shaped}
+use Rattle.upgrade_core.proofs.MeaningLemmas.{meaning_stays}
 use Rattle.upgrade_core.specs.Files.{Trees}
 use Rattle.upgrade_core.specs.Trees.{AreRead}
 use Rattle.upgrade_core.specs.Upgrade.{edits, rewritten, written}
@@ -35,11 +28,10 @@ use Rattle.upgrade_cli.specs.declared.stop.Stop.{Stop}
 use Rattle.upgrade_cli.specs.declared.stop.Stop.TheVariants as stop
 use Rattle.upgrade_cli.specs.declared.stop.Summary.{Summary}
 use Rattle.upgrade_cli.specs.Lines.{summary_line}
-use Rattle.upgrade_cli.specs.Reports.{marks}
 use Rattle.upgrade_cli.specs.Outcome.{name_of, writes, counts, TargetLeft, planned_files, with_written}
 use Rattle.upgrade_cli.specs.Run.{of_stop, status_of, Answers, AllDone, LinePut}
 use Rattle.upgrade_cli.specs.Whole.{IsDoing}
-use Rattle.upgrade_cli.specs.Headline.{Headline, IsWritten, AreWritten, MeansTheSame, all_rewritten}
+use Rattle.upgrade_cli.specs.Headline.{Headline, IsWritten, AreWritten}
 use Rattle.upgrade_cli.proofs.Clear.{clear_is_read}
 
 -- ---- what is written
@@ -67,39 +59,6 @@ are_written law s [] (t ∷ ts) r = absurd r
 are_written law s (f ∷ fs) [] r = absurd r
 are_written law s (f ∷ fs) (t ∷ ts) r = (r.0.0, r.0.0, file_written law s f.1 t.1 r.0.1, are_written law s fs ts r.1)
 
--- ---- the meaning
-
--- one more of which something holds
-all_more : {X : Type 0} (P : X → Type 0) (x : X) (xs : List X) → P x → All P xs → All P (x ∷ xs)
-all_more P x xs h rest = λ k d below. by k d below
-  where
-    by : All P (x ∷ xs)
-    by zero d below = h
-    by (suc k) d below = rest k d (omega (arith, below))
-
-are_shaped : (files : List ports.File) (trees : Trees) → AreRead files trees → All (λ f. Shape V74 f.1) trees
-are_shaped [] [] r = λ k d below. absurd (omega (arith, below))
-are_shaped [] (t ∷ ts) r = absurd r
-are_shaped (f ∷ fs) [] r = absurd r
-are_shaped (f ∷ fs) (t ∷ ts) r =
-    all_more (λ (g : Bytes × File). Shape V74 g.1) t ts (shaped f.1 t.1 r.0.1) (are_shaped fs ts r.1)
-
-are_direct : (files : List ports.File) (trees : Trees) → AreRead files trees → All (λ f. NamesAreDirect f.1.statements) trees
-are_direct [] [] r = λ k d below. absurd (omega (arith, below))
-are_direct [] (t ∷ ts) r = absurd r
-are_direct (f ∷ fs) [] r = absurd r
-are_direct (f ∷ fs) (t ∷ ts) r =
-    all_more (λ (g : Bytes × File). NamesAreDirect g.1.statements) t ts (read_names_are_direct f.1 t.1 r.0.1) (are_direct fs ts r.1)
-
-means_the_same : (s : SettingsView) (trees : Trees) → All (λ f. Shape V74 f.1) trees
-    → All (λ f. NamesAreDirect f.1.statements) trees → MeansTheSame s trees
-means_the_same s trees h d =
-    let keeps = shaped_files_keep_meaning (rules_in s) trees s.prepend (marks s trees) h d in
-    record {
-      meaning = keeps;
-      runs = λ asks. inside_is_covered (program trees s.prepend) (program (all_rewritten s trees) s.prepend) (marks s trees) asks keeps;
-    }
-
 -- ---- all of it
 
 module _ (law : WrittenFilesAreRead) (asked : Asked) (stored files before : List ports.File) (after : Option (List ports.File))
@@ -114,7 +73,7 @@ module _ (law : WrittenFilesAreRead) (asked : Asked) (stored files before : List
     target = t.2;
     line = line_of held l;
     status = e ∙ ap (λ (x : Summary). status_of (Ok x)) t.1;
-    means_the_same = means_the_same t.0.settings t.0.trees (are_shaped files t.0.trees t.0.clear.read) (are_direct files t.0.trees t.0.clear.read);
+    means_the_same = meaning_stays t.0.settings files t.0.trees t.0.clear.read;
   }
     where
       line_of : (h : Option (List ℕ)) → IfSome h (λ old. held' ≡ Some (old ++ summary_line s))

@@ -1,23 +1,20 @@
 -- The headline: what stands after all was done, and what it does in 8.3.
-use Rattle.std.specs.Prelude.{◌≡◌, ℕ, List, [], ◌∷◌, ◌++◌, length, map, Option, Some, None, IfSome, Ok, All, IsTrue}
+use Rattle.std.specs.Prelude.{◌≡◌, ℕ, List, [], ◌∷◌, ◌++◌, length, Option, Some, None, IfSome, Ok}
 use Rattle.command_words.specs.Words.{Asked}
 use Rattle.span_edits.specs.EditList.{AreApart}
 use Rattle.span_edits.specs.Splice.{spliced}
 use Rattle.php_tree.specs.Tree.{File, file_printed}
 use Rattle.php_tree.specs.declared.version.Version.TheVariants.{V74, V83}
 use Rattle.php_reading.specs.Reading.{Reads}
-use Rattle.php_meaning.specs.laws.Laws.{KeepsMeaning, KeepsRuns}
-use Rattle.php_meaning.specs.laws.Asking.{asks_nothing}
 use Rattle.rule_tables.specs.SettingsView.{SettingsView}
-use Rattle.syntax_rules.specs.NestedTernary.{program}
 use Rattle.written_reading.specs.Laws.{IsRead}
 use Rattle.io_ports.specs.Files as ports
 use Rattle.io_ports.specs.Files.{content}
 use Rattle.upgrade_core.specs.Files.{Trees}
+use Rattle.upgrade_core.specs.Meaning.{MeansTheSame}
 use Rattle.upgrade_core.specs.Upgrade.{edits, rewritten, reports}
 use Rattle.upgrade_cli.specs.declared.stop.Status.{Status}
 use Rattle.upgrade_cli.specs.Lines.{summary_line}
-use Rattle.upgrade_cli.specs.Reports.{marks}
 use Rattle.upgrade_cli.specs.Outcome.{Through, name_of, writes, planned_files, with_written, counts}
 use Rattle.upgrade_cli.specs.Run.{status_of}
 
@@ -41,21 +38,6 @@ AreWritten settings [] [] [] = Unit {0}
 AreWritten settings (f ∷ fs) (t ∷ ts) (w ∷ ws) =
     (t.0 ≡ f.0) × (w.0 ≡ f.0) × IsWritten settings f.1 t.1 w.1 × AreWritten settings fs ts ws
 AreWritten settings files trees written = ⊥
-
--- the same files, rewritten
-abbrev pub all_rewritten : SettingsView → Trees → Trees
-all_rewritten settings trees = map (λ t. (t.0, rewritten settings t.1)) trees
-
--- From every entry, on every input and for every bound, the rewritten files' 8.3 run has the echo and the end of the files'
--- 7.4 run, wherever that one stays inside the profile, starts no file with a report of weight `compile`, and asks at no point where the versions
--- differ. Each run starts with the file that the settings name for it. Files without an operator that may ask need not meet
--- the last.
-pub record MeansTheSame (settings : SettingsView) (trees : Trees) : Type 0 where
-  pub meaning : KeepsMeaning (program trees settings.prepend) (marks settings trees)
-      (program (all_rewritten settings trees) settings.prepend)
-  pub runs : All (λ f. IsTrue (asks_nothing f.1)) (program trees settings.prepend).files
-      → KeepsRuns (program trees settings.prepend) (marks settings trees)
-      (program (all_rewritten settings trees) settings.prepend)
 
 -- Nothing is refused: the settings are those of their file, and all sources have these trees in 7.4. The target holds what is
 -- written of them, and its other files, or with `check` what it held. The line has the counts, and the status is 2 exactly

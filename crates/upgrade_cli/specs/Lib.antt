@@ -1,6 +1,5 @@
 -- what the contract of `run` rests on
 pub mod Lines
-pub mod Reports
 pub mod Outcome
 pub mod Run
 pub mod Headline

@@ -4,4 +4,5 @@ pub mod NameLemmas
 pub mod PlaceLemmas
 pub mod PlanLemmas
 pub mod Refusals
+pub mod MeaningLemmas
 pub mod RowLemmas

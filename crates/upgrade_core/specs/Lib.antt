@@ -9,3 +9,4 @@ pub mod Outcome
 pub mod Rows
 pub mod Made
 pub mod Named
+pub mod Meaning

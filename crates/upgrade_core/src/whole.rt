@@ -3,6 +3,7 @@ ghost use Rattle.std.specs.Prelude.{◌≡◌, ◌<◌, ◌^◌, length, map};
 ghost use Rattle.upgrade_core.specs.Named as named;
 ghost use Rattle.upgrade_core.specs.Rows.{AreAllRead, trees_of};
 ghost use Rattle.upgrade_core.specs.Files.{file_of};
+ghost use Rattle.upgrade_core.specs.Meaning.{MeaningStays};
 ghost use Rattle.upgrade_core.specs.Outcome as spec;
 ghost use Rattle.report_handing.specs.Sinks.{AllOpen, sinks_by};
 
@@ -72,6 +73,7 @@ pub fn upgrade_into<S: Slot>(
     requires open { AllOpen (map S.closed sinks.old) }
     requires few { length sinks.old < 2 ^ 32 }
     ensures told { spec.IsOutcome settings.now (map file_of files.now) result }
+    ensures means { MeaningStays settings.now (map file_of files.now) }
     ensures sinks { spec.AreLeft settings.now (map file_of files.now) result
         (sinks_by S.reports S.closed S.failures sinks.old) (sinks_by S.reports S.closed S.failures sinks.new) }
     ensures kept { spec.Keeps result (sinks.new ≡ sinks.old) }
@@ -92,6 +94,9 @@ pub fn upgrade_into<S: Slot>(
 /// declarations of one name, or classes extend one another in a cycle. `Sink` comes only where the count of faults of
 /// the sink at this position rose in this call. No other refusal calls a sink. Files whose paths don't ascend strictly
 /// are answered as where no memory is at hand.
+///
+/// Rewritten so, the files do in 8.3 what they do in 7.4, from every entry, on every input and for every bound, wherever
+/// that run stays inside the profile and asks at no point where the versions differ.
 pub fn upgrade(
     alloc: Global,
     files: &[SourceFile],
@@ -101,6 +106,7 @@ pub fn upgrade(
     requires open { AllOpen (map ⟦<Box<dyn ReportSink> as Slot>⟧.closed sinks.old.items) }
     requires few { length sinks.old.items < 2 ^ 32 }
     ensures told { spec.IsOutcome settings.now (map file_of files.now) result }
+    ensures means { MeaningStays settings.now (map file_of files.now) }
     ensures sinks { spec.AreLeft settings.now (map file_of files.now) result
         (sinks_by ⟦<Box<dyn ReportSink> as Slot>⟧.reports ⟦<Box<dyn ReportSink> as Slot>⟧.closed
         ⟦<Box<dyn ReportSink> as Slot>⟧.failures sinks.old.items)

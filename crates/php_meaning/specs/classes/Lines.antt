@@ -14,6 +14,7 @@ use Rattle.php_meaning.specs.names.Tables.{Tables, declaration_at}
 use Rattle.php_meaning.specs.names.Tables as table
 use Rattle.php_meaning.specs.names.Reserved.{is_php_class}
 use Rattle.php_meaning.specs.runs.Stores.{same_name}
+use Rattle.php_meaning.specs.calls.Bodies.{function_word}
 use Rattle.php_meaning.specs.runs.Script.{Script, Stop, Look, throws}
 
 -- ---- classes by name
@@ -130,12 +131,18 @@ class_by site s name =
 
 -- ---- classes that aren't there
 
--- whether a class or interface is declared when its file starts: where it is unconditional, and has neither a parent nor
--- interfaces
+-- whether one of some members is a method `__toString`
+abbrev pub declares_to_text : List (NodeKind × Form) → Bool
+declares_to_text [] = false
+declares_to_text ((kind.Method, f) ∷ ks) = same_name (function_word f) (codes "__toString") || declares_to_text ks
+declares_to_text (k ∷ ks) = declares_to_text ks
+
+-- Whether a class or interface is declared when its file starts: where it is unconditional, and has neither a parent nor
+-- interfaces. One with `__toString` has the interface `Stringable` in 8.x. (UPGRADING 8.0.)
 abbrev pub is_early_class : table.Declaration → Bool
 is_early_class d =
     d.is_top && is_class d.kind && not (has_keyword (codes "extends") (texts d.form))
-    && not (has_keyword (codes "implements") (texts d.form))
+    && not (has_keyword (codes "implements") (texts d.form)) && not (declares_to_text d.kids)
 
 -- whether some file declares a class of this name once the declaration is reached
 abbrev pub is_declared_late : Tables → Bytes → Bool

@@ -94,6 +94,16 @@ property_base_then t site (Object n) name k =
     found_then t site n name (throws Error) (λ f. Look (λ s. k (property_base n f name s)))
 property_base_then t site v name k = Stop Reference
 
+-- A property is bound to a cell in place of its own. One that has a type is outside, and so is one that the code may not use, since
+-- PHP makes the reference first.
+abbrev pub bind_member : Typing → ℕ → Member → Cell → Script → Script
+bind_member Untyped n m c k = Look (λ s. Put (with_property n m c (without_property n m s)) k)
+bind_member (Typed d) n m c k = Stop Reference
+
+abbrev pub bind_property : Tables → Site → Value → Bytes → Cell → Script → Script
+bind_property t site (Object n) name c k = found_then t site n name (Stop Reference) (λ f. bind_member f.typing n f.member c k)
+bind_property t site v name c k = Stop Reference
+
 -- what reading a property gives that has no cell: null, and outside where it has a type
 abbrev pub read_missing : Typing → (Value → Script) → Script
 read_missing Untyped k = k Null
@@ -124,6 +134,7 @@ unset_property t site v name = Stop Reference
 abbrev pub properties_at : Tables → Site → Properties
 properties_at t site = record {
   base = property_base_then t site;
+  bound = bind_property t site;
   typed = of_type t;
 }
 

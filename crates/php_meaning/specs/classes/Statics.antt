@@ -17,7 +17,7 @@ use Rattle.php_meaning.specs.expressions.Expressions.{plain_name}
 use Rattle.php_meaning.specs.classes.Lines.{line, kin, is_a, no_class, class_then}
 use Rattle.php_meaning.specs.classes.Members.{declared_line, is_stringable, is_seen, Listed, own_static, constant_in, first_listed}
 use Rattle.php_meaning.specs.classes.Types.{type_form, typing_of, of_form}
-use Rattle.php_meaning.specs.runs.Script.{Typing, Untyped, InCell, InStatic, At, Script, Give, Stop, Look, Put, give, child_value, throws, still}
+use Rattle.php_meaning.specs.runs.Script.{Typing, Untyped, InStatic, At, Script, Give, Stop, Look, Put, give, child_value, throws, still}
 use Rattle.php_meaning.specs.classes.Preparing.{constant_key, item_then, first_value, make_static, prepared}
 use Rattle.php_meaning.specs.classes.Making.{known_class}
 use Rattle.php_meaning.specs.classes.Methods.{class_word, word_of_class}
@@ -55,30 +55,30 @@ find_static t l class name unmade k = Look (λ s. elim (static_property_cell s.s
 
 -- a static property as code at a site means it: what comes where it isn't there or may not be used, and where it has no
 -- value yet
-abbrev pub static_property : Tables → Site → Form → (Script → Script) → (Listed → Bytes → Bytes → Script) → (Cell → Typing → Script) → Script
+abbrev pub static_property : Tables → Site → Form → (Script → Script) → (Listed → Bytes → Bytes → Script) → (Bytes → Bytes → Cell → Typing → Script) → Script
 static_property t site f missing unmade k = class_then site (class_word 0 f) (λ class. Look (λ s.
     let name : Bytes = plain_name (word_of_class f) in
     elim (first_listed (own_static t) (declared_line t s.declared (line t s class)) name) [
       | None ↦ if is_some (known_class t s class) then missing (throws Error) else no_class t class
       | Some l ↦
-          if is_seen t s site l.0.0.form l.1 then prepared t class (find_static t l.0 l.1 name (unmade l.0 l.1 name) k)
+          if is_seen t s site l.0.0.form l.1 then prepared t class (find_static t l.0 l.1 name (unmade l.0 l.1 name) (k l.1 name))
           else missing (throws Error)
     ]))
 
 -- read, read where nothing is said of what isn't there, and as a location
 abbrev pub static_value : Tables → Site → Form → Script
 static_value t site f =
-    static_property t site f (λ refused. refused) (λ l class name. Stop Reference) (λ c typing. Look (λ s. give (s.held c)))
+    static_property t site f (λ refused. refused) (λ l class name. Stop Reference) (λ class name c typing. Look (λ s. give (s.held c)))
 
 abbrev pub static_quietly : Tables → Site → Form → Script
 static_quietly t site f =
-    static_property t site f (λ refused. give Null) (λ l class name. give Null) (λ c typing. Look (λ s. give (s.held c)))
+    static_property t site f (λ refused. give Null) (λ l class name. give Null) (λ class name c typing. Look (λ s. give (s.held c)))
 
 abbrev pub static_location : Tables → Site → Form → Script
 static_location t site f =
     static_property t site f (λ refused. refused)
-    (λ l class name. Give (At (record { root = InStatic class name l.0.at; offsets = [] })))
-    (λ c typing. Give (At (record { root = InCell c typing; offsets = [] })))
+    (λ l class name. Give (At (record { root = InStatic class name (typing_of l.0); offsets = [] })))
+    (λ class name c typing. Give (At (record { root = InStatic class name typing; offsets = [] })))
 
 -- ---- instanceof
 

@@ -1,7 +1,7 @@
 -- Scripts that read, write, bind and unset locations. (PHP manual, "Variables", "Assignment Operators", "References
 -- Explained".)
 use Rattle.std.specs.Prelude.{ℕ, suc, ◌+◌, Bool, true, false, List, [], ◌∷◌, Option, Some, None}
-use Rattle.scope_names.specs.Slot.{Declared, Slot, StaticProperty, Unnamed}
+use Rattle.scope_names.specs.Slot.{Declared, Slot, Property, StaticProperty, Unnamed}
 use Rattle.php_meaning.specs.values.Value.{Value, Null, Arr, Cell, Entries, none, own, shared}
 use Rattle.php_meaning.specs.Cause.{Outcome, NoRule, Reference}
 use Rattle.php_meaning.specs.Differences.{ByVersion}
@@ -19,6 +19,7 @@ use Rattle.php_meaning.specs.runs.Stores.{
   without_variable,
   static_property_cell,
   with_static,
+  without_static,
 }
 use Rattle.php_meaning.specs.runs.Locations.{Change, Changed, Refused, value_at, value_to_unset, changed_at, written, shared_at, bound_at, unset_at, front, last_of}
 use Rattle.php_meaning.specs.runs.Script.{
@@ -27,7 +28,6 @@ use Rattle.php_meaning.specs.runs.Script.{
   Typed,
   Root,
   InVariable,
-  InCell,
   InProperty,
   InStatic,
   InValue,
@@ -112,24 +112,24 @@ variable_base site name s = elim (variable_cell name s) [
   | None ↦ Unmade (variable_slot site.body name) Untyped (with_variable name)
 ]
 
--- a static property that has a type and maybe no value yet
-abbrev pub static_base : Bytes → Bytes → Declared → Store → Base
-static_base class name d s = elim (static_property_cell s.statics class name) [
-  | Some c ↦ Made c (Typed d)
-  | None ↦ Unmade (StaticProperty name) (Typed d) (with_static class name)
+-- a static property; one that has a type has maybe no value yet
+abbrev pub static_base : Bytes → Bytes → Typing → Store → Base
+static_base class name typing s = elim (static_property_cell s.statics class name) [
+  | Some c ↦ Made c typing
+  | None ↦ Unmade (StaticProperty name) typing (with_static class name)
 ]
 
--- What depends on classes, for code at a site: what a location in a property begins with; and what comes where a value is of
--- the type that a declaration has, which is outside for any other value.
+-- What depends on classes, for code at a site: what a location in a property begins with; what comes once a property is bound to
+-- a cell; and what comes where a value is of the type that a declaration has, which is outside for any other value.
 pub record Properties : Type 0 where
   pub base : Value → Bytes → (Base → Script) → Script
+  pub bound : Value → Bytes → Cell → Script → Script
   pub typed : Declared → Value → Script → Script
 
 abbrev pub root_then : Properties → Site → Root → (Base → Script) → Script
 root_then properties site (InVariable name) k = Look (λ s. k (variable_base site name s))
-root_then properties site (InCell c typing) k = k (Made c typing)
 root_then properties site (InProperty v name) k = properties.base v name k
-root_then properties site (InStatic class name d) k = Look (λ s. k (static_base class name d s))
+root_then properties site (InStatic class name typing) k = Look (λ s. k (static_base class name typing s))
 root_then properties site (InValue v) k = Stop NoRule
 
 -- ---- locations, read and written
@@ -188,25 +188,31 @@ cell_then properties site taker l k = elim (last_of l.offsets) [
 abbrev pub has_offsets : Location → Bool
 has_offsets l = elim l.offsets [ [] ↦ false | k ∷ ks ↦ true ]
 
--- the slot of what is bound to a cell: a variable's; nothing else takes a reference to an element
+-- the slot of what is bound to a cell: a variable's or a property's
 abbrev pub root_slot : Site → Root → Slot
 root_slot site (InVariable name) = variable_slot site.body name
-root_slot site root = Unnamed
+root_slot site (InProperty v name) = Property name
+root_slot site (InStatic class name typing) = StaticProperty name
+root_slot site (InValue v) = Unnamed
 
 abbrev pub slot_of : Site → Location → Slot
 slot_of site l = elim l.offsets [ [] ↦ root_slot site l.root | k ∷ ks ↦ Unnamed ]
 
+-- a static property is bound to a cell in place of its own; one that has a type is outside
+abbrev pub bind_static : Bytes → Bytes → Typing → Cell → Script → Script
+bind_static class name Untyped c k = Look (λ s. Put (with_static class name c (without_static class name s)) k)
+bind_static class name (Typed d) c k = Stop Reference
+
 -- a location is bound to a cell
-abbrev pub bind_root : Root → Cell → Script → Script
-bind_root (InVariable name) c k = Look (λ s. Put (with_variable name c s) k)
-bind_root (InCell d typing) c k = Stop Reference
-bind_root (InProperty v name) c k = Stop Reference
-bind_root (InStatic class name d) c k = Stop Reference
-bind_root (InValue v) c k = Stop NoRule
+abbrev pub bind_root : Properties → Root → Cell → Script → Script
+bind_root properties (InVariable name) c k = Look (λ s. Put (with_variable name c s) k)
+bind_root properties (InProperty v name) c k = properties.bound v name c k
+bind_root properties (InStatic class name typing) c k = bind_static class name typing c k
+bind_root properties (InValue v) c k = Stop NoRule
 
 abbrev pub bind : Properties → Site → Location → Cell → Script → Script
 bind properties site l c k = elim (last_of l.offsets) [
-  | None ↦ bind_root l.root c k
+  | None ↦ bind_root properties l.root c k
   | Some key ↦ change properties site l.root (front l.offsets) (bound_at key c) (λ u. k)
 ]
 
@@ -223,9 +229,8 @@ unset_element properties site l (Some key) k =
 
 abbrev pub unset_root : Root → Script → Script
 unset_root (InVariable name) k = Look (λ s. Put (without_variable name s) k)
-unset_root (InCell c typing) k = Stop NoRule
 unset_root (InProperty v name) k = Stop NoRule
-unset_root (InStatic class name d) k = Stop NoRule
+unset_root (InStatic class name typing) k = Stop NoRule
 unset_root (InValue v) k = Stop NoRule
 
 abbrev pub unset : Properties → Site → Location → Script → Script

@@ -168,6 +168,10 @@ item_value f i k = k (has_word (codes "&") (texts f))
 abbrev pub lend : Cell → Script → Script
 lend c k = Look (λ s. Put (lending c s) k)
 
+-- The cell that an item refers to. An element of another array is outside there, as one that is bound to an element is.
+abbrev pub item_cell : Properties → Site → Location → (Cell → Script) → Script
+item_cell properties s l k = cond (has_offsets l) (Stop NoRule) (cell_then properties s Unnamed l (λ c. lend c (k c)))
+
 -- an item, into the array so far
 abbrev pub item : Properties → Site → Form → Array → Script
 item properties s f a =
@@ -175,10 +179,10 @@ item properties s f a =
     else (if has_word (codes "=>") (texts f)
     then child_value 0 (λ v. given (to_key v) (λ key.
     (if has_word (codes "&") (texts f)
-    then child_location 1 (λ l. still 0 v (cell_then properties s Unnamed l (λ c. lend c (fresh (with_element key (Shared c) a)))))
+    then child_location 1 (λ l. still 0 v (item_cell properties s l (λ c. fresh (with_element key (Shared c) a))))
     else Run (Kid 1 Read) (kept_then (λ w. still 0 v (fresh (with_element key (Own w) a)))))))
     else (if has_word (codes "&") (texts f)
-    then child_location 0 (λ l. cell_then properties s Unnamed l (λ c. lend c (asking (appended (Shared c) a) (λ o. given o fresh))))
+    then child_location 0 (λ l. item_cell properties s l (λ c. asking (appended (Shared c) a) (λ o. given o fresh)))
     else Run (Kid 0 Read) (kept_then (λ w. asking (appended (Own w) a) (λ o. given o fresh)))))
 
 abbrev pub fresh_then : (Value → Script) → Out → Script

@@ -9,7 +9,11 @@ use Rattle.php_meaning.specs.values.Value.{Value, Null, Truth, Int, Text}
 use Rattle.php_meaning.specs.Cause.{Declaration, Error}
 use Rattle.php_meaning.specs.Differences.{Differs, UndefinedConstant}
 use Rattle.php_meaning.specs.Differences as difference
+use Rattle.php_tree.specs.declared.kind.NodeKind.{NodeKind}
+use Rattle.php_tree.specs.declared.kind.NodeKind.TheVariants as kind
+use Rattle.scope_names.specs.Form.{texts}
 use Rattle.php_meaning.specs.literals.Literals.{found}
+use Rattle.php_meaning.specs.names.Tables.{Tables}
 use Rattle.php_meaning.specs.runs.World.{Bytes, Store}
 use Rattle.scope_names.specs.Sites.{Site, candidates, in_space, alias_of}
 use Rattle.scope_names.specs.Imports.{OfConstant}
@@ -67,13 +71,35 @@ has_lower_case (b ∷ bs) = (nat_le 97 b && nat_le b 122) || has_lower_case bs
 abbrev pub bare_word : Bytes → Script
 bare_word name = asking (Differs UndefinedConstant true false) (λ b. cond b (give (Text name)) (throws Error))
 
+-- the full names that the words of a `const` statement at a site define, as they are kept
+abbrev pub names_by_const : Site → List Bytes → List Bytes
+names_by_const s [] = []
+names_by_const s (w ∷ ws) =
+    if is_end w || bytes_eq w (codes "=") || is_keyword (codes "const") w then names_by_const s ws
+    else constant_key (in_space s.space w) ∷ names_by_const s ws
+
+abbrev pub names_by_define : List Bytes → List Bytes
+names_by_define [] = []
+names_by_define (w ∷ ws) = constant_key w ∷ names_by_define ws
+
+abbrev pub names_defined : NodeKind → Site → List Bytes → List Bytes
+names_defined kind.Const s ws = names_by_const s ws
+names_defined kind.Call s ws = names_by_define ws
+names_defined k s ws = []
+
+-- whether the program defines a constant somewhere, reached or not
+abbrev pub is_defined_somewhere : Tables → Bytes → Bool
+is_defined_somewhere [] key = false
+is_defined_somewhere (d ∷ ds) key = is_listed (names_defined d.kind d.site (texts d.form)) key || is_defined_somewhere ds key
+
 -- A constant that is nowhere defined: where it is a bare name with a lower-case letter, outside of namespaces and not
--- imported, it is its own text in 7.4, and 8.3 throws. Any other one is outside, and so is one that PHP has.
-abbrev pub undefined : Site → List Bytes → Bytes → Script
-undefined s names name =
+-- imported, it is its own text in 7.4, and 8.3 throws. Any other one is outside, and so is one that PHP has, or that the program
+-- defines, but not yet.
+abbrev pub undefined : Tables → Site → List Bytes → Bytes → Script
+undefined t s names name =
     if has_lower_case name && bytes_eq s.space [] && is_listed names name
-    && is_none (alias_of s.imports OfConstant name) && not (is_php_constant name) then bare_word name
-    else Stop Declaration
+    && is_none (alias_of s.imports OfConstant name) && not (is_php_constant name) && not (is_defined_somewhere t (constant_key name))
+    then bare_word name else Stop Declaration
 
 -- the constant from the start that one of these names is
 abbrev pub from_start : List Bytes → Option Value
@@ -81,10 +107,10 @@ from_start [] = None
 from_start (n ∷ ns) = elim (known_constant n) [ Some v ↦ Some v | None ↦ from_start ns ]
 
 -- a constant that isn't known from its place or as a word of the language
-abbrev pub constant_value : Site → Bytes → Script
-constant_value s name = Look (λ st. elim (defined st (candidates s OfConstant name)) [
+abbrev pub constant_value : Tables → Site → Bytes → Script
+constant_value t s name = Look (λ st. elim (defined st (candidates s OfConstant name)) [
   | Some v ↦ give v
-  | None ↦ (elim (from_start (candidates s OfConstant name)) [ Some v ↦ give v | None ↦ undefined s (candidates s OfConstant name) name ])
+  | None ↦ (elim (from_start (candidates s OfConstant name)) [ Some v ↦ give v | None ↦ undefined t s (candidates s OfConstant name) name ])
 ])
 
 -- ---- definitions

@@ -1,6 +1,6 @@
 -- The path of an included file, taken from the folder of the file that includes it. (PHP manual, "include"; that a path without
 -- a folder is looked for there alone is this project's own.)
-use Rattle.std.specs.Prelude.{◌||◌, nat_eq, if◌then◌else◌, List, [], ◌∷◌, ◌++◌, reverse, codes, Option, Some, None}
+use Rattle.std.specs.Prelude.{Bool, false, ◌||◌, nat_eq, if◌then◌else◌, List, [], ◌∷◌, ◌++◌, reverse, codes, Option, Some, None}
 use Rattle.std.specs.Str.{bytes_eq}
 use Rattle.php_meaning.specs.runs.World.{Bytes}
 
@@ -27,8 +27,15 @@ abbrev pub folder_of : List Bytes → List Bytes
 folder_of [] = []
 folder_of (p ∷ ps) = ps
 
+-- whether a path begins at the root, which leads out of the program's folder
+abbrev pub is_rooted : Bytes → Bool
+is_rooted [] = false
+is_rooted (b ∷ bs) = nat_eq b 47
+
 abbrev pub path_from : Bytes → Bytes → Option Bytes
-path_from file path = elim (led_to (folder_of (reverse (parts_of [] file))) (parts_of [] path)) [
-  | None ↦ None
-  | Some ps ↦ Some (joined (reverse ps))
-]
+path_from file path =
+    if is_rooted path then None
+    else (elim (led_to (folder_of (reverse (parts_of [] file))) (parts_of [] path)) [
+      | None ↦ None
+      | Some ps ↦ Some (joined (reverse ps))
+    ])

@@ -21,14 +21,12 @@ pub data Typing : Type 0 where
   Untyped : Typing
   Typed : Declared → Typing
 
--- where a location begins: in the variable with this name, in a cell, in the property with this name of a value, in the
--- static property of a class that has a type, by its declaration, and no value of its own yet, or with a value that was
--- evaluated, which is written by nothing
+-- where a location begins: in the variable with this name, in the property with this name of a value, in the static property
+-- with this name of the class that declares it, or with a value that was evaluated, which is written by nothing
 pub data Root : Type 0 where
   InVariable : Bytes → Root
-  InCell : Cell → Typing → Root
   InProperty : Value → Bytes → Root
-  InStatic : Bytes → Bytes → Declared → Root
+  InStatic : Bytes → Bytes → Typing → Root
   InValue : Value → Root
 
 -- What can be written: where it begins, and the offsets from there on, each at a value or without a key.

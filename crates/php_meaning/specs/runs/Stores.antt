@@ -86,6 +86,16 @@ static_property_cell (c ∷ cs) class name = static_property_cell cs class name
 abbrev pub with_static : Bytes → Bytes → Cell → Store → Store
 with_static class name c s = record s { statics = (StaticProperty name, Some class, c) ∷ s.statics }
 
+-- the store without the cell of a static property
+abbrev pub without_static_cell : List (Slot × Option Bytes × Cell) → Bytes → Bytes → List (Slot × Option Bytes × Cell)
+without_static_cell [] class name = []
+without_static_cell ((StaticProperty n, Some c, cell) ∷ cs) class name =
+    if bytes_eq n name && same_name c class then cs else (StaticProperty n, Some c, cell) ∷ without_static_cell cs class name
+without_static_cell (c ∷ cs) class name = c ∷ without_static_cell cs class name
+
+abbrev pub without_static : Bytes → Bytes → Store → Store
+without_static class name s = record s { statics = without_static_cell s.statics class name }
+
 -- ---- objects and their properties
 
 abbrev pub same_owner : Option Bytes → Option Bytes → Bool

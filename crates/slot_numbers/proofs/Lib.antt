@@ -1,0 +1,4 @@
+pub mod GrowLemmas
+pub mod KeyLemmas
+pub mod NumberLemmas
+pub mod SeenLemmas
